@@ -1,0 +1,55 @@
+-- `token::identifier_length` meets its contract: a law for each way out (Steps: `identifier-empty`, `identifier-run`, `identifier-none`).
+use mathlib.Core.Path.{sym, _∙_}
+use native.Mathlib.Omega.{arith}
+use borrow.Author.Needs.{needs}
+use Rattle.lexing.specs.Bytes.{identifierChar}
+use Rattle.lexing.proofs.Steps.{run-after-one, identifier-empty, identifier-run, identifier-none}
+use Rattle.lexing.proofs.token.identifier_length.Statement.{statement}
+use Rattle.lexing.proofs.token.identifier_length.Tie as tie
+
+returns : tie.Need-returns
+returns c = identifier-empty _ (c .if1 .taken)
+
+shared-slice-read-can-start-identifier-char : tie.Need-shared-slice-read-can-start-identifier-char
+shared-slice-read-can-start-identifier-char c = search needs
+
+can-start-identifier-char-requires : tie.Need-can-start-identifier-char-requires
+can-start-identifier-char-requires c κs = search needs
+
+sub-run-length : tie.Need-sub-run-length
+sub-run-length c = search needs
+
+part-run-length-start : tie.Need-part-run-length-start
+part-run-length-start c = search needs
+
+part-run-length-end : tie.Need-part-run-length-end
+part-run-length-end c = search needs
+
+run-length-requires : tie.Need-run-length-requires
+run-length-requires c κs = search needs
+
+add-result : tie.Need-add-result
+add-result c =
+    let s = c .before .before .before .before .before .before .before .args .text .now in
+    omega (arith, run-after-one identifierChar s (search needs) (c .run-length .ensures))
+
+returns-2 : tie.Need-returns-2
+returns-2 c = identifier-run _ (search needs) (sym (c .before .before .before .can-start-identifier-char .ensures) ∙ c .before .before .if2 .taken) _ (c .run-length .ensures)
+
+returns-3 : tie.Need-returns-3
+returns-3 c = identifier-none _ (search needs) (sym (c .before .can-start-identifier-char .ensures) ∙ c .if2 .left)
+
+pub identifier-length-spec : {M : Type 1} → statement M
+identifier-length-spec =
+    tie.close
+    (tie.spec
+    returns
+    shared-slice-read-can-start-identifier-char
+    can-start-identifier-char-requires
+    sub-run-length
+    part-run-length-start
+    part-run-length-end
+    run-length-requires
+    add-result
+    returns-2
+    returns-3)

@@ -1,0 +1,54 @@
+-- `token::natural` meets its contract, by those of `run_length`, `decimal` and `lexeme` (Steps: `natural-none`, `natural-value`, `natural-large`).
+use mathlib.Core.Path.{sym, _∙_}
+use native.Mathlib.Omega.{arith}
+use lib.Seq.{length-take-le}
+use borrow.Author.Needs.{needs}
+use Rattle.lexing.specs.Laws.{run-inside}
+use Rattle.lexing.specs.Bytes.{isDigit}
+use Rattle.lexing.proofs.Steps.{natural-none, natural-value, natural-large}
+use Rattle.lexing.proofs.token.natural.Statement.{statement}
+use Rattle.lexing.proofs.token.natural.Tie as tie
+
+run-length-requires : tie.Need-run-length-requires
+run-length-requires c κs = search needs
+
+returns : tie.Need-returns
+returns c = natural-none _ (c .before .run-length .ensures) (c .if1 .taken)
+
+slice-aggregate-decimal : tie.Need-slice-aggregate-decimal
+slice-aggregate-decimal c = sym (length-take-le _ _ (omega (arith, run-inside isDigit (c .before .before .before .before .args .text .now))))
+
+decimal-requires : tie.Need-decimal-requires
+decimal-requires c κs = search needs
+
+enum-known-value : tie.Need-enum-known-value
+enum-known-value c = search needs
+
+lexeme-requires : tie.Need-lexeme-requires
+lexeme-requires c κs = search needs
+
+enum-told : tie.Need-enum-told
+enum-told c = search needs
+
+returns-2 : tie.Need-returns-2
+returns-2 c =
+    let d = c .before .before .before .before .before .before .before .run-length .ensures in
+    let z = c .before .before .before .before .before .before .if1 .left in
+    c .lexeme .ensures ∙ natural-value _ d z (c .before .before .before .before .decimal .ensures) (c .before .before .value .given .1)
+
+returns-3 : tie.Need-returns-3
+returns-3 c = natural-large _ (c .before .before .before .before .before .run-length .ensures) (c .before .before .before .before .if1 .left) (c .before .before .decimal .ensures) (c .enum-told .given .1)
+
+pub natural-spec : {M : Type 1} → statement M
+natural-spec =
+    tie.close
+    (tie.spec
+    run-length-requires
+    returns
+    slice-aggregate-decimal
+    decimal-requires
+    enum-known-value
+    lexeme-requires
+    enum-told
+    returns-2
+    returns-3)

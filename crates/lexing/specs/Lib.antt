@@ -1,0 +1,11 @@
+-- Blanks and words of B3: document 01, "Names, blanks, strengths" and "Choice and repetition"; the first part of Parser.dfy.
+pub mod Answer
+pub mod Bytes
+pub mod Blanks
+pub mod Tokens
+pub mod Code
+pub mod Examples
+pub mod Laws
+pub mod TokenLaws
+pub mod Upstream
+pub mod Claims
