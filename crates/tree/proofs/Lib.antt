@@ -1,0 +1,4 @@
+mod Digits
+mod Numbers
+mod Steps
+mod Stack

@@ -1,0 +1,49 @@
+-- The check of a table: its words, read from the first on, against a list of expected kinds. Refusals 6 and 7 of document 01.
+use Prim.Native.Nat.{ℕ, suc, _+_, _-_, _≤_}
+use mathlib.Core.Bool.{Bool}
+use mathlib.Core.Option.{Option, none, some}
+use mathlib.Core.List.{List, [], _∷_, _++_}
+use lib.ListN.{length}
+use lib.Dec.{leb}
+use Rattle.tree.specs.Ast.{Span}
+use Rattle.tree.specs.Kind.{choose, Kind, expr, programFields, fits, misfit, turn}
+use Rattle.tree.specs.declared.Checked.{Checked}
+use Rattle.tree.specs.declared.Checked.the-variants.{Tree, Misfit, TooLong}
+
+-- The words from the place `at` on, where these kinds are expected: each word takes the first kind away and puts the kinds of its fields in
+-- its stead. Where words are missing the place is their count, since `at` is it there; surplus words misfit at the first of them.
+unfoldable pub run : (ℕ → ℕ → Bool) → List Kind → ℕ → List ℕ → Checked
+run inside [] at [] = Tree
+run inside (k ∷ ks) at [] = Misfit at
+run inside [] at (w ∷ ws) = Misfit at
+run inside (k ∷ ks) at (w ∷ ws) =
+    elim (turn inside k w) [ fits fs ↦ run inside (fs ++ ks) (suc at) ws | misfit back ↦ Misfit (at - back) ]
+
+-- whether a name lies inside a text of that length
+abbrev pub within : ℕ → ℕ → ℕ → Bool
+within len s l = leb (s + l) len
+
+-- a name that lies inside a text of that length
+pub record NameIn (len : ℕ) : Type 0 where
+  pub span : Span
+  pub inside : span .start + span .len ≤ len
+
+abbrev pub check : List Kind → List ℕ → ℕ → Checked
+check ks words len = choose (leb (length words) 16384) (run (within len) ks 0 words) TooLong
+
+-- the table of an expression, and of a program, over a text of that length
+unfoldable pub checkExpression : List ℕ → ℕ → Checked
+checkExpression words len = check (expr ∷ []) words len
+
+unfoldable pub checkProgram : List ℕ → ℕ → Checked
+checkProgram words len = check programFields words len
+
+-- document 01's refusal number and place, of a check that refuses
+pub record Refusal : Type 0 where
+  pub number : ℕ
+  pub place : ℕ
+
+abbrev pub refusal : Checked → Option Refusal
+refusal Tree = none
+refusal (Misfit at) = some (record { number = 7; place = at })
+refusal TooLong = some (record { number = 6; place = 0 })

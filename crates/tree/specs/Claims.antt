@@ -1,0 +1,68 @@
+-- What is proved of tree words, beside the contracts of the functions in src/. A tree over a text of length len is one whose names are of
+-- type `NameIn len`: spans that lie inside the text. `λ n. n .span` gives their spans, and `λ s. s` is used for trees over spans.
+use Prim.Native.Nat.{ℕ, _+_, _≤_, _<_}
+use mathlib.Core.Path.{_≡_}
+use mathlib.Core.Logic.{_↔_}
+use mathlib.Core.List.{List, [], _++_}
+use lib.ListN.{length, getD, drop}
+use Rattle.tree.specs.Ast.{Span, Expr, Program}
+use Rattle.tree.specs.Resolve.{mapExpr, mapProgram}
+use Rattle.tree.specs.Words.{exprWords, programWords}
+use Rattle.tree.specs.Kind.{Kind}
+use Rattle.tree.specs.Check.{NameIn, checkExpression, checkProgram}
+use Rattle.tree.specs.Trees.{spans, Tree as TreeOf, words as wordsOf}
+use Rattle.tree.specs.Forms.{form}
+use Rattle.tree.specs.Opened.{Opened}
+use Rattle.tree.specs.Tables
+use Rattle.tree.specs.MapWords
+use Rattle.tree.specs.WordCount
+use Rattle.tree.specs.Walk
+use Rattle.tree.specs.declared.Checked.the-variants.{Tree, Misfit}
+
+-- Accepted if and only if there are at most 16,384 words and they are those of a tree whose names lie inside the text.
+pub expression-accepted : (words : List ℕ) (len : ℕ)
+    → (checkExpression words len ≡ Tree) ↔ ((length words ≤ 16384) × ((t : Expr (NameIn len)) × (exprWords (λ n. n .span) t [] ≡ words)))
+expression-accepted = Tables.expression-accepted
+
+pub program-accepted : (words : List ℕ) (len : ℕ)
+    → (checkProgram words len ≡ Tree) ↔ ((length words ≤ 16384) × ((p : Program (NameIn len)) × (programWords (λ n. n .span) p [] ≡ words)))
+program-accepted = Tables.program-accepted
+
+-- The words determine the tree, and what follows it.
+pub expression-unique : (t t′ : Expr Span) (rest rest′ : List ℕ) → exprWords (λ s. s) t rest ≡ exprWords (λ s. s) t′ rest′ → (t ≡ t′) × (rest ≡ rest′)
+expression-unique = Tables.expression-unique
+
+pub program-unique : (p p′ : Program Span) (rest rest′ : List ℕ) → programWords (λ s. s) p rest ≡ programWords (λ s. s) p′ rest′ → (p ≡ p′) × (rest ≡ rest′)
+program-unique = Tables.program-unique
+
+-- A tree over names inside the text has the words of the same tree over spans, so accepted words are a tree's over spans.
+pub expression-spans : (len : ℕ) (t : Expr (NameIn len)) → exprWords (λ n. n .span) t ≡ exprWords (λ s. s) (mapExpr (λ n. n .span) t)
+expression-spans len t = MapWords.expr-map (λ s. s) (λ n. n .span) t
+
+pub program-spans : (len : ℕ) (p : Program (NameIn len)) → programWords (λ n. n .span) p ≡ programWords (λ s. s) (mapProgram (λ n. n .span) p)
+program-spans len p = MapWords.program-map (λ s. s) (λ n. n .span) p
+
+pub expression-tree : (words : List ℕ) (len : ℕ) → checkExpression words len ≡ Tree → (t : Expr Span) × (exprWords (λ s. s) t [] ≡ words)
+expression-tree = Tables.expression-tree
+
+pub program-tree : (words : List ℕ) (len : ℕ) → checkProgram words len ≡ Tree → (p : Program Span) × (programWords (λ s. s) p [] ≡ words)
+program-tree = Tables.program-tree
+
+-- How many words an expression has depends neither on its names nor on their spans.
+pub expression-count : {N M : Type 0} (f : N → M) (g : M → Span) (h : N → Span) (t : Expr N) → length (exprWords g (mapExpr f t) []) ≡ length (exprWords h t [])
+expression-count = WordCount.map-count
+
+-- A misfit's place is at most the word count.
+pub expression-place : (words : List ℕ) (len p : ℕ) → checkExpression words len ≡ Misfit p → (p ≤ length words) × (length words ≤ 16384)
+expression-place = Tables.expression-place
+
+pub program-place : (words : List ℕ) (len p : ℕ) → checkProgram words len ≡ Misfit p → (p ≤ length words) × (length words ≤ 16384)
+program-place = Tables.program-place
+
+-- A walk over a table goes from a tree's first word to its fields' words, for every kind and constructor.
+pub walk : (table : List ℕ) (at : ℕ) (k : Kind) (t : TreeOf spans k) (rest : List ℕ) → drop at table ≡ wordsOf spans k t rest
+    → (at < length table) × Opened spans (form spans k (getD table at 0)) t rest (drop (at + 1) table)
+walk = Walk.tree-at spans
+
+pub append : (k : Kind) (t : TreeOf spans k) (rest : List ℕ) → wordsOf spans k t rest ≡ wordsOf spans k t [] ++ rest
+append = Walk.words-append spans

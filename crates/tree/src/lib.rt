@@ -1,0 +1,88 @@
+// The tree words of B3 (document 01, "The tree words"): the check that a table's words are one tree over a text, and the small
+// functions by which checked words are read.
+mod rows;
+mod walk;
+
+use rows::EXPR;
+use rows::PROGRAM;
+use walk::walk;
+ghost use mathlib.Core.Path.{_≡_};
+ghost use Prim.Native.Nat.{_+_, _*_, _^_};
+ghost use lib.ListN.{getD};
+ghost use Rattle.tree.specs.Resolve.{part};
+ghost use Rattle.tree.specs.Check.{check as checkOf, checkExpression, checkProgram};
+ghost use Rattle.tree.specs.Rows.{kindsOf};
+
+// What the check of a table finds.
+pub enum Checked {
+    // The words are one tree.
+    Tree,
+    // The words aren't one tree; the place is that of refusal 7.
+    Misfit(usize),
+    // There are more than 16,384 words.
+    TooLong,
+}
+
+// Whether the words are one expression over a text of that length.
+pub fn check_expression(words: &[u32], text_len: usize) -> Checked
+    ensures { λ r. ⌜ r ≡ checkExpression (now (words .entry)) «text_len» ⌝ }
+{
+    check(words, text_len, EXPR)
+}
+
+// Whether the words are one program over a text of that length.
+pub fn check_program(words: &[u32], text_len: usize) -> Checked
+    ensures { λ r. ⌜ r ≡ checkProgram (now (words .entry)) «text_len» ⌝ }
+{
+    check(words, text_len, PROGRAM)
+}
+
+// A small table takes a small stack.
+fn check(words: &[u32], text_len: usize, first: u32) -> Checked
+    ensures { λ r. ⌜ r ≡ checkOf (kindsOf first) (now (words .entry)) «text_len» ⌝ }
+{
+    if words.len() < 256 {
+        let mut stack = [0u32; 256];
+        return walk(words, text_len, first, &mut stack);
+    }
+    if words.len() <= 16384 {
+        let mut stack = [0u32; 16385];
+        return walk(words, text_len, first, &mut stack);
+    }
+    Checked::TooLong
+}
+
+// The word at a place; 0 past the end.
+pub fn get(words: &[u32], at: usize) -> u32
+    ensures { λ r. ⌜ r ≡ getD (now (words .entry)) at 0 ⌝ }
+{
+    if at < words.len() { words[at] } else { 0 }
+}
+
+// The natural whose high word stands at a place; a word past the end is 0.
+pub fn natural(words: &[u32], at: usize) -> u64
+    ensures { λ r. ⌜ r ≡ getD (now (words .entry)) at 0 * 2 ^ 32 + getD (now (words .entry)) (at + 1) 0 ⌝ }
+{
+    if words.len() <= at {
+        return 0;
+    }
+    let high = get(words, at) as u64;
+    let low = get(words, at + 1) as u64;
+    high * 4294967296 + low
+}
+
+// The part of the text that a name occupies. A name that lies inside the text is `&text[start..start + len]`; of another, what of it
+// is in the text.
+pub fn name(text: &[u8], start: u32, len: u32) -> &[u8]
+    ensures { λ r. ⌜ now r ≡ part (now (text .entry)) start len ⌝ }
+{
+    let s = start as usize;
+    let n = len as usize;
+    if text.len() < s {
+        return &text[..0];
+    }
+    if text.len() - s < n {
+        return &text[s..];
+    }
+    &text[s..s + n]
+}
