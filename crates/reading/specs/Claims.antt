@@ -50,5 +50,4 @@ derived-tree-is-operators d text t = derived-operators d (cut text) t
 
 -- The words counted for a tree with names as bytes are those of the tree with names as spans that it comes from.
 pub words-counted : (text : List ℕ) (t : Expr Span) → wordCount (resolveExpr text t) ≡ length (exprWords (λ s. s) t [])
-unfolding wordCount
 words-counted text t = expression-count (bytes text) _ _ t

@@ -113,7 +113,7 @@ smallNaturals (sign g ∷ ts) = smallNaturals ts
 smallNaturals (illegal ∷ ts) = smallNaturals ts
 
 -- how many words a tree has: two for each name, whatever its span
-unfoldable pub wordCount : Tree → ℕ
+abbrev pub wordCount : Tree → ℕ
 wordCount t = length (exprWords (λ w. record { start = 0; len = 0 }) t [])
 
 -- The text has a derivation with the tree t that keeps the limits: text length, depth, naturals, and the tree's words against a table of so

@@ -86,7 +86,7 @@ unfolding tokenAt nameAt naturalAt identifierLength
 digit-token a s e d = rw (e, run-on isDigit a s d) refl
 
 -- a longer word stands nowhere that a shorter one does not
-shorter : (a : ℕ) (v s : List ℕ) → startsWith (a ∷ []) s ≡ false → startsWith (a ∷ v) s ≡ false
+pub shorter : (a : ℕ) (v s : List ℕ) → startsWith (a ∷ []) s ≡ false → startsWith (a ∷ v) s ≡ false
 unfolding startsWith
 shorter a v [] e = refl
 shorter a v (b ∷ s) e = go (eqb a b) e
