@@ -13,5 +13,4 @@ pub mod WordOperand
 pub mod Operand
 pub mod Whole
 pub mod Entry
-pub mod Count
 pub mod Limits

@@ -3,20 +3,23 @@
 use Prim.Native.Nat.{ℕ, _+_, _≤_, _<_}
 use mathlib.Core.Path.{_≡_}
 use mathlib.Core.Logic.{_↔_}
+use mathlib.Core.Option.{none, some}
 use mathlib.Core.List.{List, [], _++_}
 use lib.ListN.{length, getD, drop}
 use Rattle.tree.specs.Ast.{Span, Expr, Program}
 use Rattle.tree.specs.Resolve.{mapExpr, mapProgram}
 use Rattle.tree.specs.Words.{exprWords, programWords}
 use Rattle.tree.specs.Kind.{Kind}
-use Rattle.tree.specs.Check.{NameIn, checkExpression, checkProgram}
+use Rattle.tree.specs.Check.{NameIn, check, checkExpression, checkProgram, refusal}
 use Rattle.tree.specs.Trees.{spans, Tree as TreeOf, words as wordsOf}
 use Rattle.tree.specs.Forms.{form}
 use Rattle.tree.specs.Opened.{Opened}
 use Rattle.tree.specs.Tables
+use Rattle.tree.specs.Refused
 use Rattle.tree.specs.MapWords
 use Rattle.tree.specs.WordCount
 use Rattle.tree.specs.Walk
+use Rattle.tree.specs.declared.Checked.{Checked}
 use Rattle.tree.specs.declared.Checked.the-variants.{Tree, Misfit}
 
 -- Accepted if and only if there are at most 16,384 words and they are those of a tree whose names lie inside the text.
@@ -51,6 +54,16 @@ program-tree = Tables.program-tree
 -- How many words an expression has depends neither on its names nor on their spans.
 pub expression-count : {N M : Type 0} (f : N → M) (g : M → Span) (h : N → Span) (t : Expr N) → length (exprWords g (mapExpr f t) []) ≡ length (exprWords h t [])
 expression-count = WordCount.map-count
+
+-- The answers in document 01's numbers: no refusal, refusal 7 at a misfit's place, refusal 6 exactly where there are more than 16,384 words.
+pub accepted-is-unrefused : (c : Checked) → (refusal c ≡ none) ↔ (c ≡ Tree)
+accepted-is-unrefused = Refused.no-refusal
+
+pub misfit-is-7 : (c : Checked) (place : ℕ) → (refusal c ≡ some (record { number = 7; place = place })) ↔ (c ≡ Misfit place)
+misfit-is-7 = Refused.refusal-7
+
+pub too-many-is-6 : (ks : List Kind) (words : List ℕ) (len : ℕ) → (refusal (check ks words len) ≡ some (record { number = 6; place = 0 })) ↔ (16384 < length words)
+too-many-is-6 = Refused.refusal-6
 
 -- A misfit's place is at most the word count.
 pub expression-place : (words : List ℕ) (len p : ℕ) → checkExpression words len ≡ Misfit p → (p ≤ length words) × (length words ≤ 16384)

@@ -6,6 +6,7 @@ pub mod Words
 pub mod Kind
 pub mod Check
 -- what is proved, and examples
+pub mod Refused
 pub mod Claims
 mod Examples
 -- the code's numbers for kinds

@@ -9,7 +9,6 @@ use lib.Dec.{leb}
 use borrow.Author.Tests.{leb-true, le-leb}
 use Rattle.lexing.specs.Answer.{ok, refused, pick}
 use Rattle.tree.specs.Ast.{Span, Expr}
-use Rattle.tree.specs.Resolve as resolved
 use Rattle.tree.specs.Resolve.{resolveExpr}
 use Rattle.reading.specs.Grammar.{Tree}
 use Rattle.reading.specs.OperatorTrees.{OperatorTree, DerivesWithin, wordCount, mostBytes, mostWords, mostDepth}
@@ -20,7 +19,7 @@ use Rattle.reading.specs.Laws.Steps.{impossible}
 use Rattle.reading.specs.Laws.Looks.{both-true}
 use Rattle.reading.specs.Laws.Limited.{parse-limited}
 use Rattle.reading.specs.Laws.Every.{derived-operators}
-use Rattle.reading.specs.Bridge.Count.{same-count}
+use Rattle.reading.specs.Claims.{words-counted}
 use Rattle.reading.specs.Bridge.Entry.{text-agrees, agrees-ok, agrees-some}
 
 module _ (text : List ℕ) (n : ℕ) where
@@ -54,7 +53,7 @@ module _ (text : List ℕ) (n : ℕ) where
   stored-fits ws h i = rw (le-leb (length ws) n h, le-leb (length ws) mostWords i) refl
 
   count : (e : Expr Span) → length (treeWords e []) ≡ wordCount (resolveExpr text e)
-  count e = same-count (resolved.bytes text) (λ s. s) (λ w. record { start = 0; len = 0 }) e
+  count e = sym (words-counted text e)
 
   stored-read : {e : Expr Span} {next : ℕ} → readTree text ≡ ok e next → readExpression text n ≡ stored n (treeWords e [])
   unfolding readExpression
