@@ -14,3 +14,4 @@ pub mod Operand
 pub mod Whole
 pub mod Entry
 pub mod Limits
+pub mod Answered

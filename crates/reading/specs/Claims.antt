@@ -1,53 +1,40 @@
--- What is proved of the operator grammar (document 01, "The operator grammar"), from the definitions in Words, Tokens, Grammar and Parser.
-use Prim.Native.Nat.{ℕ, _≤_, _<_}
-use lib.ListN.{length}
+-- Demand 3, second claim: the reader and the operator grammar.
+use Prim.Native.Nat.{ℕ}
 use mathlib.Core.Path.{_≡_}
 use mathlib.Core.Logic.{_↔_}
-use mathlib.Core.Bool.{true}
-use mathlib.Core.List.{List, []}
-use mathlib.Core.Option.{none, some}
+use mathlib.Core.List.{List}
+use Rattle.lexing.specs.Answer.{ok}
 use Rattle.tree.specs.Ast.{Span, Expr}
-use Rattle.tree.specs.Resolve.{bytes, resolveExpr}
-use Rattle.tree.specs.Words.{exprWords}
-use Rattle.tree.specs.Claims.{expression-count}
-use Rattle.reading.specs.Tokens.{Token, cut}
-use Rattle.reading.specs.Grammar.{Tree, Whole, Derives}
-use Rattle.reading.specs.OperatorTrees.{OperatorTree, smallNaturals, wordCount}
-use Rattle.reading.specs.Parser.{parse, whole, parseExpr}
-use Rattle.reading.specs.Laws.Exact.{parse-sound, parse-complete, no-parse, deeper, unambiguous}
-use Rattle.reading.specs.Laws.Every.{allLegal, legal, derived-operators}
-use Rattle.reading.specs.Laws.Limited.{limited, parse-limited}
+use Rattle.tree.specs.Resolve.{resolveExpr}
+use Rattle.grammar.specs.Grammar.{Tree}
+use Rattle.grammar.specs.OperatorTrees.{OperatorTree, DerivesWithin}
+use Rattle.reading.specs.Reading.{words, readTree, readExpression}
+use Rattle.reading.specs.TreeRead.{GivesTree, Answered, Leaves}
+use Rattle.reading.specs.declared.entry.Reading.{Reading}
+use Rattle.reading.specs.Bridge.Answered.{leaves-derives, derives-leaves}
+use Rattle.reading.specs.Bridge.Limits.{read-derives, gives-derives, derives-gives, derives-operators, gives-same}
 
--- Demand 3, first claim: whatever the text, any two derivations of it have the same tree. No limit is meant, and the depths may differ.
-pub derivations-agree : (text : List ℕ) (d d′ : ℕ) (t t′ : Tree) → Derives d text t → Derives d′ text t′ → t ≡ t′
-derivations-agree text d d′ t t′ = unambiguous (cut text) d d′
+-- Whatever the text and the table of n words: `read_expression`, which answers r and leaves the table so (`Answered` is its contract), gives an
+-- operator tree exactly when the text has a derivation that keeps the limits (text length, depth, naturals, words against the table and
+-- 16,384), and it is the derivation's tree.
+pub read-expression-exact : (text : List ℕ) (n : ℕ) (r : Reading) (table : List ℕ) (t : Tree) → Answered text n r table
+    → (Leaves text n t r table × OperatorTree t) ↔ DerivesWithin n text t
+read-expression-exact text n r table t a =
+    (λ l. leaves-derives text n a (l .0) (l .1), λ d. (derives-leaves text n r a d, derives-operators d))
 
--- The token parser gives a tree exactly when there is a derivation of at most its depth with that tree ..
-pub parser-exact : (d : ℕ) (ts : List Token) (t : Tree) → (parse d ts ≡ some t) ↔ Whole d ts t
-parser-exact d ts t = (parse-sound d ts, parse-complete d ts)
+-- The same of the definition, `readExpression`.
+pub reader-exact : (text : List ℕ) (n : ℕ) (t : Tree) → (GivesTree text n t × OperatorTree t) ↔ DerivesWithin n text t
+reader-exact text n t = (λ r. gives-derives text n (r .0) (r .1), λ d. (derives-gives text n d, derives-operators d))
 
--- .. and none exactly when there is no derivation of at most its depth.
-pub parser-refuses : (d : ℕ) (ts : List Token) → (parse d ts ≡ none) ↔ ((t : Tree) → Whole d ts t → ⊥)
-parser-refuses d ts = no-parse d ts
+-- The tree of a derivation that keeps the limits is what is read: the form that the read-back of prints cites.
+pub derivation-is-read : (text : List ℕ) (n : ℕ) (t : Tree) → DerivesWithin n text t → GivesTree text n t
+derivation-is-read text n t = derives-gives text n
 
--- For a reader with the limit on naturals: on a text's tokens, a natural past the limit counted as illegal, the parser with more turns than
--- the text has bytes gives exactly the trees of the derivations whose naturals keep the limit.
-pub parser-limited : (m d : ℕ) (text : List ℕ) (t : Tree) → length text < m
-    → (whole (parseExpr m d (limited (cut text))) ≡ some t) ↔ (Derives d text t × (smallNaturals (cut text) ≡ true))
-parser-limited = parse-limited
+-- An operator tree that is stored has a derivation that keeps the limits.
+pub reading-is-derived : (text : List ℕ) (n k : ℕ) (ws : List ℕ) (e : Expr Span) (next : ℕ) → readExpression text n ≡ words k ws → readTree text ≡ ok e next
+    → OperatorTree (resolveExpr text e) → DerivesWithin n text (resolveExpr text e)
+reading-is-derived text n k ws e next = read-derives text n
 
--- A derivation of some depth is one of at most any greater depth.
-pub depth-grows : (d d′ : ℕ) (ts : List Token) (t : Tree) → d ≤ d′ → Whole d ts t → Whole d′ ts t
-depth-grows d d′ ts t h = deeper d d′ h ts t
-
--- Where bytes are left that can't be cut, there is no derivation.
-pub derived-text-is-cut : (d : ℕ) (text : List ℕ) (t : Tree) → Derives d text t → allLegal (cut text) ≡ true
-derived-text-is-cut d text t = legal d (cut text) t
-
--- A derivation's tree is an operator tree.
-pub derived-tree-is-operators : (d : ℕ) (text : List ℕ) (t : Tree) → Derives d text t → OperatorTree t
-derived-tree-is-operators d text t = derived-operators d (cut text) t
-
--- The words counted for a tree with names as bytes are those of the tree with names as spans that it comes from.
-pub words-counted : (text : List ℕ) (t : Expr Span) → wordCount (resolveExpr text t) ≡ length (exprWords (λ s. s) t [])
-words-counted text t = expression-count (bytes text) _ _ t
+-- A text that has a derivation within the limits is read as no other tree.
+pub no-other-tree : (text : List ℕ) (n : ℕ) (t u : Tree) → DerivesWithin n text t → GivesTree text n u → u ≡ t
+no-other-tree text n t u d g = gives-same text n g (derives-gives text n d)

@@ -8,7 +8,7 @@ use Rattle.lexing.specs.Answer.{Answer, ok, refused, pick}
 use Rattle.lexing.specs.Blanks.{Blanks, passed, unclosed, W}
 use Rattle.tree.specs.Ast.{Span, Expr}
 use Rattle.tree.specs.Words.{exprWords}
-use Rattle.reading.specs.OperatorTrees.{mostBytes, mostDepth, mostWords}
+use Rattle.grammar.specs.OperatorTrees.{mostBytes, mostDepth, mostWords}
 use Rattle.reading.specs.Steps.{after, need}
 use Rattle.reading.specs.Rules.{parseExpr}
 

@@ -6,8 +6,11 @@ use lib.ListN.{length, replicate}
 use Rattle.lexing.specs.Answer.{ok}
 use Rattle.tree.specs.Ast.{Span, Expr}
 use Rattle.tree.specs.Resolve.{resolveExpr}
-use Rattle.reading.specs.Grammar.{Tree}
+use Rattle.grammar.specs.Grammar.{Tree}
 use Rattle.reading.specs.Reading.{words, treeWords, readTree, readExpression}
+use Rattle.reading.specs.Code.{outcomeOf}
+use Rattle.reading.specs.declared.entry.Reading.{Reading}
+use Rattle.reading.specs.declared.entry.Reading.the-variants.{Words}
 
 -- Reading the text into a table of n words gives the tree t: the tree read from the whole text is t once its names are bytes, the answer is
 -- the number of its words, and the table holds them and zeros after them.
@@ -16,3 +19,15 @@ pub record GivesTree (text : List ℕ) (n : ℕ) (t : Tree) : Type 0 where
   pub read : readTree text ≡ ok tree (length text)
   pub named : resolveExpr text tree ≡ t
   pub answered : readExpression text n ≡ words (length (treeWords tree [])) (treeWords tree [] ++ replicate (n - length (treeWords tree [])) 0)
+
+-- What `read_expression` ensures of its answer r and of the table of n words after it.
+abbrev pub Answered : List ℕ → ℕ → Reading → List ℕ → Type 0
+Answered text n r table = outcomeOf r table ≡ readExpression text n
+
+-- The answer and the table are those of the tree t: some tree over the text's spans, t once its names are bytes, has so many words as the
+-- answer says, and the table holds them and zeros after them.
+pub record Leaves (text : List ℕ) (n : ℕ) (t : Tree) (r : Reading) (table : List ℕ) : Type 0 where
+  pub tree : Expr Span
+  pub named : resolveExpr text tree ≡ t
+  pub counted : r ≡ Words (length (treeWords tree []))
+  pub held : table ≡ treeWords tree [] ++ replicate (n - length (treeWords tree [])) 0

@@ -5,7 +5,7 @@ use Prim.Native.Nat.{ℕ}
 use Prim.Native.String.{String}
 use mathlib.Core.List.{List, [], _∷_}
 use Rattle.lexing.specs.Examples.{computed}
-use Rattle.reading.specs.Words.{bytes}
+use Rattle.grammar.specs.Words.{bytes}
 use Rattle.reading.specs.Steps.{after}
 use Rattle.reading.specs.Rules
 use Rattle.reading.specs.Reading.{Outcome, words, refusal, parseText, readTree, readExpression}

@@ -1,1 +1,12 @@
-// The operator grammar of B3; see specs/. There is no code yet.
+// Reading B3 expressions.
+mod arena;
+mod build;
+mod entry;
+mod flat;
+mod leaf;
+mod rules;
+mod sign;
+mod step;
+
+pub use entry::Reading;
+pub use entry::read_expression;

@@ -26,6 +26,25 @@ pub data Operator : Type 0 where
   LogicalNot : Operator
   UnaryMinus : Operator
 
+-- how many operands an operator has at full count
+abbrev pub ArgumentCount : Operator → ℕ
+ArgumentCount IfThenElse = 3
+ArgumentCount Equiv = 2
+ArgumentCount LogicalImp = 2
+ArgumentCount LogicalAnd = 2
+ArgumentCount LogicalOr = 2
+ArgumentCount Eq = 2
+ArgumentCount Neq = 2
+ArgumentCount Less = 2
+ArgumentCount AtMost = 2
+ArgumentCount Plus = 2
+ArgumentCount Minus = 2
+ArgumentCount Times = 2
+ArgumentCount Div = 2
+ArgumentCount Mod = 2
+ArgumentCount LogicalNot = 1
+ArgumentCount UnaryMinus = 1
+
 pub data ParameterMode : Type 0 where
   In InOut Out : ParameterMode
 

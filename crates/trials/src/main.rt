@@ -1,9 +1,12 @@
 // Runs the readers of `lexing` on the cases of its standard input, one to a line, and prints each case with its answer. A case is a letter
-// for the reader, the reader's words and the text up to the line's end, with a space before each; `lines.rt` has the escapes. A line that
-// begins otherwise is printed alone.
-mod lines;
+// for the reader, the reader's words and the text up to the line's end, with a space before each; `case_lines::decode` has the escapes. A
+// line that begins otherwise is printed alone.
 mod show;
 
+use case_lines::decode;
+use case_lines::print;
+use case_lines::tail;
+use case_lines::until;
 use lexing::blanks;
 use lexing::keyword;
 use lexing::natural;
@@ -11,10 +14,6 @@ use lexing::parse_custom_literal;
 use lexing::parse_id;
 use lexing::sym;
 use lexing::sym_not_prefix;
-use lines::decode;
-use lines::tail;
-use lines::until;
-use show::print;
 use show::print_lexed;
 use show::print_reach;
 

@@ -1,24 +1,19 @@
 // Prints answers.
+use case_lines::print;
+use case_lines::print_number;
+use case_lines::print_refusal;
 use lexing::Lexed;
 use lexing::Reach;
-
-pub(crate) fn print(text: &[u8]) {
-    io::write_all(1, text);
-}
-
-fn number(n: u64) {
-    io::print_decimal(1, n);
-}
 
 pub(crate) fn print_reach(r: Reach) {
     match r {
         Reach::Passed(n) => {
             print(b" => passed ");
-            number(n as u64);
+            print_number(n as u64);
         }
         Reach::Unclosed(n) => {
             print(b" => unclosed at ");
-            number(n as u64);
+            print_number(n as u64);
         }
     }
 }
@@ -27,16 +22,11 @@ pub(crate) fn print_lexed(r: Lexed) {
     match r {
         Lexed::Ok(value, next) => {
             print(b" => ok ");
-            number(value);
+            print_number(value);
             print(b" ");
-            number(next as u64);
+            print_number(next as u64);
         }
         Lexed::None => print(b" => none"),
-        Lexed::Refused(code, place) => {
-            print(b" => refused ");
-            number(code);
-            print(b" at ");
-            number(place as u64);
-        }
+        Lexed::Refused(code, place) => print_refusal(code, place),
     }
 }

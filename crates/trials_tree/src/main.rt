@@ -7,88 +7,27 @@
 //   6 COUNT         the check of an expression of so many labels, one in the other, over the empty text
 //   7 COUNT         the check of a program's table of so many zeros
 // The answer is a line for each case.
-use libc::STDOUT_FILENO;
+use case_lines::number;
+use case_lines::print;
+use case_lines::print_number;
+use case_lines::until;
 use tree::Checked;
-ghost use Prim.Native.Nat.{_<_, _≤_};
+ghost use Prim.Native.Nat.{_≤_};
 ghost use lib.ListN.{length};
-
-// A number of a line, and the place after it.
-struct Read {
-    value: u32,
-    next: usize,
-}
 
 fn main() {
     let mut input = io::large_buffer();
     let n = io::read_full(0, &mut input);
-    let text = &input[..n];
-    let mut at = 0;
-    while at < text.len() {
-        let end = line_end(text, at);
-        trial(&text[at..end]);
-        at = end;
-    }
+    cases(&input[..n]);
 }
 
-// The place after the line that stands at a place.
-fn line_end(text: &[u8], at: usize) -> usize
-    requires { ⌜ at < length (now text) ⌝ }
-    ensures { λ r. ⌜ (at < r) × (r ≤ length (now (text .entry))) ⌝ }
-{
-    let mut end = at;
-    while end < text.len() {
-        if text[end] == 10 {
-            return end + 1;
-        }
-        end += 1;
+fn cases(input: &[u8]) {
+    let mut at: usize = 0;
+    while at < input.len() {
+        let n = until(&input[at..], b'\n');
+        case(&input[at..at + n]);
+        at += n + 1;
     }
-    end
-}
-
-// The decimal digits at a place, and the byte after them; a number past 32 bits is cut.
-fn number(line: &[u8], at: usize) -> Read
-    requires { ⌜ at < length (now line) ⌝ }
-    ensures { λ r. ⌜ (at < r .next) × (r .next ≤ length (now (line .entry))) ⌝ }
-{
-    let mut value: u64 = 0;
-    let mut next = at;
-    while next < line.len() {
-        let b = line[next];
-        next += 1;
-        if b < 48 {
-            return Read {
-                value: cut(value),
-                next,
-            };
-        }
-        if 57 < b {
-            return Read {
-                value: cut(value),
-                next,
-            };
-        }
-        value = digit(value, b);
-    }
-    Read {
-        value: cut(value),
-        next,
-    }
-}
-
-fn digit(value: u64, b: u8) -> u64
-    requires { ⌜ 47 < b ⌝ }
-{
-    if value < 4294967296 {
-        return value * 10 + (b - 48) as u64;
-    }
-    value
-}
-
-fn cut(value: u64) -> u32 {
-    if value < 4294967296 {
-        return value as u32;
-    }
-    4294967295
 }
 
 fn put(words: &mut [u32], at: usize, word: u32) {
@@ -115,7 +54,7 @@ fn numbers(line: &[u8], words: &mut [u32]) -> usize
     words.len()
 }
 
-fn trial(line: &[u8]) {
+fn case(line: &[u8]) {
     let mut words = [0u32; 16400];
     let count = numbers(line, &mut words);
     if count < 2 {
@@ -143,29 +82,25 @@ fn wide(x: u32) -> usize {
 
 fn say(answer: Checked) {
     match answer {
-        Checked::Tree => {
-            io::write_all(STDOUT_FILENO, b"tree\n");
-        }
+        Checked::Tree => print(b"tree\n"),
         Checked::Misfit(place) => {
-            io::write_all(STDOUT_FILENO, b"misfit ");
+            print(b"misfit ");
             say_number(place as u64);
         }
-        Checked::TooLong => {
-            io::write_all(STDOUT_FILENO, b"too long\n");
-        }
+        Checked::TooLong => print(b"too long\n"),
     }
 }
 
 fn say_number(n: u64) {
-    io::print_decimal(STDOUT_FILENO, n);
-    io::write_all(STDOUT_FILENO, b"\n");
+    print_number(n);
+    print(b"\n");
 }
 
 fn say_name(start: u32, len: u32) {
     let text = b"procedure p() { a := b }";
-    io::write_all(STDOUT_FILENO, b"<");
-    io::write_all(STDOUT_FILENO, tree::name(text, start, len));
-    io::write_all(STDOUT_FILENO, b">\n");
+    print(b"<");
+    print(tree::name(text, start, len));
+    print(b">\n");
 }
 
 // 7 0 0 for each label, then 1 0.

@@ -10,16 +10,16 @@ use borrow.Author.Tests.{leb-true, le-leb}
 use Rattle.lexing.specs.Answer.{ok, refused, pick}
 use Rattle.tree.specs.Ast.{Span, Expr}
 use Rattle.tree.specs.Resolve.{resolveExpr}
-use Rattle.reading.specs.Grammar.{Tree}
-use Rattle.reading.specs.OperatorTrees.{OperatorTree, DerivesWithin, wordCount, mostBytes, mostWords, mostDepth}
-use Rattle.reading.specs.Tokens.{cut}
+use Rattle.grammar.specs.Grammar.{Tree}
+use Rattle.grammar.specs.OperatorTrees.{OperatorTree, DerivesWithin, wordCount, mostBytes, mostWords, mostDepth}
+use Rattle.grammar.specs.Tokens.{cut}
 use Rattle.reading.specs.Reading.{words, refusal, treeWords, stored, outcome, parseText, readTree, readExpression}
 use Rattle.reading.specs.TreeRead.{GivesTree}
-use Rattle.reading.specs.Laws.Steps.{impossible}
-use Rattle.reading.specs.Laws.Looks.{both-true}
-use Rattle.reading.specs.Laws.Limited.{parse-limited}
-use Rattle.reading.specs.Laws.Every.{derived-operators}
-use Rattle.reading.specs.Claims.{words-counted}
+use Rattle.grammar.specs.Laws.Steps.{impossible}
+use Rattle.grammar.specs.Laws.Looks.{both-true}
+use Rattle.grammar.specs.Laws.Limited.{parse-limited}
+use Rattle.grammar.specs.Laws.Every.{derived-operators}
+use Rattle.grammar.specs.Claims.{words-counted}
 use Rattle.reading.specs.Bridge.Entry.{text-agrees, agrees-ok, agrees-some}
 
 module _ (text : List ℕ) (n : ℕ) where
@@ -38,7 +38,7 @@ module _ (text : List ℕ) (n : ℕ) where
   read-short h p = rw (le-leb (length text) mostBytes h) p
 
   -- the words fit exactly where they are stored
-  stored-inv : (ws : List ℕ) {k : ℕ} {l : List ℕ} → stored n ws ≡ words k l → (length ws ≤ n) × (length ws ≤ mostWords)
+  pub stored-inv : (ws : List ℕ) {k : ℕ} {l : List ℕ} → stored n ws ≡ words k l → (length ws ≤ n) × (length ws ≤ mostWords)
   stored-inv ws {k} {l} p = go (leb (length ws) n && leb (length ws) mostWords) refl p
     where
       go : (b : Bool) → (leb (length ws) n && leb (length ws) mostWords) ≡ b
@@ -49,7 +49,7 @@ module _ (text : List ℕ) (n : ℕ) where
           (leb-true (length ws) n a, leb-true (length ws) mostWords b)
       go false q p = impossible (cc)
 
-  stored-fits : (ws : List ℕ) → length ws ≤ n → length ws ≤ mostWords → stored n ws ≡ words (length ws) (ws ++ replicate (n - length ws) 0)
+  pub stored-fits : (ws : List ℕ) → length ws ≤ n → length ws ≤ mostWords → stored n ws ≡ words (length ws) (ws ++ replicate (n - length ws) 0)
   stored-fits ws h i = rw (le-leb (length ws) n h, le-leb (length ws) mostWords i) refl
 
   count : (e : Expr Span) → length (treeWords e []) ≡ wordCount (resolveExpr text e)

@@ -15,16 +15,16 @@ use Rattle.lexing.specs.TokenLaws.{startsWith-true}
 use Rattle.tree.specs.Ast.{Span, Expr, IdExpr, FunctionCallExpr}
 use Rattle.tree.specs.Resolve as resolved
 use Rattle.tree.specs.Resolve.{part}
-use Rattle.reading.specs.Words.{bytes}
-use Rattle.reading.specs.Tokens as cutting
-use Rattle.reading.specs.Tokens.{Token, name, illegal, lparen, rparen, tokenAt, nameAt, naturalAt}
-use Rattle.reading.specs.Grammar.{Tree}
-use Rattle.reading.specs.Parser as parser
-use Rattle.reading.specs.Parser.{parsed, failed, Parser, see, isMark, isWord, parseNamed, parseBracketed}
+use Rattle.grammar.specs.Words.{bytes}
+use Rattle.grammar.specs.Tokens as cutting
+use Rattle.grammar.specs.Tokens.{Token, name, illegal, lparen, rparen, tokenAt, nameAt, naturalAt}
+use Rattle.grammar.specs.Grammar.{Tree}
+use Rattle.grammar.specs.Parser as parser
+use Rattle.grammar.specs.Parser.{parsed, failed, Parser, see, isMark, isWord, parseNamed, parseBracketed}
 use Rattle.reading.specs.Steps.{Reader, after, signAt, spanned, parseName}
 use Rattle.reading.specs.Rules as rules
-use Rattle.reading.specs.Laws.Looks.{pick-both}
-use Rattle.reading.specs.Laws.Cut.{tokens-drop, tokens-illegal}
+use Rattle.grammar.specs.Laws.Looks.{pick-both}
+use Rattle.grammar.specs.Laws.Cut.{tokens-drop, tokens-illegal}
 use Rattle.reading.specs.Bridge.Relation as relation
 use Rattle.reading.specs.Bridge.Relation.{tokens, Halted, fails, waits, Kept, refuses, reads, ends, absent, agree, dead, Test, seen, missed}
 use Rattle.reading.specs.Bridge.Relation.{dead-after, ends-after, ends-then, halted-after, sim-after, sim-see}

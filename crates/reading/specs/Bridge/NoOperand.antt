@@ -3,7 +3,7 @@ use Prim.Native.Nat.{ℕ, zero, suc}
 use mathlib.Core.List.{List}
 use mathlib.Core.Bool.{Bool}
 use Rattle.tree.specs.Ast.{Span, Expr}
-use Rattle.reading.specs.Words.{bytes}
+use Rattle.grammar.specs.Words.{bytes}
 use Rattle.reading.specs.Steps.{Reader}
 use Rattle.reading.specs.Rules as rules
 use Rattle.reading.specs.Rules.{Sequence, ItemOf}

@@ -12,13 +12,13 @@ use Rattle.lexing.specs.Tokens as lexing
 use Rattle.lexing.specs.Tokens.{closed, lexeme, identifierLength, decimal, mostNatural}
 use Rattle.lexing.specs.TokenLaws.{startsWith-true}
 use Rattle.tree.specs.Ast.{Span, Expr, ILiteral}
-use Rattle.reading.specs.Tokens.{Token, name, nat, sign, illegal, lparen}
-use Rattle.reading.specs.Grammar.{unary, role, single}
-use Rattle.reading.specs.Parser.{failed, Parser, see, isNat, isWord, isMark, parseBracketed, parseOperand, parseUnary}
+use Rattle.grammar.specs.Tokens.{Token, name, nat, sign, illegal, lparen}
+use Rattle.grammar.specs.Grammar.{unary, role, single}
+use Rattle.grammar.specs.Parser.{failed, Parser, see, isNat, isWord, isMark, parseBracketed, parseOperand, parseUnary}
 use Rattle.reading.specs.Steps.{Reader, after, mapped, Sym, signAt, parseNat}
 use Rattle.reading.specs.Rules as rules
-use Rattle.reading.specs.Laws.Stops.{Misses, see-misses}
-use Rattle.reading.specs.Laws.Views.{speltMark}
+use Rattle.grammar.specs.Laws.Stops.{Misses, see-misses}
+use Rattle.grammar.specs.Laws.Views.{speltMark}
 use Rattle.reading.specs.Bridge.Relation.{Halted, fails, waits, refuses, reads, Dead, ends, absent, agree, dead, tokens}
 use Rattle.reading.specs.Bridge.Relation.{dead-after, dead-then, halted-after, sim-after, sim-see, test-none}
 use Rattle.reading.specs.Bridge.Places.{limit, follow, tokens-here, inside-here, nothing-here}

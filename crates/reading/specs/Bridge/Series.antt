@@ -11,17 +11,17 @@ use Rattle.lexing.specs.Tokens as lexing
 use Rattle.lexing.specs.TokenLaws.{startsWith-true}
 use Rattle.tree.specs.Ast.{Span, Expr, Exprs, noExprs, _then_}
 use Rattle.tree.specs.Resolve.{resolveExpr}
-use Rattle.reading.specs.Words.{bytes}
-use Rattle.reading.specs.Tokens.{Token, mark, illegal, rparen, comma}
-use Rattle.reading.specs.Grammar.{Tree}
-use Rattle.reading.specs.Parser as parser
-use Rattle.reading.specs.Parser.{Parsed, parsed, failed, Parser, looked, see, isMark, parseSeries, parseItems}
+use Rattle.grammar.specs.Words.{bytes}
+use Rattle.grammar.specs.Tokens.{Token, mark, illegal, rparen, comma}
+use Rattle.grammar.specs.Grammar.{Tree}
+use Rattle.grammar.specs.Parser as parser
+use Rattle.grammar.specs.Parser.{Parsed, parsed, failed, Parser, looked, see, isMark, parseSeries, parseItems}
 use Rattle.reading.specs.Steps.{Reader, after, mapped, signAt}
 use Rattle.reading.specs.Rules as rules
 use Rattle.reading.specs.Rules.{exprs}
-use Rattle.reading.specs.Laws.Looks.{mark-inv}
-use Rattle.reading.specs.Laws.Stops.{see-misses}
-use Rattle.reading.specs.Laws.Views.{speltMark}
+use Rattle.grammar.specs.Laws.Looks.{mark-inv}
+use Rattle.grammar.specs.Laws.Stops.{see-misses}
+use Rattle.grammar.specs.Laws.Views.{speltMark}
 use Rattle.reading.specs.Bridge.Relation.{tokens, Halted, fails, waits, refuses, reads, Dead, ends, absent, Sim, agree, dead, Test, seen, unclosed, missed}
 use Rattle.reading.specs.Bridge.Relation.{dead-after, halted-after, sim-after, sim-see, none-halts, test-misses, test-none}
 use Rattle.reading.specs.Bridge.Trees.{BadList, resolveExprs, bad-first, bad-rest}

@@ -6,10 +6,10 @@ use lib.ListN.{length, drop}
 use Rattle.lexing.specs.Answer.{Answer, ok, refused}
 use Rattle.tree.specs.Ast.{Span, Expr}
 use Rattle.tree.specs.Resolve.{resolveExpr}
-use Rattle.reading.specs.Tokens.{Token, illegal}
-use Rattle.reading.specs.Grammar.{Tree, Class, Build, build, role, binary}
-use Rattle.reading.specs.Parser as parser
-use Rattle.reading.specs.Parser.{Parsed, parsed, Parser, Tail, see, inClass, continued}
+use Rattle.grammar.specs.Tokens.{Token, illegal}
+use Rattle.grammar.specs.Grammar.{Tree, Class, Build, build, role, binary}
+use Rattle.grammar.specs.Parser as parser
+use Rattle.grammar.specs.Parser.{Parsed, parsed, Parser, Tail, see, inClass, continued}
 use Rattle.reading.specs.Steps.{Reader, after}
 use Rattle.reading.specs.Rules as rules
 use Rattle.reading.specs.Bridge.Relation.{tokens, Halted, waits, refuses, reads, Dead, ends, absent, Sim, agree}

@@ -13,14 +13,14 @@ use Rattle.lexing.specs.Tokens.{closed, lexeme, identifierLength}
 use Rattle.lexing.specs.TokenLaws.{sameBytes-true, sameBytes-refl, startsWith-true}
 use Rattle.tree.specs.Ast.{Span, Expr, BLiteral, IdExpr}
 use Rattle.tree.specs.Resolve.{part}
-use Rattle.reading.specs.Words.{bytes, oneOf, isName}
-use Rattle.reading.specs.Tokens.{Token, name, lparen}
-use Rattle.reading.specs.Grammar.{Tree}
-use Rattle.reading.specs.Parser.{Parsed, parsed, failed, Parser, see, isNat, isWord, parseNamed, parseExcluded, parseOperand}
+use Rattle.grammar.specs.Words.{bytes, oneOf, isName}
+use Rattle.grammar.specs.Tokens.{Token, name, lparen}
+use Rattle.grammar.specs.Grammar.{Tree}
+use Rattle.grammar.specs.Parser.{Parsed, parsed, failed, Parser, see, isNat, isWord, parseNamed, parseExcluded, parseOperand}
 use Rattle.reading.specs.Steps.{Reader, after, T, Sym, signAt, spanned, parseName, parseNat}
 use Rattle.reading.specs.Rules as rules
-use Rattle.reading.specs.Laws.Steps.{impossible}
-use Rattle.reading.specs.Laws.Views.{speltMark}
+use Rattle.grammar.specs.Laws.Steps.{impossible}
+use Rattle.grammar.specs.Laws.Views.{speltMark}
 use Rattle.reading.specs.Bridge.Relation.{Halted, fails, waits, Ends, refuses, reads, ends, absent, agree, dead}
 use Rattle.reading.specs.Bridge.Relation.{ends-then, dead-then}
 use Rattle.reading.specs.Bridge.Places.{follow}

@@ -1,0 +1,1 @@
+// The operator grammar of B3: definitions and theorems, see specs/.

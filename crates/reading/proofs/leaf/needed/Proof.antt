@@ -1,0 +1,28 @@
+-- `leaf::needed` meets its contract, by the answer's three cases.
+use mathlib.Core.Path.{ap, sym}
+use borrow.Author.Needs.{needs}
+use Rattle.reading.specs.Arena.{neededAt}
+use Rattle.reading.proofs.leaf.needed.Statement.{statement}
+use Rattle.reading.proofs.leaf.needed.Tie as tie
+
+enum-known-r : tie.Need-enum-known-r
+enum-known-r c = search needs
+
+enum-told : tie.Need-enum-told
+enum-told c = search needs
+
+enum-known-r-2 : tie.Need-enum-known-r-2
+enum-known-r-2 c = search needs
+
+returns : tie.Need-returns
+returns c = ap (neededAt _) (sym (c .before .r .given .1))
+
+returns-2 : tie.Need-returns-2
+returns-2 c = ap (neededAt _) (sym (c .enum-told .given .1))
+
+returns-3 : tie.Need-returns-3
+returns-3 c = ap (neededAt _) (sym (c .before .r2 .given .1))
+
+pub needed-spec : {M : Type 1} → statement M
+needed-spec =
+    tie.close (tie.spec enum-known-r enum-told enum-known-r-2 returns returns-2 returns-3)

@@ -1,0 +1,27 @@
+-- `leaf::too_deep` meets its contract, by that of `opens` on the rest of the text (Identifiers).
+use borrow.Author.Needs.{needs}
+use Rattle.reading.proofs.Identifiers.{deep-opens, deep-stops}
+use Rattle.reading.proofs.leaf.too_deep.Statement.{statement}
+use Rattle.reading.proofs.leaf.too_deep.Tie as tie
+
+sub-opens : tie.Need-sub-opens
+sub-opens c = search needs
+
+part-opens-start : tie.Need-part-opens-start
+part-opens-start c = search needs
+
+part-opens-end : tie.Need-part-opens-end
+part-opens-end c = search needs
+
+opens-requires : tie.Need-opens-requires
+opens-requires c κs = search needs
+
+returns : tie.Need-returns
+returns c = deep-opens _ _ (c .before .opens .ensures) (c .if1 .taken)
+
+returns-2 : tie.Need-returns-2
+returns-2 c = deep-stops _ _ (c .before .opens .ensures) (c .if1 .left)
+
+pub too-deep-spec : {M : Type 1} → statement M
+too-deep-spec =
+    tie.close (tie.spec sub-opens part-opens-start part-opens-end opens-requires returns returns-2)

@@ -1,0 +1,306 @@
+-- What the code of the rules promises, in terms of the rules.
+use Prim.Native.Nat.{ℕ, zero, suc, _+_, _*_, _^_, _≤_, _<_}
+use mathlib.Core.Path.{_≡_}
+use mathlib.Core.Bool.{Bool, true, false}
+use mathlib.Core.List.{List, [], _∷_}
+use mathlib.Core.Option.{Option, none, some}
+use lib.ListN.{length}
+use lib.Dec.{eqb}
+use Rattle.lexing.specs.Answer.{Answer, ok, refused}
+use Rattle.lexing.specs.declared.token.Lexed.{Lexed}
+use Rattle.lexing.specs.declared.token.Lexed.the-variants.{Ok as LexedOk, None as LexedNone, Refused as LexedRefused}
+use Rattle.tree.specs.Ast.{Span, Expr, ILiteral, Operator, OperatorExpr, noExprs, _then_, Patterns, Binding}
+use Rattle.tree.specs.Words.{operatorWord, exprWords, exprsWords, patternsWords, closureBindingsWords, closurePropertiesWords, nameWords, bindingWords, seqWords, optionWords}
+use Rattle.grammar.specs.Grammar.{Build, straight, swapped, single, Class, product, sum, comparison, conjunction, disjunction, implication, explication, equivalence}
+use Rattle.reading.specs.Steps.{Reader, after, need, mapped, _or_, Sym, T, signAt, parseName, parseNat}
+use Rattle.reading.specs.Rules.{Sequence, exprs, bindings, closures, properties, ItemOf, ListOf, leftTail, rightTail, equivOperator, impliesOperator, expliesOperator, andOperator, orOperator, parseComparisonOperator, termOperator, factorOperator, parseIdType, parseClosureBinding, parseClosureProperty, parseUnaryExpr, parseFactorExpr, parseTermExpr, parseJuctExpr, parseLogicalExpr, parseImpExpExpr, parseExpr, afterParen, afterBar}
+use Rattle.reading.specs.Reading.{Outcome, words, refusal, treeWords}
+use Rattle.reading.specs.Arena.{Run, Node, Holds, Kept, Builds}
+use Rattle.reading.specs.declared.arena.Built.{Built}
+use Rattle.reading.specs.declared.arena.Built.the-variants.{Ok, None, Refused}
+use Rattle.reading.specs.declared.sign.Sign.{Sign}
+use Rattle.reading.specs.declared.sign.Sign.the-variants.{Found as SignFound, None as SignNone, Refused as SignRefused}
+use Rattle.reading.specs.declared.sign.Level.{Level}
+use Rattle.reading.specs.declared.sign.Level.the-variants.{Product, Sum, Comparison, Conjunction, Disjunction, Implication, Explication, Equivalence}
+use Rattle.reading.specs.declared.entry.Reading.{Reading}
+use Rattle.reading.specs.declared.entry.Reading.the-variants.{Words as ReadWords, Refused as ReadRefused}
+use Rattle.reading.specs.declared.rules.Items.{Items}
+use Rattle.reading.specs.declared.rules.Items.the-variants.{Exprs as ExprItems, Bindings as BindingItems, Closures as ClosureItems, Properties as PropertyItems}
+
+-- ---- tokens
+
+-- a token of at least `least` bytes was read, and f gives its answer's value
+pub record Took {A : Type 0} (f : ℕ → A) (text : List ℕ) (at least : ℕ) (answer : Answer A) (v next : ℕ) : Type 0 where
+  pub says : answer ≡ ok (f v) next
+  pub past : at + least ≤ next
+  pub inside : next ≤ length text
+  pub small : v ≤ next
+
+abbrev pub Tells : {A : Type 0} → (ℕ → A) → List ℕ → ℕ → ℕ → Answer A → Lexed → Type 0
+Tells f text at least answer (LexedOk v next) = Took f text at least answer v next
+Tells f text at least answer LexedNone = answer ≡ Answer.none
+Tells f text at least answer (LexedRefused number place) = answer ≡ refused number place
+
+-- an answer with its places counted from `at` on, and that these fit
+abbrev pub movedOf : ℕ → Lexed → Lexed
+movedOf at (LexedOk v n) = LexedOk v (at + n)
+movedOf at LexedNone = LexedNone
+movedOf at (LexedRefused number place) = LexedRefused number (at + place)
+
+abbrev pub placed : ℕ → Lexed → Type 0
+placed at (LexedOk v n) = at + n < 2 ^ 63
+placed at LexedNone = Unit {0}
+placed at (LexedRefused number place) = at + place < 2 ^ 63
+
+abbrev pub span : ℕ → ℕ → Span
+span at n = record { start = at; len = n }
+
+-- a token that must follow, and one that may
+abbrev pub missingAt : ℕ → Lexed → Built
+missingAt at (LexedOk v next) = Refused 2 at
+missingAt at LexedNone = Refused 2 at
+missingAt at (LexedRefused number place) = Refused number place
+
+abbrev pub untakenAt : Lexed → Built
+untakenAt (LexedOk v next) = None
+untakenAt LexedNone = None
+untakenAt (LexedRefused number place) = Refused number place
+
+-- ---- operators
+
+-- an operator between operands by its word and whether it swaps them
+abbrev pub wordOf : Build → ℕ
+wordOf (straight op) = operatorWord op
+wordOf (swapped op) = operatorWord op
+
+abbrev pub swapOf : Build → Bool
+swapOf (straight op) = false
+swapOf (swapped op) = true
+
+abbrev pub noSwap : Operator → Bool
+noSwap op = false
+
+pub record Stands {A : Type 0} (word : A → ℕ) (swap : A → Bool) (text : List ℕ) (at : ℕ) (answer : Answer A) (op : ℕ) (swaps : Bool) (next : ℕ) : Type 0 where
+  pub value : A
+  pub says : answer ≡ ok value next
+  pub word-is : op ≡ word value
+  pub swap-is : swaps ≡ swap value
+  pub past : at < next
+  pub inside : next ≤ length text
+
+abbrev pub Signs : {A : Type 0} → (A → ℕ) → (A → Bool) → List ℕ → ℕ → Answer A → Sign → Type 0
+Signs word swap text at answer (SignFound op swaps next) = Stands word swap text at answer op swaps next
+Signs word swap text at answer SignNone = answer ≡ Answer.none
+Signs word swap text at answer (SignRefused number place) = answer ≡ refused number place
+
+abbrev pub whereRead : Lexed → ℕ → Bool → Sign
+whereRead (LexedOk v next) op swaps = SignFound op swaps next
+whereRead LexedNone op swaps = SignNone
+whereRead (LexedRefused number place) op swaps = SignRefused number place
+
+-- ---- the entry
+
+-- the code's answer, with the table as the code leaves it
+abbrev pub outcomeOf : Reading → List ℕ → Outcome
+outcomeOf (ReadWords count) table = words count table
+outcomeOf (ReadRefused number place) table = refusal number place table
+
+-- ---- levels and sequences of the code
+
+abbrev pub classOf : Level → Class
+classOf Product = product
+classOf Sum = sum
+classOf Comparison = comparison
+classOf Conjunction = conjunction
+classOf Disjunction = disjunction
+classOf Implication = implication
+classOf Explication = explication
+classOf Equivalence = equivalence
+
+abbrev pub sequenceOf : Items → Sequence
+sequenceOf ExprItems = exprs
+sequenceOf BindingItems = bindings
+sequenceOf ClosureItems = closures
+sequenceOf PropertyItems = properties
+
+-- the words of a tree whose names are spans
+abbrev pub same : Span → Span
+same s = s
+
+abbrev pub itemWords : (q : Sequence) → ItemOf q → Run
+itemWords exprs = exprWords same
+itemWords bindings = bindingWords same
+itemWords closures = λ c r. nameWords same (c .0) (seqWords (bindingWords same) (c .1) (exprWords same (c .2) r))
+itemWords properties = λ p r. patternsWords same (p .0) (exprWords same (p .1) r)
+
+abbrev pub listWords : (q : Sequence) → ListOf q → Run
+listWords exprs = exprsWords same
+listWords bindings = seqWords (bindingWords same)
+listWords closures = closureBindingsWords same
+listWords properties = closurePropertiesWords same
+
+-- ---- rules
+
+-- more turns than the text has bytes
+abbrev pub turns : List ℕ → ℕ
+turns text = suc (length text)
+
+-- "expr" with so many levels left
+abbrev pub inner : List ℕ → ℕ → Reader (Expr Span)
+inner text depth = parseExpr text (turns text) depth
+
+abbrev pub operatorOf : Class → List ℕ → Reader Build
+operatorOf product text = factorOperator text (turns text)
+operatorOf sum text = termOperator text (turns text)
+operatorOf comparison text = parseComparisonOperator text (turns text)
+operatorOf conjunction text = andOperator text (turns text)
+operatorOf disjunction text = orOperator text (turns text)
+operatorOf implication text = impliesOperator text (turns text)
+operatorOf explication text = expliesOperator text (turns text)
+operatorOf equivalence text = equivOperator text (turns text)
+
+-- the rule of a level's operands
+abbrev pub tighterOf : Class → List ℕ → ℕ → Reader (Expr Span)
+tighterOf product text depth = parseUnaryExpr text (turns text) (inner text depth)
+tighterOf sum text depth = parseFactorExpr text (turns text) (inner text depth)
+tighterOf comparison text depth = parseTermExpr text (turns text) (inner text depth)
+tighterOf conjunction text depth = parseJuctExpr text (turns text) (inner text depth)
+tighterOf disjunction text depth = parseJuctExpr text (turns text) (inner text depth)
+tighterOf implication text depth = parseLogicalExpr text (turns text) (inner text depth)
+tighterOf explication text depth = parseLogicalExpr text (turns text) (inner text depth)
+tighterOf equivalence text depth = parseImpExpExpr text (turns text) (inner text depth)
+
+-- a chain from its first operand's place on
+abbrev pub leftChain : Class → List ℕ → ℕ → Reader (Expr Span)
+leftChain k text depth start =
+    after (tighterOf k text depth start) Answer.none (leftTail text (turns text) (turns text) (operatorOf k text) (tighterOf k text depth))
+
+abbrev pub rightChain : List ℕ → ℕ → Reader (Expr Span)
+rightChain text depth start =
+    after (tighterOf implication text depth start) Answer.none
+    (rightTail text (turns text) (turns text) (operatorOf implication text) (tighterOf implication text depth))
+
+abbrev pub itemRule : (q : Sequence) → List ℕ → ℕ → Reader (ItemOf q)
+itemRule exprs text depth = inner text depth
+itemRule bindings text depth = parseIdType text (turns text)
+itemRule closures text depth = parseClosureBinding text (turns text) (inner text depth)
+itemRule properties text depth = parseClosureProperty text (turns text) (inner text depth)
+
+-- a rule of expressions was followed, with `credit` more words
+abbrev pub Follows : (List ℕ → ℕ → Reader (Expr Span) → Reader (Expr Span)) → ℕ → List ℕ → List ℕ → List ℕ → ℕ → ℕ → ℕ → Built → Type 0
+Follows rule credit text arena later at top depth r = Builds treeWords text arena later at top 1 credit (rule text (turns text) (inner text depth) at) r
+
+-- an operand stands at a node, read by a rule from `start` on
+pub record Begun (rule : Reader (Expr Span)) (arena : List ℕ) (start at node top : ℕ) : Type 0 where
+  pub tree : Expr Span
+  pub said : rule start ≡ ok tree at
+  pub holds : Holds arena node (treeWords tree)
+  pub below : node + 4 ≤ top
+
+-- the identifier of n bytes at `at`, with the blanks after it up to `next`
+pub record Worded (text : List ℕ) (at n next : ℕ) : Type 0 where
+  pub said : parseName text at ≡ ok (span at n) next
+  pub past : at + n ≤ next
+  pub inside : next ≤ length text
+
+-- operands that begin with no word
+abbrev pub bracketedExpr : List ℕ → ℕ → Reader (Expr Span) → Reader (Expr Span)
+bracketedExpr text m c at = after (Sym text "(" at) Answer.none (λ _ at₁. afterParen text m c at₁)
+
+abbrev pub barredExpr : List ℕ → ℕ → Reader (Expr Span) → Reader (Expr Span)
+barredExpr text m c at = after (Sym text "|" at) Answer.none (λ _ at₁. afterBar text m c at₁) or bracketedExpr text m c at
+
+abbrev pub unwordedExpr : List ℕ → ℕ → Reader (Expr Span) → Reader (Expr Span)
+unwordedExpr text m c at = mapped ILiteral (parseNat text at) or barredExpr text m c at
+
+abbrev pub universalOf : ℕ → Bool
+universalOf u = eqb u 1
+
+abbrev pub HasTrigger : List ℕ → ℕ → Type 0
+HasTrigger text at = (v : ℕ) × (next : ℕ) × (T text "trigger" at ≡ ok v next)
+
+abbrev pub NoTrigger : List ℕ → ℕ → Type 0
+NoTrigger text at = T text "trigger" at ≡ Answer.none
+
+-- the words that patterns may take beyond eight for each byte, by whether their keyword stands: only the end of none at all takes some
+unfoldable pub endCredit : Answer ℕ → ℕ
+endCredit (ok v next) = 0
+endCredit Answer.none = 4
+endCredit (refused number place) = 4
+
+-- a sequence's node `es`, where its closing sign stands
+abbrev pub Shuts : List ℕ → List ℕ → ℕ → ℕ → ℕ → Built → Type 0
+Shuts text close at top es (Ok node next later) =
+    (node ≡ es) × (later ≡ top) × ((v : ℕ) × (signAt text close at ≡ ok v next)) × (at + length close ≤ next) × (next ≤ length text)
+Shuts text close at top es None = ⊥
+Shuts text close at top es (Refused number place) =
+    need at (signAt text close at) (λ v next. ok v next) ≡ refused number place
+
+-- ---- operators that wait for their last operand
+
+pub data Layer : Type 0 where
+  unaryLayer : Operator → Layer
+  binaryLayer : Operator → Expr Span → Layer
+
+abbrev pub layered : Layer → Expr Span → Expr Span
+layered (unaryLayer op) e = single op e
+layered (binaryLayer op a) e = OperatorExpr op (_then_ a (_then_ e noExprs))
+
+-- the last layer is the innermost
+abbrev pub foldLayers : List Layer → Expr Span → Expr Span
+foldLayers [] e = e
+foldLayers (l ∷ ls) e = foldLayers ls (layered l e)
+
+-- the nodes of the layers, each with the one before it
+pub data Links (arena : List ℕ) : ℕ → List Layer → Type 0 where
+  ends : Links arena 0 []
+  unaryLink : {n y z : ℕ} {op : Operator} {ls : List Layer} → Node arena n 5 (operatorWord op) y z → z < n → Links arena z ls
+      → Links arena n (unaryLayer op ∷ ls)
+  binaryLink : {n y z : ℕ} {op : Operator} {a : Expr Span} {ls : List Layer} → Node arena n 6 (operatorWord op) y z → z < n → y + 4 ≤ n
+      → Holds arena y (treeWords a) → Links arena z ls → Links arena n (binaryLayer op a ∷ ls)
+
+-- what `fold` is given, and what it gives
+pub record Folds (arena : List ℕ) (free link node : ℕ) (ls : List Layer) (e : Expr Span) : Type 0 where
+  pub links : Links arena link ls
+  pub holds : Holds arena node (treeWords e)
+  pub links-below : link + 4 ≤ free
+  pub node-below : node + 4 ≤ free
+  pub based : 4 ≤ free
+  pub room : free + 4 * length ls ≤ length arena
+  pub small : length arena ≤ 400000
+
+pub record Foldable (arena : List ℕ) (free link node : ℕ) : Type 0 where
+  pub layers : List Layer
+  pub tree : Expr Span
+  pub folds : Folds arena free link node layers tree
+
+-- the node and the arena's next free word of `Ok`
+abbrev pub FoldedAt : List ℕ → ℕ → List Layer → Expr Span → ℕ → Built → Type 0
+FoldedAt later free ls e next (Ok node n top) =
+    (Holds later node (treeWords (foldLayers ls e))) × (n ≡ next) × (top ≡ free + 4 * length ls) × (node + 4 ≤ top)
+FoldedAt later free ls e next None = ⊥
+FoldedAt later free ls e next (Refused number place) = ⊥
+
+-- a layer's node with its last operand
+pub record LayerNoted (arena later : List ℕ) (top tag op a e : ℕ) : Type 0 where
+  pub kept : Kept arena later top
+  pub one-operand : tag ≡ 5 → Node later top 5 op e 0
+  pub two-operands : (tag ≡ 5 → ⊥) → Node later top 6 op a e
+
+-- ---- several nodes at once
+
+-- four runs, one after another
+pub record Four (arena later : List ℕ) (top a b c d : ℕ) : Type 0 where
+  pub kept : Kept arena later top
+  pub left : Node later top 8 0 a b
+  pub right : Node later (top + 4) 8 0 c d
+  pub whole : Node later (top + 8) 8 0 top (top + 4)
+
+-- IfThenElse over three operands
+pub record Choice (arena later : List ℕ) (top guard thn els : ℕ) : Type 0 where
+  pub kept : Kept arena later top
+  pub head : Node later top 2 5 1 0
+  pub first : Node later (top + 4) 7 0 top guard
+  pub second : Node later (top + 8) 7 0 (top + 4) thn
+  pub third : Node later (top + 12) 7 0 (top + 8) els
+  pub whole : Node later (top + 16) 9 0 (top + 12) 0

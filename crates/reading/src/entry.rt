@@ -1,0 +1,142 @@
+// Read expression.
+use crate::arena::Built;
+use crate::flat::flatten;
+use crate::rules::expr;
+use lexing::Reach;
+use lexing::blanks;
+ghost use mathlib.Core.Path.{_≡_};
+ghost use Prim.Native.Nat.{_≤_, min};
+ghost use mathlib.Core.List.{[]};
+ghost use lib.ListN.{length, replicate};
+ghost use Rattle.reading.specs.Arena.{Run, Holds};
+ghost use Rattle.reading.specs.Flat.{Rooted, Buffers};
+ghost use Rattle.reading.specs.Reading.{outcome, stored, parseText, readExpression};
+ghost use Rattle.reading.specs.Code.{outcomeOf};
+
+// What reading answers: `outcomeOf` in specs/Code.antt gives document 01's number and values of each case.
+pub enum Reading {
+    // How many words the tree has.
+    Words(usize),
+    // The refusal's number and place.
+    Refused(u64, usize),
+}
+
+const MOST_TEXT: usize = 32768;
+
+const MOST_WORDS: usize = 16384;
+
+const MOST_DEPTH: usize = 200;
+
+// All words become 0.
+fn clear(table: &mut [u32])
+    ensures { λ _. ⌜ now (table .exit) ≡ replicate (length (now (table .entry))) 0 ⌝ }
+{
+    let mut i = 0;
+    while i < table.len() {
+        table[i] = 0;
+        i += 1;
+    }
+}
+
+fn least(a: usize, b: usize) -> usize
+    ensures { λ r. ⌜ r ≡ min a b ⌝ }
+{
+    if a < b {
+        return a;
+    }
+    b
+}
+
+// The tree's words in the table, or refusal 5.
+fn store(arena: &[u32], root: u32, stack: &mut [u32], table: &mut [u32]) -> Reading
+    requires { ⌜ Rooted (now arena) (now stack) (now table) root ⌝ }
+    ensures { λ r. ⌜ ((f : Run) → Holds (now (arena .entry)) root f → outcomeOf r (now (table .exit)) ≡ stored (length (now (table .entry))) (f [])) ⌝ }
+{
+    let n = flatten(arena, root, stack, table);
+    if n <= least(table.len(), MOST_WORDS) {
+        return Reading::Words(n);
+    }
+    clear(table);
+    Reading::Refused(5, 0)
+}
+
+// Reads a text over an arena of four words and eight for each byte, and a stack of one word and two for each byte.
+fn read_in(text: &[u8], arena: &mut [u32], stack: &mut [u32], table: &mut [u32]) -> Reading
+    requires { ⌜ Buffers (now text) (now arena) (now stack) (now table) ⌝ }
+    ensures { λ r. ⌜ outcomeOf r (now (table .exit)) ≡ outcome (length (now (table .entry))) (parseText (now (text .entry))) ⌝ }
+{
+    match blanks(text) {
+        Reach::Unclosed(at) => Reading::Refused(2, at),
+        Reach::Passed(at) => match expr(text, at, arena, 4, MOST_DEPTH) {
+            Built::Ok(root, next, _) => {
+                if next == text.len() {
+                    return store(arena, root, stack, table);
+                }
+                Reading::Refused(2, next)
+            }
+            Built::None => Reading::Refused(2, at),
+            Built::Refused(number, place) => Reading::Refused(number, place),
+        },
+    }
+}
+
+// A text of at most 512 bytes.
+fn read_small(text: &[u8], table: &mut [u32]) -> Reading
+    requires { ⌜ (length (now text) ≤ 512) × (now table ≡ replicate (length (now table)) 0) ⌝ }
+    ensures { λ r. ⌜ outcomeOf r (now (table .exit)) ≡ outcome (length (now (table .entry))) (parseText (now (text .entry))) ⌝ }
+{
+    let mut arena = [0u32; 4100];
+    let mut stack = [0u32; 1025];
+    read_in(text, &mut arena, &mut stack, table)
+}
+
+// A text of at most 4,096 bytes.
+fn read_medium(text: &[u8], table: &mut [u32]) -> Reading
+    requires { ⌜ (length (now text) ≤ 4096) × (now table ≡ replicate (length (now table)) 0) ⌝ }
+    ensures { λ r. ⌜ outcomeOf r (now (table .exit)) ≡ outcome (length (now (table .entry))) (parseText (now (text .entry))) ⌝ }
+{
+    let mut arena = [0u32; 32772];
+    let mut stack = [0u32; 8193];
+    read_in(text, &mut arena, &mut stack, table)
+}
+
+// A text of at most 12,288 bytes.
+fn read_large(text: &[u8], table: &mut [u32]) -> Reading
+    requires { ⌜ (length (now text) ≤ 12288) × (now table ≡ replicate (length (now table)) 0) ⌝ }
+    ensures { λ r. ⌜ outcomeOf r (now (table .exit)) ≡ outcome (length (now (table .entry))) (parseText (now (text .entry))) ⌝ }
+{
+    let mut arena = [0u32; 98308];
+    let mut stack = [0u32; 24577];
+    read_in(text, &mut arena, &mut stack, table)
+}
+
+// A text of at most 32,768 bytes.
+fn read_longest(text: &[u8], table: &mut [u32]) -> Reading
+    requires { ⌜ (length (now text) ≤ 32768) × (now table ≡ replicate (length (now table)) 0) ⌝ }
+    ensures { λ r. ⌜ outcomeOf r (now (table .exit)) ≡ outcome (length (now (table .entry))) (parseText (now (text .entry))) ⌝ }
+{
+    let mut arena = [0u32; 262148];
+    let mut stack = [0u32; 65537];
+    read_in(text, &mut arena, &mut stack, table)
+}
+
+// Reads an expression: the words of its tree in the table, with zeros after them, and how many they are. Refusals 1 to 5 leave the table all
+// zero.
+pub fn read_expression(text: &[u8], table: &mut [u32]) -> Reading
+    ensures { λ r. ⌜ outcomeOf r (now (table .exit)) ≡ readExpression (now (text .entry)) (length (now (table .entry))) ⌝ }
+{
+    clear(table);
+    if MOST_TEXT < text.len() {
+        return Reading::Refused(1, MOST_TEXT);
+    }
+    if text.len() <= 512 {
+        return read_small(text, table);
+    }
+    if text.len() <= 4096 {
+        return read_medium(text, table);
+    }
+    if text.len() <= 12288 {
+        return read_large(text, table);
+    }
+    read_longest(text, table)
+}
