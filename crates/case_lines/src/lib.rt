@@ -1,8 +1,9 @@
-// What the programs over stored cases share: lines and words of their input, escapes, numbers, texts of repeated pieces, and answers.
+// What the programs over stored cases share: lines and words of their input, escapes, numbers, texts and tables of repeated pieces, and answers.
 mod lines;
 mod numbers;
 mod pieces;
 mod show;
+mod tables;
 
 pub use lines::decode;
 pub use lines::tail;
@@ -13,3 +14,5 @@ pub use pieces::build;
 pub use show::print;
 pub use show::print_number;
 pub use show::print_refusal;
+pub use tables::build_table;
+pub use tables::words;

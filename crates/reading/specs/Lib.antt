@@ -8,4 +8,4 @@ pub mod Flat
 pub mod TreeRead
 pub mod Bridge
 pub mod Claims
-pub mod Trials
+pub mod Examples

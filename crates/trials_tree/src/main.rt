@@ -7,12 +7,11 @@
 //   6 COUNT         the check of an expression of so many labels, one in the other, over the empty text
 //   7 COUNT         the check of a program's table of so many zeros
 // The answer is a line for each case.
-use case_lines::number;
 use case_lines::print;
 use case_lines::print_number;
 use case_lines::until;
+use case_lines::words;
 use tree::Checked;
-ghost use Prim.Native.Nat.{_≤_};
 ghost use lib.ListN.{length};
 
 fn main() {
@@ -36,34 +35,16 @@ fn put(words: &mut [u32], at: usize, word: u32) {
     }
 }
 
-// The numbers of a line; their count, or the length of `words` where there are more.
-fn numbers(line: &[u8], words: &mut [u32]) -> usize
-    ensures { λ r. ⌜ r ≤ length (now (words .exit)) ⌝ }
-{
-    let mut at = 0;
-    let mut count: usize = 0;
-    while at < line.len() {
-        let n = number(line, at);
-        put(words, count, n.value);
-        count += 1;
-        at = n.next;
-    }
-    if count < words.len() {
-        return count;
-    }
-    words.len()
-}
-
 fn case(line: &[u8]) {
-    let mut words = [0u32; 16400];
-    let count = numbers(line, &mut words);
+    let mut table = [0u32; 16400];
+    let count = words(line, &mut table);
     if count < 2 {
         return;
     }
-    let kind = words[0];
-    let first = words[1];
+    let kind = table[0];
+    let first = table[1];
     let n = wide(first);
-    let rest = &words[2..count];
+    let rest = &table[2..count];
     match kind {
         1 => say(tree::check_expression(rest, n)),
         2 => say(tree::check_program(rest, n)),

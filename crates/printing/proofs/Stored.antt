@@ -1,0 +1,152 @@
+-- What the entries answer: a print in a buffer handed to the output, and the refusals.
+use Rattle.grammar.specs.OperatorTrees.{mostBytes}
+use Prim.Native.Nat.{ℕ, _+_, _≤_, _<_, min}
+use native.Mathlib.Omega.{arith}
+use mathlib.Core.Path.{_≡_, refl, sym, ap, _∙_}
+use mathlib.Core.Bool.{Bool, true, false, _&&_}
+use mathlib.Core.List.{List, [], _++_, append-nil}
+use lib.ListN.{length, take, drop}
+use lib.Seq.{length-take-le}
+use lib.Dec.{leb}
+use borrow.Author.Tests.{leb-true, leb-false, le-leb, lt-leb}
+use Rattle.lexing.specs.Answer.{pick}
+use Rattle.grammar.specs.Laws.Steps.{impossible}
+use Rattle.tree.specs.Check.{checkExpression}
+use Rattle.tree.specs.Tables.{expression-accepted}
+use Rattle.tree.specs.declared.Checked.{Checked}
+use Rattle.tree.specs.declared.Checked.the-variants.{Tree, Misfit, TooLong}
+use Rattle.printing.specs.declared.parts.Step.{Step}
+use Rattle.printing.specs.declared.format.ExprFormatOption.{ExprFormatOption}
+use Rattle.printing.specs.declared.Printed.{Printed}
+use Rattle.printing.specs.PrintUtil.{Init}
+use Rattle.printing.specs.Entries.{mostPrint, mostIndent, startIndent, Outcome, written, refusal, outcomeOf, stored, printOf, printChecked, printExpression}
+use Rattle.printing.specs.EntryLaws.{prints}
+use Rattle.printing.specs.Ends.{Known}
+use Rattle.printing.specs.Wrote.{Wrote}
+use Rattle.printing.specs.Steps.{Prints}
+use Rattle.printing.specs.ExprParts.{anExpr}
+use Rattle.printing.specs.Stores.{Stores, delivered}
+
+-- ---- from a buffer to the output
+
+module _ (buffer : List ℕ) (n : ℕ) (out : List ℕ) where
+  pub short-buffer : length buffer < n → refusal 8 0 out ≡ delivered buffer n out
+  unfolding delivered
+  short-buffer h = sym (simp (lt-leb n (length buffer) h))
+
+  pub short-output : n ≤ length buffer → length out < n → refusal 8 0 out ≡ delivered buffer n out
+  unfolding delivered
+  short-output g h = sym (simp (le-leb n (length buffer) g, lt-leb n (length out) h))
+
+  pub copied : {out′ : List ℕ} → n ≤ length buffer → n ≤ length out → out′ ≡ take 0 out ++ take n buffer ++ drop (0 + length (take n buffer)) out
+      → written n out′ ≡ delivered buffer n out
+  unfolding delivered
+  copied {out′} g h e =
+      let l : 0 + length (take n buffer) ≡ n = let k = length-take-le n buffer g in omega arith in
+      let f : out′ ≡ take n buffer ++ drop n out = rw l at e in
+      ap (written n) f ∙ sym (simp (le-leb n (length buffer) g, le-leb n (length out) h))
+
+-- a print that is longer than the output or than every print
+too-long : (n l : ℕ) → min l mostPrint < n → (leb n l && leb n mostPrint) ≡ false
+too-long n l h = go (leb n l) refl
+  where
+    go : (v : Bool) → leb n l ≡ v → (v && leb n mostPrint) ≡ false
+    go true e = let m = leb-true n l e in lt-leb n mostPrint (omega arith)
+    go false e = refl
+
+-- a print that was written into a buffer that has room for every print that the output takes
+handed : {X : List ℕ → List ℕ} {b b′ : List ℕ} {n : ℕ} (out : List ℕ) → Wrote X b 0 b′ n → length b ≤ mostPrint → min (length out) mostPrint ≤ length b
+    → delivered b′ n out ≡ stored (X []) out
+unfolding delivered stored
+handed {X} {b} {b′} {n} out w h k = go (leb n (length b′)) refl (leb n (length out)) refl
+  where
+    whole : length (X []) ≡ w .size
+    whole = let a = w .adds [] in omega arith
+
+    go : (p : Bool) → leb n (length b′) ≡ p → (q : Bool) → leb n (length out) ≡ q
+        → pick (p && q) (written n (take n b′ ++ drop n out)) (refusal 8 0 out)
+        ≡ pick (leb (length (X [])) (length out) && leb (length (X [])) mostPrint) (written (length (X [])) (X [] ++ drop (length (X [])) out)) (refusal 8 0 out)
+    go true e true f =
+        let s = w .same in
+        let l = leb-true n (length b′) e in
+        let m = leb-true n (length out) f in
+        let i : n ≤ length b = omega arith in
+        let z = w .place in
+        let c : length (X []) ≡ n = let y = whole in omega arith in
+        let g : take n b′ ≡ X [] = sym (append-nil (take n b′)) ∙ w .bytes i [] in
+        rw c (simp (le-leb n (length out) m, le-leb n mostPrint (omega arith)) (ap (λ (u : List ℕ). written n (u ++ drop n out)) g))
+    go true e false f =
+        let s = w .same in
+        let l = leb-true n (length b′) e in
+        let m = leb-false n (length out) f in
+        let z = w .place in
+        let c : length (X []) ≡ n = let y = whole in omega arith in
+        rw c (simp (lt-leb n (length out) m))
+    go false e q f =
+        let s = w .same in
+        let m = leb-false n (length b′) e in
+        let z = w .place in
+        let y = whole in
+        simp (too-long (length (X [])) (length out) (omega arith))
+
+-- ---- the print of a table's tree
+
+pub through : {text words ends : List ℕ} {format : ExprFormatOption} {b b₁ : List ℕ} {s : Step} {out out′ : List ℕ} {r : Printed} → startIndent format ≤ mostIndent
+    → ((len : ℕ) → Known len words ends) → length b ≤ mostPrint → min (length out) mostPrint ≤ length b
+    → Prints (anExpr text words ends 0 Init format) words 0 b 0 b₁ s → outcomeOf r out′ ≡ delivered b₁ (s .pos) out → Stores text words format out out′ r
+unfolding printOf
+through {text} {words} {out = out} i known h k x e =
+    record {
+      stores = λ t f.
+          let u = x .prints (record { known = known (length text); room = omega arith }) t [] (sym f) in
+          e ∙ handed out (u .wrote) h k;
+    }
+
+-- ---- the refusals, and the print of an accepted table
+
+module _ (text words : List ℕ) (format : ExprFormatOption) (out : List ℕ) where
+  pub long-text : mostBytes < length text → refusal 6 0 out ≡ printExpression 2 text words format out
+  unfolding printExpression
+  long-text h = sym (simp (lt-leb (length text) mostBytes h))
+
+  pub deep-indent : mostIndent < startIndent format → refusal 6 0 out ≡ printExpression 2 text words format out
+  unfolding printExpression
+  deep-indent h = go (leb (length text) mostBytes)
+    where
+      go : (v : Bool) → refusal 6 0 out
+          ≡ pick (v && leb (startIndent format) mostIndent) (printChecked 2 text words format out (checkExpression words (length text)) refl) (refusal 6 0 out)
+      go true = sym (simp (lt-leb (startIndent format) mostIndent h))
+      go false = refl
+
+  module _ (t : length text ≤ mostBytes) (i : startIndent format ≤ mostIndent) where
+    checked : {o : Outcome} → o ≡ printChecked 2 text words format out (checkExpression words (length text)) refl → o ≡ printExpression 2 text words format out
+    unfolding printExpression
+    checked e = e ∙ sym (simp (le-leb (length text) mostBytes t, le-leb (startIndent format) mostIndent i))
+
+    pub misfit : {c : Checked} {place : ℕ} → c ≡ checkExpression words (length text) → c ≡ Misfit place → refusal 7 place out ≡ printExpression 2 text words format out
+    unfolding printChecked
+    misfit {c} {place} e f = checked (go (checkExpression words (length text)) refl (sym e ∙ f))
+      where
+        go : (d : Checked) (h : checkExpression words (length text) ≡ d) → d ≡ Misfit place → refusal 7 place out ≡ printChecked 2 text words format out d h
+        go Tree h g = impossible cc
+        go (Misfit q) h g = cc
+        go TooLong h g = impossible cc
+
+    pub too-many : {c : Checked} → c ≡ checkExpression words (length text) → c ≡ TooLong → refusal 6 0 out ≡ printExpression 2 text words format out
+    unfolding printChecked
+    too-many {c} e f = checked (go (checkExpression words (length text)) refl (sym e ∙ f))
+      where
+        go : (d : Checked) (h : checkExpression words (length text) ≡ d) → d ≡ TooLong → refusal 6 0 out ≡ printChecked 2 text words format out d h
+        go Tree h g = impossible cc
+        go (Misfit q) h g = impossible cc
+        go TooLong h g = refl
+
+    pub accepted : {c : Checked} {out′ : List ℕ} {r : Printed} → c ≡ checkExpression words (length text) → c ≡ Tree → Stores text words format out out′ r
+        → outcomeOf r out′ ≡ printExpression 2 text words format out
+    accepted e f x =
+        let a = expression-accepted words (length text) .0 (sym e ∙ f) in
+        x .stores (a .1 .0) (a .1 .1) ∙ sym (prints text words (a .1 .0) (a .1 .1) 2 format out t (a .0) i)
+
+-- an accepted table is no longer than 16,384 words
+pub few : (words : List ℕ) (len : ℕ) {c : Checked} → c ≡ checkExpression words len → c ≡ Tree → length words ≤ 16384
+few words len e f = expression-accepted words len .0 (sym e ∙ f) .0

@@ -1,0 +1,43 @@
+use Rattle.printing.proofs.Around.{form-full, form-listed}
+use borrow.Author.Needs.{needs}
+use Rattle.printing.proofs.forms.operator_form.Statement.{statement}
+use Rattle.printing.proofs.forms.operator_form.Tie as tie
+use Rattle.printing.proofs.forms.operator_form.Reads as reads
+use Rattle.printing.proofs.forms.operator_form.Lts as lts
+use Rattle.printing.proofs.ends.count.Reads as count-reads
+use Rattle.printing.proofs.operator.argument_count.Reads as argument-count-reads
+use Rattle.printing.proofs.parts.after.Reads as after-reads
+use Rattle.tree.proofs.get.Reads as get-reads
+
+after-requires : tie.Need-after-requires
+after-requires c κs = search needs
+
+after-requires-2 : tie.Need-after-requires-2
+after-requires-2 c κs = search needs
+
+count-requires : tie.Need-count-requires
+count-requires c κs = search needs
+
+get-requires : tie.Need-get-requires
+get-requires c κs = search needs
+
+argument-count-requires : tie.Need-argument-count-requires
+argument-count-requires c κs = search needs
+
+returns : tie.Need-returns
+returns c = form-full _ _ (c .before .before .before .before .before .after .ensures) (c .before .before .before .before .after2 .ensures) (c .before .before .before .count .ensures) (c .before .before .get .ensures) (c .before .argument-count .ensures) (c .if1 .taken)
+
+returns-2 : tie.Need-returns-2
+returns-2 c = form-listed _ _ (c .before .before .before .before .before .after .ensures) (c .before .before .before .before .after2 .ensures) (c .before .before .before .count .ensures) (c .before .before .get .ensures) (c .before .argument-count .ensures) (c .if1 .left)
+
+pub operator-form-spec : {M : Type 1} → statement M
+operator-form-spec =
+    tie.close
+    (tie.spec
+    after-requires
+    after-requires-2
+    count-requires
+    get-requires
+    argument-count-requires
+    returns
+    returns-2)

@@ -1,0 +1,43 @@
+use Rattle.printing.proofs.Around.{sign-wrote}
+use borrow.Author.Needs.{needs}
+use Rattle.printing.proofs.forms.put_sign.Statement.{statement}
+use Rattle.printing.proofs.forms.put_sign.Tie as tie
+use Rattle.printing.proofs.forms.put_sign.Reads as reads
+use Rattle.printing.proofs.forms.put_sign.Lts as lts
+use Rattle.printing.proofs.format.ExprFormatOption.space.Reads as space-reads
+use Rattle.printing.proofs.operator.put_operator.Reads as put-operator-reads
+use Rattle.printing.proofs.write.put.Reads as put-reads
+use Rattle.tree.proofs.get.Reads as get-reads
+
+slice-aggregate-put : tie.Need-slice-aggregate-put
+slice-aggregate-put c = search needs
+
+put-requires : tie.Need-put-requires
+put-requires c κs = search needs
+
+get-requires : tie.Need-get-requires
+get-requires c κs = search needs
+
+put-operator-requires : tie.Need-put-operator-requires
+put-operator-requires c κs = search needs
+
+space-requires : tie.Need-space-requires
+space-requires c κs = search needs
+
+same-length : tie.Need-same-length
+same-length c = search needs
+
+returns : tie.Need-returns
+returns c = sign-wrote (c .before .before .before .before .before .before .before .before .before .before .before .before .before .before .before .before .args .format) (c .before .before .before .before .before .before .before .before .before .before .before .put .ensures) (c .before .before .before .before .before .before .before .get .ensures) (c .before .before .before .before .before .before .put-operator .ensures) (c .before .before .space .ensures)
+
+pub put-sign-spec : {M : Type 1} → statement M
+put-sign-spec =
+    tie.close
+    (tie.spec
+    slice-aggregate-put
+    put-requires
+    get-requires
+    put-operator-requires
+    space-requires
+    same-length
+    returns)

@@ -1,0 +1,14 @@
+use Rattle.printing.proofs.Operators.{no-break-low, breaks-high}
+use Rattle.printing.proofs.operator.breaks_line.Statement.{statement}
+use Rattle.printing.proofs.operator.breaks_line.Tie as tie
+use Rattle.printing.proofs.operator.breaks_line.Reads as reads
+use Rattle.printing.proofs.operator.breaks_line.Lts as lts
+
+returns : tie.Need-returns
+returns c = no-break-low _ (c .if1 .taken)
+
+returns-2 : tie.Need-returns-2
+returns-2 c = breaks-high _ (c .if1 .left)
+
+pub breaks-line-spec : {M : Type 1} → statement M
+breaks-line-spec = tie.close (tie.spec returns returns-2)

@@ -1,0 +1,51 @@
+use mathlib.Core.Path.{_≡_, refl}
+use native.Mathlib.Omega.{arith}
+use Rattle.printing.specs.PrintUtil.{EndlessOperator, BindingStrength}
+use Rattle.printing.proofs.Operators.{first-operator}
+use borrow.Author.Needs.{needs}
+use Rattle.printing.proofs.operator.logical_strength.Statement.{statement}
+use Rattle.printing.proofs.operator.logical_strength.Tie as tie
+use Rattle.printing.proofs.operator.logical_strength.Reads as reads
+use Rattle.printing.proofs.operator.logical_strength.Lts as lts
+use Rattle.printing.proofs.power.BindingPower.new.Reads as new-reads
+
+new-requires : tie.Need-new-requires
+new-requires c κs = search needs
+
+new-requires-2 : tie.Need-new-requires-2
+new-requires-2 c κs = search needs
+
+new-requires-3 : tie.Need-new-requires-3
+new-requires-3 c κs = search needs
+
+new-requires-4 : tie.Need-new-requires-4
+new-requires-4 c κs = search needs
+
+returns : tie.Need-returns
+returns c = rw (c .before .match .keys1) (c .new .ensures)
+
+returns-2 : tie.Need-returns-2
+returns-2 c = rw (c .before .match .keys2) (c .new2 .ensures)
+
+returns-3 : tie.Need-returns-3
+returns-3 c = rw (c .before .match .keys3) (c .new3 .ensures)
+
+returns-4 : tie.Need-returns-4
+returns-4 c = rw (c .before .match .keys4) (c .new4 .ensures)
+
+returns-5 : tie.Need-returns-5
+returns-5 c = first-operator (λ o. EndlessOperator ≡ BindingStrength o) (c .before .args .op) (omega arith) refl
+
+pub logical-strength-spec : {M : Type 1} → statement M
+logical-strength-spec =
+    tie.close
+    (tie.spec
+    new-requires
+    new-requires-2
+    new-requires-3
+    new-requires-4
+    returns
+    returns-2
+    returns-3
+    returns-4
+    returns-5)

@@ -1,0 +1,41 @@
+use Rattle.printing.proofs.Heads.{custom-prints}
+use borrow.Author.Needs.{needs}
+use Rattle.printing.proofs.parts.custom_literal.Statement.{statement}
+use Rattle.printing.proofs.parts.custom_literal.Tie as tie
+use Rattle.printing.proofs.parts.custom_literal.Reads as reads
+use Rattle.printing.proofs.parts.custom_literal.Lts as lts
+use Rattle.printing.proofs.parts.typed.Reads as typed-reads
+use Rattle.printing.proofs.write.put.Reads as put-reads
+
+slice-aggregate-put : tie.Need-slice-aggregate-put
+slice-aggregate-put c = search needs
+
+put-requires : tie.Need-put-requires
+put-requires c κs = search needs
+
+typed-requires : tie.Need-typed-requires
+typed-requires c κs = search needs
+
+slice-aggregate-put-2 : tie.Need-slice-aggregate-put-2
+slice-aggregate-put-2 c = search needs
+
+put-requires-2 : tie.Need-put-requires-2
+put-requires-2 c κs = search needs
+
+same-length : tie.Need-same-length
+same-length c = search needs
+
+returns : tie.Need-returns
+returns c = custom-prints (c .before .before .before .before .before .before .before .before .before .before .before .before .before .before .before .before .before .args .text .now) (c .before .before .before .before .before .before .before .before .before .before .before .put .ensures) (c .before .before .before .before .before .before .before .typed .ensures) (c .before .before .put2 .ensures)
+
+pub custom-literal-spec : {M : Type 1} → statement M
+custom-literal-spec =
+    tie.close
+    (tie.spec
+    slice-aggregate-put
+    put-requires
+    typed-requires
+    slice-aggregate-put-2
+    put-requires-2
+    same-length
+    returns)

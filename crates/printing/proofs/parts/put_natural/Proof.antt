@@ -1,0 +1,38 @@
+use Rattle.printing.proofs.Leaves.{natural-prints}
+use borrow.Author.Needs.{needs}
+use Rattle.printing.proofs.parts.put_natural.Statement.{statement}
+use Rattle.printing.proofs.parts.put_natural.Tie as tie
+use Rattle.printing.proofs.parts.put_natural.Reads as reads
+use Rattle.printing.proofs.parts.put_natural.Lts as lts
+use Rattle.printing.proofs.parts.after.Reads as after-reads
+use Rattle.printing.proofs.write.put_decimal.Reads as put-decimal-reads
+use Rattle.tree.proofs.natural.Reads as natural-reads
+
+after-requires : tie.Need-after-requires
+after-requires c κs = search needs
+
+after-requires-2 : tie.Need-after-requires-2
+after-requires-2 c κs = search needs
+
+natural-requires : tie.Need-natural-requires
+natural-requires c κs = search needs
+
+put-decimal-requires : tie.Need-put-decimal-requires
+put-decimal-requires c κs = search needs
+
+same-length : tie.Need-same-length
+same-length c = search needs
+
+returns : tie.Need-returns
+returns c = natural-prints (c .before .before .before .before .before .before .after .ensures) (c .before .before .before .before .before .after2 .ensures) (c .before .before .before .natural .ensures) (c .before .before .put-decimal .ensures)
+
+pub put-natural-spec : {M : Type 1} → statement M
+put-natural-spec =
+    tie.close
+    (tie.spec
+    after-requires
+    after-requires-2
+    natural-requires
+    put-decimal-requires
+    same-length
+    returns)

@@ -1,0 +1,24 @@
+use Rattle.printing.proofs.Heads.{quantifier-head}
+use borrow.Author.Needs.{needs}
+use Rattle.printing.proofs.parts.quantifier_head.Statement.{statement}
+use Rattle.printing.proofs.parts.quantifier_head.Tie as tie
+use Rattle.printing.proofs.parts.quantifier_head.Reads as reads
+use Rattle.printing.proofs.parts.quantifier_head.Lts as lts
+use Rattle.printing.proofs.parts.quantified.Reads as quantified-reads
+use Rattle.printing.proofs.power.BindingPower.parenthesis.Reads as parenthesis-reads
+
+parenthesis-requires : tie.Need-parenthesis-requires
+parenthesis-requires c κs = search needs
+
+quantified-requires : tie.Need-quantified-requires
+quantified-requires c κs = search needs
+
+same-length : tie.Need-same-length
+same-length c = search needs
+
+returns : tie.Need-returns
+returns c = quantifier-head (c .before .before .before .before .before .before .before .before .before .before .before .args .text .now) _ (c .before .before .before .before .before .before .parenthesis .ensures) (c .before .before .quantified .ensures)
+
+pub quantifier-head-spec : {M : Type 1} → statement M
+quantifier-head-spec =
+    tie.close (tie.spec parenthesis-requires quantified-requires same-length returns)

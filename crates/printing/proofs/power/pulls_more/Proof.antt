@@ -1,0 +1,14 @@
+use Rattle.printing.proofs.Strengths.{pulls-true, pulls-false}
+use Rattle.printing.proofs.power.pulls_more.Statement.{statement}
+use Rattle.printing.proofs.power.pulls_more.Tie as tie
+use Rattle.printing.proofs.power.pulls_more.Reads as reads
+use Rattle.printing.proofs.power.pulls_more.Lts as lts
+
+returns : tie.Need-returns
+returns c = pulls-true _ _ _ (c .if1 .taken)
+
+returns-2 : tie.Need-returns-2
+returns-2 c = pulls-false _ _ _ (c .if1 .left)
+
+pub pulls-more-spec : {M : Type 1} → statement M
+pulls-more-spec = tie.close (tie.spec returns returns-2)

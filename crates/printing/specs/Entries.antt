@@ -1,0 +1,71 @@
+-- Print an expression (document 01, "The entries"): refusals 6 to 8, and the output afterwards.
+use Rattle.grammar.specs.OperatorTrees.{mostBytes}
+use Prim.Native.Nat.{ℕ}
+use mathlib.Core.Path.{_≡_, refl}
+use mathlib.Core.Bool.{_&&_}
+use mathlib.Core.List.{List, [], _++_}
+use lib.ListN.{length, drop}
+use lib.Dec.{leb}
+use Rattle.lexing.specs.Answer.{pick}
+use Rattle.tree.specs.Ast.{Expr}
+use Rattle.tree.specs.Resolve.{bytes}
+use Rattle.tree.specs.Check.{NameIn, checkExpression}
+use Rattle.tree.specs.Tables.{expression-accepted}
+use Rattle.tree.specs.declared.Checked.{Checked}
+use Rattle.tree.specs.declared.Checked.the-variants.{Tree, Misfit, TooLong}
+use Rattle.printing.specs.declared.format.ExprFormatOption.{ExprFormatOption}
+use Rattle.printing.specs.declared.format.ExprFormatOption.the-variants.{SingleLine, MultipleLines}
+use Rattle.printing.specs.declared.Printed.{Printed}
+use Rattle.printing.specs.declared.Printed.the-variants.{Written, Refused}
+use Rattle.printing.specs.PrintUtil.{Init}
+use Rattle.printing.specs.Printer.{Expression}
+
+abbrev pub mostPrint : ℕ
+mostPrint = 65536
+
+abbrev pub mostIndent : ℕ
+mostIndent = 255
+
+-- what a print answers, and the output afterwards
+pub data Outcome : Type 0 where
+  written : ℕ → List ℕ → Outcome
+  refusal : ℕ → ℕ → List ℕ → Outcome
+
+abbrev pub outcomeOf : Printed → List ℕ → Outcome
+outcomeOf (Written n) out = written n out
+outcomeOf (Refused number place) out = refusal number place out
+
+-- the print and then the output's old bytes, or refusal 8
+unfoldable pub stored : List ℕ → List ℕ → Outcome
+stored print out =
+    pick (leb (length print) (length out) && leb (length print) mostPrint) (written (length print) (print ++ drop (length print) out)) (refusal 8 0 out)
+
+-- the tree that a checked table holds: the one whose words these are
+abbrev pub treeOf : (words : List ℕ) (len : ℕ) → checkExpression words len ≡ Tree → Expr (NameIn len)
+treeOf words len e = expression-accepted words len .0 e .1 .0
+
+-- a name as the part of the text that it occupies
+abbrev pub nameIn : (text : List ℕ) → NameIn (length text) → List ℕ
+nameIn text n = bytes text (n .span)
+
+-- the print of a table in a format, without what follows
+unfoldable pub printOf : (step : ℕ) (text : List ℕ) → ExprFormatOption → Expr (NameIn (length text)) → List ℕ
+printOf step text format e = Expression (nameIn text) step e Init format []
+
+module _ (step : ℕ) (text words : List ℕ) (format : ExprFormatOption) (out : List ℕ) where
+  -- by what the check finds: refusal 7 at the check's place
+  unfoldable pub printChecked : (c : Checked) → checkExpression words (length text) ≡ c → Outcome
+  printChecked Tree e = stored (printOf step text format (treeOf words (length text) e)) out
+  printChecked (Misfit place) e = refusal 7 place out
+  printChecked TooLong e = refusal 6 0 out
+
+abbrev pub startIndent : ExprFormatOption → ℕ
+startIndent SingleLine = 0
+startIndent (MultipleLines indent) = indent
+
+-- print expression; the check refuses too many words by 6 too
+unfoldable pub printExpression : ℕ → List ℕ → List ℕ → ExprFormatOption → List ℕ → Outcome
+printExpression step text words format out =
+    pick (leb (length text) mostBytes && leb (startIndent format) mostIndent)
+    (printChecked step text words format out (checkExpression words (length text)) refl)
+    (refusal 6 0 out)

@@ -1,0 +1,13 @@
+-- The prints of B3: PrintUtil.dfy and Printer.dfy.
+pub mod Text
+pub mod Wrote
+pub mod Code
+pub mod PrintUtil
+pub mod Printer
+pub mod Entries
+pub mod EntryLaws
+pub mod Ends
+pub mod Steps
+pub mod ExprParts
+pub mod Stores
+pub mod Examples

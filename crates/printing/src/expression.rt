@@ -1,0 +1,469 @@
+// Printer.dfy's `Expression`, over the words of a checked table. Each function prints what stands at a place and answers the place after
+// it and the place in the output.
+use crate::format::ExprFormatOption;
+use crate::forms::else_format;
+use crate::forms::else_head;
+use crate::forms::format_after;
+use crate::forms::listed_head;
+use crate::forms::operand_power;
+use crate::forms::operator_form;
+use crate::forms::pattern_head;
+use crate::forms::put_sign;
+use crate::operator::binding_strength;
+use crate::operator::put_operator;
+use crate::parts::Step;
+use crate::parts::after;
+use crate::parts::call_head;
+use crate::parts::closure_head;
+use crate::parts::closure_result;
+use crate::parts::label_head;
+use crate::parts::leaf;
+use crate::parts::let_head;
+use crate::parts::quantifier_head;
+use crate::power::BindingPower;
+use crate::power::Side;
+use crate::write::put;
+use crate::write::put_separator;
+use crate::write::put_unless;
+use tree::get;
+ghost use Prim.Native.Nat.{_<_};
+ghost use lib.ListN.{length};
+ghost use Rattle.printing.specs.Steps.{Prints};
+ghost use Rattle.printing.specs.ExprParts.{anExpr, anOperatorExpr, aCall, aLabel, aLet, aQuantifier, aClosure, aForm, aListed, aUnary, aBinary, aConditional};
+ghost use Rattle.printing.specs.ExprParts.{expressionList, patternList, triggerList, closureList, propertyList};
+
+// An expression.
+pub(crate) fn expr(
+    text: &[u8],
+    words: &[u32],
+    ends: &[u16],
+    at: usize,
+    context: BindingPower,
+    format: ExprFormatOption,
+    out: &mut [u8],
+    pos: usize,
+) -> Step
+    ensures { λ r. ⌜ Prints (anExpr (now (text .entry)) (now (words .entry)) (now (ends .entry)) at context format) (now (words .entry)) at (now (out .entry)) pos (now (out .exit)) r ⌝ }
+{
+    match get(words, at) {
+        5 => oper(text, words, ends, at, context, format, out, pos),
+        6 => call(text, words, ends, at, out, pos),
+        7 => label(text, words, ends, at, context, format, out, pos),
+        8 => let_expr(text, words, ends, at, context, format, out, pos),
+        9 => quant(text, words, ends, at, context, format, out, pos),
+        10 => lift(text, words, ends, at, out, pos),
+        _ => leaf(text, words, at, out, pos),
+    }
+}
+
+// OperatorExpr.
+fn oper(
+    text: &[u8],
+    words: &[u32],
+    ends: &[u16],
+    at: usize,
+    context: BindingPower,
+    format: ExprFormatOption,
+    out: &mut [u8],
+    pos: usize,
+) -> Step
+    requires { ⌜ at < length (now words) ⌝ }
+    ensures { λ r. ⌜ Prints (anOperatorExpr (now (text .entry)) (now (words .entry)) (now (ends .entry)) at context format) (now (words .entry)) at (now (out .entry)) pos (now (out .exit)) r ⌝ }
+{
+    let strength = binding_strength(get(words, at + 1));
+    let a = strength.parenthesis(Side::Left, context, out, pos);
+    let s = form(text, words, ends, at, context, format, out, a);
+    Step {
+        next: s.next,
+        pos: strength.parenthesis(Side::Right, context, out, s.pos),
+    }
+}
+
+// The alternative of an operator by the number of its operands.
+fn form(
+    text: &[u8],
+    words: &[u32],
+    ends: &[u16],
+    at: usize,
+    context: BindingPower,
+    format: ExprFormatOption,
+    out: &mut [u8],
+    pos: usize,
+) -> Step
+    requires { ⌜ at < length (now words) ⌝ }
+    ensures { λ r. ⌜ Prints (aForm (now (text .entry)) (now (words .entry)) (now (ends .entry)) at context format) (now (words .entry)) at (now (out .entry)) pos (now (out .exit)) r ⌝ }
+{
+    match operator_form(words, ends, at) {
+        1 => unary(text, words, ends, at, context, format, out, pos),
+        2 => binary(text, words, ends, at, context, format, out, pos),
+        3 => cond(text, words, ends, at, context, format, out, pos),
+        _ => listed(text, words, ends, at, out, pos),
+    }
+}
+
+fn unary(
+    text: &[u8],
+    words: &[u32],
+    ends: &[u16],
+    at: usize,
+    context: BindingPower,
+    format: ExprFormatOption,
+    out: &mut [u8],
+    pos: usize,
+) -> Step
+    requires { ⌜ at < length (now words) ⌝ }
+    ensures { λ r. ⌜ Prints (aUnary (now (text .entry)) (now (words .entry)) (now (ends .entry)) at context format) (now (words .entry)) at (now (out .entry)) pos (now (out .exit)) r ⌝ }
+{
+    let op = at + 1;
+    let right = operand_power(words, op, Side::Right, context);
+    let a = put_operator(out, pos, get(words, op));
+    let s = expr(
+        text,
+        words,
+        ends,
+        at + 3,
+        right,
+        ExprFormatOption::SingleLine,
+        out,
+        a,
+    );
+    Step {
+        next: after(words, s.next),
+        pos: s.pos,
+    }
+}
+
+fn binary(
+    text: &[u8],
+    words: &[u32],
+    ends: &[u16],
+    at: usize,
+    context: BindingPower,
+    format: ExprFormatOption,
+    out: &mut [u8],
+    pos: usize,
+) -> Step
+    requires { ⌜ at < length (now words) ⌝ }
+    ensures { λ r. ⌜ Prints (aBinary (now (text .entry)) (now (words .entry)) (now (ends .entry)) at context format) (now (words .entry)) at (now (out .entry)) pos (now (out .exit)) r ⌝ }
+{
+    let op = at + 1;
+    let left = operand_power(words, op, Side::Left, context);
+    let s = expr(
+        text,
+        words,
+        ends,
+        at + 3,
+        left,
+        ExprFormatOption::SingleLine,
+        out,
+        pos,
+    );
+    let broken = format_after(words, op, format);
+    let a = put_sign(words, op, broken, out, s.pos);
+    let right = operand_power(words, op, Side::Right, context);
+    let second = after(words, s.next);
+    let t = expr(text, words, ends, second, right, broken, out, a);
+    Step {
+        next: after(words, t.next),
+        pos: t.pos,
+    }
+}
+
+// IfThenElse of three operands.
+fn cond(
+    text: &[u8],
+    words: &[u32],
+    ends: &[u16],
+    at: usize,
+    context: BindingPower,
+    format: ExprFormatOption,
+    out: &mut [u8],
+    pos: usize,
+) -> Step
+    requires { ⌜ at < length (now words) ⌝ }
+    ensures { λ r. ⌜ Prints (aConditional (now (text .entry)) (now (words .entry)) (now (ends .entry)) at context format) (now (words .entry)) at (now (out .entry)) pos (now (out .exit)) r ⌝ }
+{
+    let a = put(out, pos, b"if ");
+    let s = expr(
+        text,
+        words,
+        ends,
+        at + 3,
+        BindingPower::INIT,
+        ExprFormatOption::SingleLine,
+        out,
+        a,
+    );
+    let second = after(words, s.next);
+    let ind = format.more();
+    let b = ind.space(out, s.pos);
+    let t = expr(text, words, ends, second, BindingPower::INIT, ind, out, b);
+    let third = after(words, t.next);
+    let c = else_head(text, words, third, format, out, t.pos);
+    let right = operand_power(words, at + 1, Side::Right, context);
+    let u = expr(
+        text,
+        words,
+        ends,
+        third,
+        right,
+        else_format(text, words, third, format),
+        out,
+        c,
+    );
+    Step {
+        next: after(words, u.next),
+        pos: u.pos,
+    }
+}
+
+// `op(args)`.
+fn listed(text: &[u8], words: &[u32], ends: &[u16], at: usize, out: &mut [u8], pos: usize) -> Step
+    requires { ⌜ at < length (now words) ⌝ }
+    ensures { λ r. ⌜ Prints (aListed (now (text .entry)) (now (words .entry)) (now (ends .entry)) at) (now (words .entry)) at (now (out .entry)) pos (now (out .exit)) r ⌝ }
+{
+    let a = listed_head(words, at + 1, out, pos);
+    let s = list(text, words, ends, at + 2, true, out, a);
+    Step {
+        next: s.next,
+        pos: put(out, s.pos, b")"),
+    }
+}
+
+// FunctionCallExpr.
+fn call(text: &[u8], words: &[u32], ends: &[u16], at: usize, out: &mut [u8], pos: usize) -> Step
+    requires { ⌜ at < length (now words) ⌝ }
+    ensures { λ r. ⌜ Prints (aCall (now (text .entry)) (now (words .entry)) (now (ends .entry)) at) (now (words .entry)) at (now (out .entry)) pos (now (out .exit)) r ⌝ }
+{
+    let s = call_head(text, words, at + 1, out, pos);
+    let t = list(text, words, ends, s.next, true, out, s.pos);
+    Step {
+        next: t.next,
+        pos: put(out, t.pos, b")"),
+    }
+}
+
+// LabeledExpr.
+fn label(
+    text: &[u8],
+    words: &[u32],
+    ends: &[u16],
+    at: usize,
+    context: BindingPower,
+    format: ExprFormatOption,
+    out: &mut [u8],
+    pos: usize,
+) -> Step
+    requires { ⌜ at < length (now words) ⌝ }
+    ensures { λ r. ⌜ Prints (aLabel (now (text .entry)) (now (words .entry)) (now (ends .entry)) at context format) (now (words .entry)) at (now (out .entry)) pos (now (out .exit)) r ⌝ }
+{
+    let s = label_head(text, words, at + 1, context, out, pos);
+    let right = BindingPower::ENDLESS_OPERATOR.subexpression_power(Side::Right, context);
+    let t = expr(text, words, ends, s.next, right, format, out, s.pos);
+    Step {
+        next: t.next,
+        pos: BindingPower::ENDLESS_OPERATOR.parenthesis(Side::Right, context, out, t.pos),
+    }
+}
+
+// LetExpr.
+fn let_expr(
+    text: &[u8],
+    words: &[u32],
+    ends: &[u16],
+    at: usize,
+    context: BindingPower,
+    format: ExprFormatOption,
+    out: &mut [u8],
+    pos: usize,
+) -> Step
+    requires { ⌜ at < length (now words) ⌝ }
+    ensures { λ r. ⌜ Prints (aLet (now (text .entry)) (now (words .entry)) (now (ends .entry)) at context format) (now (words .entry)) at (now (out .entry)) pos (now (out .exit)) r ⌝ }
+{
+    let s = let_head(text, words, at + 1, context, out, pos);
+    let t = expr(
+        text,
+        words,
+        ends,
+        s.next,
+        BindingPower::INIT,
+        ExprFormatOption::SingleLine,
+        out,
+        s.pos,
+    );
+    let a = format.space(out, t.pos);
+    let right = BindingPower::ENDLESS_OPERATOR.subexpression_power(Side::Right, context);
+    let u = expr(text, words, ends, t.next, right, format, out, a);
+    Step {
+        next: u.next,
+        pos: BindingPower::ENDLESS_OPERATOR.parenthesis(Side::Right, context, out, u.pos),
+    }
+}
+
+// QuantifierExpr.
+fn quant(
+    text: &[u8],
+    words: &[u32],
+    ends: &[u16],
+    at: usize,
+    context: BindingPower,
+    format: ExprFormatOption,
+    out: &mut [u8],
+    pos: usize,
+) -> Step
+    requires { ⌜ at < length (now words) ⌝ }
+    ensures { λ r. ⌜ Prints (aQuantifier (now (text .entry)) (now (words .entry)) (now (ends .entry)) at context format) (now (words .entry)) at (now (out .entry)) pos (now (out .exit)) r ⌝ }
+{
+    let s = quantifier_head(text, words, at + 1, context, out, pos);
+    let ind = format.more();
+    let t = patterns(text, words, ends, s.next, ind, out, s.pos);
+    let a = ind.space(out, t.pos);
+    let right = BindingPower::ENDLESS_OPERATOR.subexpression_power(Side::Right, context);
+    let u = expr(text, words, ends, t.next, right, ind, out, a);
+    Step {
+        next: u.next,
+        pos: BindingPower::ENDLESS_OPERATOR.parenthesis(Side::Right, context, out, u.pos),
+    }
+}
+
+// ClosureExpr.
+fn lift(text: &[u8], words: &[u32], ends: &[u16], at: usize, out: &mut [u8], pos: usize) -> Step
+    requires { ⌜ at < length (now words) ⌝ }
+    ensures { λ r. ⌜ Prints (aClosure (now (text .entry)) (now (words .entry)) (now (ends .entry)) at) (now (words .entry)) at (now (out .entry)) pos (now (out .exit)) r ⌝ }
+{
+    let a = put(out, pos, b"lift ");
+    let s = closures(text, words, ends, at + 1, true, out, a);
+    let t = closure_result(text, words, s.next, out, s.pos);
+    let u = properties(text, words, ends, t.next, true, out, t.pos);
+    Step {
+        next: u.next,
+        pos: put(out, u.pos, b" }"),
+    }
+}
+
+// `ExpressionList`.
+fn list(
+    text: &[u8],
+    words: &[u32],
+    ends: &[u16],
+    at: usize,
+    first: bool,
+    out: &mut [u8],
+    pos: usize,
+) -> Step
+    ensures { λ r. ⌜ Prints (expressionList (now (text .entry)) (now (words .entry)) (now (ends .entry)) at first) (now (words .entry)) at (now (out .entry)) pos (now (out .exit)) r ⌝ }
+{
+    let inner = after(words, at);
+    if get(words, at) == 0 {
+        return Step { next: inner, pos };
+    }
+    let a = put_separator(out, pos, first);
+    let s = expr(
+        text,
+        words,
+        ends,
+        inner,
+        BindingPower::INIT,
+        ExprFormatOption::SingleLine,
+        out,
+        a,
+    );
+    list(text, words, ends, s.next, false, out, s.pos)
+}
+
+// A quantifier's patterns.
+fn patterns(
+    text: &[u8],
+    words: &[u32],
+    ends: &[u16],
+    at: usize,
+    ind: ExprFormatOption,
+    out: &mut [u8],
+    pos: usize,
+) -> Step
+    ensures { λ r. ⌜ Prints (patternList (now (text .entry)) (now (words .entry)) (now (ends .entry)) at ind) (now (words .entry)) at (now (out .entry)) pos (now (out .exit)) r ⌝ }
+{
+    let inner = after(words, at);
+    if get(words, at) == 0 {
+        return Step { next: inner, pos };
+    }
+    let a = pattern_head(ind, out, pos);
+    let s = list(text, words, ends, inner, true, out, a);
+    patterns(text, words, ends, s.next, ind, out, s.pos)
+}
+
+// A closure property's triggers.
+fn triggers(text: &[u8], words: &[u32], ends: &[u16], at: usize, out: &mut [u8], pos: usize) -> Step
+    ensures { λ r. ⌜ Prints (triggerList (now (text .entry)) (now (words .entry)) (now (ends .entry)) at) (now (words .entry)) at (now (out .entry)) pos (now (out .exit)) r ⌝ }
+{
+    let inner = after(words, at);
+    if get(words, at) == 0 {
+        return Step { next: inner, pos };
+    }
+    let a = put(out, pos, b"trigger ");
+    let s = list(text, words, ends, inner, true, out, a);
+    let b = put(out, s.pos, b" ");
+    triggers(text, words, ends, s.next, out, b)
+}
+
+// A closure's bindings.
+fn closures(
+    text: &[u8],
+    words: &[u32],
+    ends: &[u16],
+    at: usize,
+    first: bool,
+    out: &mut [u8],
+    pos: usize,
+) -> Step
+    ensures { λ r. ⌜ Prints (closureList (now (text .entry)) (now (words .entry)) (now (ends .entry)) at first) (now (words .entry)) at (now (out .entry)) pos (now (out .exit)) r ⌝ }
+{
+    let inner = after(words, at);
+    if get(words, at) == 0 {
+        return Step { next: inner, pos };
+    }
+    let s = closure_head(text, words, inner, first, out, pos);
+    let t = expr(
+        text,
+        words,
+        ends,
+        s.next,
+        BindingPower::INIT,
+        ExprFormatOption::SingleLine,
+        out,
+        s.pos,
+    );
+    closures(text, words, ends, t.next, false, out, t.pos)
+}
+
+// A closure's properties.
+fn properties(
+    text: &[u8],
+    words: &[u32],
+    ends: &[u16],
+    at: usize,
+    first: bool,
+    out: &mut [u8],
+    pos: usize,
+) -> Step
+    ensures { λ r. ⌜ Prints (propertyList (now (text .entry)) (now (words .entry)) (now (ends .entry)) at first) (now (words .entry)) at (now (out .entry)) pos (now (out .exit)) r ⌝ }
+{
+    let inner = after(words, at);
+    if get(words, at) == 0 {
+        return Step { next: inner, pos };
+    }
+    let a = put_separator(out, pos, first);
+    let s = triggers(text, words, ends, inner, out, a);
+    let b = put_unless(out, s.pos, get(words, inner) == 0, b":: ");
+    let t = expr(
+        text,
+        words,
+        ends,
+        s.next,
+        BindingPower::INIT,
+        ExprFormatOption::SingleLine,
+        out,
+        b,
+    );
+    properties(text, words, ends, t.next, false, out, t.pos)
+}

@@ -1,0 +1,82 @@
+// Writing into a buffer. A place past the buffer's end says that what was to be written did not fit, and stays so.
+ghost use mathlib.Core.Path.{_≡_};
+ghost use mathlib.Core.List.{_++_};
+ghost use Prim.Native.Nat.{_+_, _≤_};
+ghost use lib.ListN.{length, take, drop, replicate};
+ghost use Rattle.grammar.specs.Words.{bytes as text};
+ghost use Rattle.printing.specs.Text.{decimal};
+ghost use Rattle.printing.specs.Wrote.{Wrote};
+ghost use Rattle.printing.specs.Code.{unless};
+
+// Stores bytes where they fit.
+pub(crate) fn store(out: &mut [u8], pos: usize, bytes: &[u8])
+    requires { ⌜ pos + length (now bytes) ≤ length (now out) ⌝ }
+    ensures { λ _. ⌜ now (out .exit) ≡ take pos (now (out .entry)) ++ now (bytes .entry) ++ drop (pos + length (now (bytes .entry))) (now (out .entry)) ⌝ }
+{
+    let mut i = 0;
+    while i < bytes.len() {
+        out[pos + i] = bytes[i];
+        i += 1;
+    }
+}
+
+// Writes `bytes` at `pos`; answers the place after them.
+pub(crate) fn put(out: &mut [u8], pos: usize, bytes: &[u8]) -> usize
+    ensures { λ r. ⌜ Wrote (λ rest. now (bytes .entry) ++ rest) (now (out .entry)) pos (now (out .exit)) r ⌝ }
+{
+    if out.len() < pos {
+        return out.len() + 1;
+    }
+    if out.len() - pos < bytes.len() {
+        return out.len() + 1;
+    }
+    store(out, pos, bytes);
+    pos + bytes.len()
+}
+
+// Writes `bytes`, unless `skip`.
+pub(crate) fn put_unless(out: &mut [u8], pos: usize, skip: bool, bytes: &[u8]) -> usize
+    ensures { λ r. ⌜ Wrote (λ rest. unless skip (now (bytes .entry)) ++ rest) (now (out .entry)) pos (now (out .exit)) r ⌝ }
+{
+    if skip {
+        return pos;
+    }
+    put(out, pos, bytes)
+}
+
+// Writes the separator of a list, unless before its first item.
+pub(crate) fn put_separator(out: &mut [u8], pos: usize, first: bool) -> usize
+    ensures { λ r. ⌜ Wrote (λ rest. unless first (text ", ") ++ rest) (now (out .entry)) pos (now (out .exit)) r ⌝ }
+{
+    put_unless(out, pos, first, b", ")
+}
+
+// Writes `n` spaces.
+pub(crate) fn put_indent(out: &mut [u8], pos: usize, n: usize) -> usize
+    ensures { λ r. ⌜ Wrote (λ rest. replicate n 32 ++ rest) (now (out .entry)) pos (now (out .exit)) r ⌝ }
+{
+    if out.len() < pos {
+        return out.len() + 1;
+    }
+    if out.len() - pos < n {
+        return out.len() + 1;
+    }
+    let mut i = 0;
+    while i < n {
+        out[pos + i] = b' ';
+        i += 1;
+    }
+    pos + n
+}
+
+// Writes a natural in decimal.
+pub(crate) fn put_decimal(out: &mut [u8], pos: usize, value: u64) -> usize
+    ensures { λ r. ⌜ Wrote (decimal value) (now (out .entry)) pos (now (out .exit)) r ⌝ }
+{
+    let digit = [(48 + value % 10) as u8];
+    if value < 10 {
+        return put(out, pos, &digit);
+    }
+    let next = put_decimal(out, pos, value / 10);
+    put(out, next, &digit)
+}

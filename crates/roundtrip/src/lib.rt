@@ -1,0 +1,1 @@
+// That prints are read back; see specs/.
