@@ -1,4 +1,5 @@
--- What is proved of the operator grammar (document 01, "The operator grammar"), from the definitions in Words, Tokens, Grammar and Parser.
+-- What is proved of the operator grammar (document 01, "The operator grammar"), from the definitions in Words, Tokens, Grammar and Parser, and of
+-- the reading rules, from those in Steps, Rules and Reading.
 use Prim.Native.Nat.{ℕ, _≤_, _<_}
 use lib.ListN.{length}
 use mathlib.Core.Path.{_≡_}
@@ -6,14 +7,18 @@ use mathlib.Core.Logic.{_↔_}
 use mathlib.Core.Bool.{true}
 use mathlib.Core.List.{List, []}
 use mathlib.Core.Option.{none, some}
+use Rattle.lexing.specs.Answer.{ok}
 use Rattle.tree.specs.Ast.{Span, Expr}
 use Rattle.tree.specs.Resolve.{bytes, resolveExpr}
 use Rattle.tree.specs.Words.{exprWords}
 use Rattle.tree.specs.Claims.{expression-count}
 use Rattle.grammar.specs.Tokens.{Token, cut}
 use Rattle.grammar.specs.Grammar.{Tree, Whole, Derives}
-use Rattle.grammar.specs.OperatorTrees.{OperatorTree, smallNaturals, wordCount}
+use Rattle.grammar.specs.OperatorTrees.{OperatorTree, smallNaturals, wordCount, DerivesWithin}
 use Rattle.grammar.specs.Parser.{parse, whole, parseExpr}
+use Rattle.grammar.specs.Reading.{words, readTree, readExpression}
+use Rattle.grammar.specs.TreeRead.{GivesTree}
+use Rattle.grammar.specs.Bridge.Limits.{read-derives, gives-derives, derives-gives, derives-operators, gives-same}
 use Rattle.grammar.specs.Laws.Exact.{parse-sound, parse-complete, no-parse, deeper, unambiguous}
 use Rattle.grammar.specs.Laws.Every.{allLegal, legal, derived-operators}
 use Rattle.grammar.specs.Laws.Limited.{limited, parse-limited}
@@ -51,3 +56,23 @@ derived-tree-is-operators d text t = derived-operators d (cut text) t
 -- The words counted for a tree with names as bytes are those of the tree with names as spans that it comes from.
 pub words-counted : (text : List ℕ) (t : Expr Span) → wordCount (resolveExpr text t) ≡ length (exprWords (λ s. s) t [])
 words-counted text t = expression-count (bytes text) _ _ t
+
+-- ---- the reading rules
+
+-- Whatever the text and the table of n words, reading by the rules gives an operator tree exactly when the text has a derivation that keeps the
+-- limits (text length, depth, naturals, words against the table and 16,384), and it is the derivation's tree.
+pub reader-exact : (text : List ℕ) (n : ℕ) (t : Tree) → (GivesTree text n t × OperatorTree t) ↔ DerivesWithin n text t
+reader-exact text n t = (λ r. gives-derives text n (r .0) (r .1), λ d. (derives-gives text n d, derives-operators d))
+
+-- The tree of a derivation that keeps the limits is what is read: the form that the read-back of prints cites.
+pub derivation-is-read : (text : List ℕ) (n : ℕ) (t : Tree) → DerivesWithin n text t → GivesTree text n t
+derivation-is-read text n t = derives-gives text n
+
+-- An operator tree that is stored has a derivation that keeps the limits.
+pub reading-is-derived : (text : List ℕ) (n k : ℕ) (ws : List ℕ) (e : Expr Span) (next : ℕ) → readExpression text n ≡ words k ws → readTree text ≡ ok e next
+    → OperatorTree (resolveExpr text e) → DerivesWithin n text (resolveExpr text e)
+reading-is-derived text n k ws e next = read-derives text n
+
+-- A text that has a derivation within the limits is read as no other tree.
+pub no-other-tree : (text : List ℕ) (n : ℕ) (t u : Tree) → DerivesWithin n text t → GivesTree text n u → u ≡ t
+no-other-tree text n t u d g = gives-same text n g (derives-gives text n d)

@@ -1,1 +1,1 @@
-// The operator grammar of B3: definitions and theorems, see specs/.
+// What is read: the operator grammar of B3 and the reading rules, as definitions and theorems; see specs/.

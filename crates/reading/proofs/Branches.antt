@@ -8,10 +8,10 @@ use types.Run.{OneOf}
 use denote.Enum.Declared.{tagOf}
 use Rattle.lexing.specs.Answer.{Answer, ok, refused}
 use Rattle.tree.specs.Ast.{Expr, Span}
-use Rattle.reading.specs.Steps.{Reader, after, need, _or_}
-use Rattle.reading.specs.Rules.{parseCommaDelimitedSeq, parseListed, afterBar, afterOld, afterCall, afterColon, afterLabel, afterName}
+use Rattle.grammar.specs.Steps.{Reader, after, need, _or_}
+use Rattle.grammar.specs.Rules.{parseCommaDelimitedSeq, parseListed, afterBar, afterOld, afterCall, afterColon, afterLabel, afterName}
 use Rattle.reading.specs.Arena.{Run, Agrees, Builds}
-use Rattle.reading.specs.Bridge.Relation.{Ends, refuses, reads, ends-after, ends-then}
+use Rattle.grammar.specs.Bridge.Relation.{Ends, refuses, reads, ends-after, ends-then}
 use Rattle.reading.specs.declared.arena.Built.{Built}
 use Rattle.reading.specs.declared.arena.Built.the-variants.{Ok, None, Refused}
 use Rattle.reading.proofs.arena.Built.{the-type as built-type}

@@ -12,10 +12,10 @@ use Rattle.lexing.specs.Answer.{Answer, ok, refused, pick}
 use Rattle.tree.specs.Ast.{Span, Expr, Operator, LogicalImp}
 use Rattle.tree.specs.Words.{operatorWord}
 use Rattle.grammar.specs.Grammar.{Build, straight, swapped, build, single, Class, implication}
-use Rattle.reading.specs.Steps.{Reader, after, need, mapped, Sym}
-use Rattle.reading.specs.Rules.{leftTail, rightTail, onceTail, unaryTail, impliesOperator, expliesOperator, andOperator, orOperator, unaryOperator}
-use Rattle.reading.specs.Rules.{parsePrimaryExpr, parseUnaryExpr, parseTermExpr, parseJuctExpr, logicalTail, parseLogicalExpr, impExpTail, parseImpExpExpr}
-use Rattle.reading.specs.Reading.{treeWords}
+use Rattle.grammar.specs.Steps.{Reader, after, need, mapped, Sym}
+use Rattle.grammar.specs.Rules.{leftTail, rightTail, onceTail, unaryTail, impliesOperator, expliesOperator, andOperator, orOperator, unaryOperator}
+use Rattle.grammar.specs.Rules.{parsePrimaryExpr, parseUnaryExpr, parseTermExpr, parseJuctExpr, logicalTail, parseLogicalExpr, impExpTail, parseImpExpExpr}
+use Rattle.grammar.specs.Reading.{treeWords}
 use Rattle.reading.specs.Arena.{Run, Node, Holds, Kept, Noted, Room, Found, Builds, neededAt}
 use Rattle.reading.specs.Code.{turns, inner, operatorOf, tighterOf, leftChain, rightChain, Begun, Signs, Stands, wordOf, swapOf, noSwap}
 use Rattle.reading.specs.Code.{Layer, unaryLayer, binaryLayer, layered, foldLayers, Links, Folds, Foldable, FoldedAt}

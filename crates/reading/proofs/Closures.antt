@@ -12,8 +12,8 @@ use Rattle.lexing.proofs.token.Lexed.{the-type as lexed-type}
 use Rattle.tree.specs.Ast.{Span, Binding, binding, Expr, ClosureExpr, Exprs, Patterns, noPatterns, pattern}
 use Rattle.tree.specs.Words.{boolWord, bindingWords, nameWords}
 use Rattle.grammar.specs.Words.{bytes}
-use Rattle.reading.specs.Steps.{Reader, after, need, mapped, T, Sym, parseName, parseType}
-use Rattle.reading.specs.Rules.{exprs, closures, properties, ItemOf, parseNonemptyCommaDelimitedSeq, parseListed, parseMarked, parseIdType, parseClosureBinding, parseClosureProperty, afterTriggers, afterLift}
+use Rattle.grammar.specs.Steps.{Reader, after, need, mapped, T, Sym, parseName, parseType}
+use Rattle.grammar.specs.Rules.{exprs, closures, properties, ItemOf, parseNonemptyCommaDelimitedSeq, parseListed, parseMarked, parseIdType, parseClosureBinding, parseClosureProperty, afterTriggers, afterLift}
 use Rattle.reading.specs.Arena.{Node, Holds}
 use Rattle.reading.specs.Code.{Tells, HasTrigger, NoTrigger, universalOf, same}
 

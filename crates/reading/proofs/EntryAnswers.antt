@@ -15,12 +15,12 @@ use Rattle.lexing.specs.Code.{reachOf}
 use Rattle.lexing.specs.declared.blank.Reach.{Reach}
 use Rattle.lexing.specs.declared.blank.Reach.the-variants.{Passed, Unclosed}
 use Rattle.tree.specs.Ast.{Span, Expr}
-use Rattle.reading.specs.Steps.{after, need}
+use Rattle.grammar.specs.Steps.{after, need}
 use Rattle.reading.specs.Arena.{Run, Holds, Room, Found, Builds}
 use Rattle.reading.specs.Code.{inner}
-use Rattle.reading.specs.Reading.{treeWords}
+use Rattle.grammar.specs.Reading.{treeWords}
 use Rattle.reading.specs.Flat.{Rooted, Flattened, Buffers}
-use Rattle.reading.specs.Reading.{Outcome, words, refusal, stored, outcome, toEnd, parseText, readTree, readExpression}
+use Rattle.grammar.specs.Reading.{Outcome, words, refusal, stored, outcome, toEnd, parseText, readTree, readExpression}
 use Rattle.reading.specs.Code.{outcomeOf}
 use Rattle.grammar.specs.OperatorTrees.{mostWords, mostBytes}
 use Rattle.reading.specs.declared.arena.Built.{Built}

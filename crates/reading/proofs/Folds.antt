@@ -7,7 +7,7 @@ use lib.ListN.{length, getD}
 use Rattle.tree.specs.Ast.{Expr, Span}
 use Rattle.reading.specs.Arena.{Holds, Kept}
 use Rattle.reading.specs.Code.{Layer, unaryLayer, binaryLayer, layered, foldLayers, Links, Folds, Foldable, FoldedAt, LayerNoted}
-use Rattle.reading.specs.Reading.{treeWords}
+use Rattle.grammar.specs.Reading.{treeWords}
 use Rattle.reading.specs.declared.arena.Built.the-variants.{Ok}
 use Rattle.reading.proofs.Laws.{kept-refl, kept-next, node-kept, holds-kept}
 

@@ -17,13 +17,13 @@ use Rattle.lexing.specs.TokenLaws.{Within, natural-within, keyword-is, startsWi
 use Rattle.lexing.specs.declared.token.Lexed.{Lexed}
 use Rattle.tree.specs.Ast.{Span, Expr}
 use Rattle.grammar.specs.Words.{bytes}
-use Rattle.reading.specs.Steps.{Reader, after, Sym, keywordAt, spanned, parseName, parseNat}
-use Rattle.reading.specs.Rules.{opensAt, opensExpr, parseExpr, parseEquivExpr, parsePrimaryExpr, parseAtomicExpr}
+use Rattle.grammar.specs.Steps.{Reader, after, Sym, keywordAt, spanned, parseName, parseNat}
+use Rattle.grammar.specs.Rules.{opensAt, opensExpr, parseExpr, parseEquivExpr, parsePrimaryExpr, parseAtomicExpr}
 use Rattle.reading.specs.Arena.{Agrees, Builds, Stopped}
 use Rattle.reading.specs.Code.{Took, Worded, span, inner, turns, unwordedExpr}
-use Rattle.reading.specs.Reading.{treeWords}
+use Rattle.grammar.specs.Reading.{treeWords}
 use Rattle.grammar.specs.Laws.Steps.{impossible}
-use Rattle.reading.specs.Bridge.Tests.{Stands, word, digits, other, nowhere, stands}
+use Rattle.grammar.specs.Bridge.Tests.{Stands, word, digits, other, nowhere, stands}
 use Rattle.reading.specs.declared.arena.Built.{Built}
 use Rattle.reading.specs.declared.arena.Built.the-variants.{Ok, None, Refused}
 use Rattle.reading.proofs.Laws.{kept-refl}

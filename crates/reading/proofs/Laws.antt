@@ -12,7 +12,7 @@ use Rattle.lexing.specs.Answer.{Answer, ok, refused}
 use Rattle.lexing.specs.declared.token.Lexed.{Lexed}
 use Rattle.lexing.specs.declared.token.Lexed.the-variants.{Ok as LexedOk, None as LexedNone, Refused as LexedRefused}
 use Rattle.lexing.proofs.token.Lexed.{the-type as lexed-type}
-use Rattle.reading.specs.Steps.{after, need}
+use Rattle.grammar.specs.Steps.{after, need}
 use Rattle.reading.specs.Arena.{Run, Node, Holds, Kept, Found, Agrees, Builds, Stopped, neededAt}
 use Rattle.reading.specs.Code.{Took, Tells, Stands, Signs, missingAt, untakenAt}
 use Rattle.reading.specs.declared.arena.Built.{Built}

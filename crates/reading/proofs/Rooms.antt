@@ -6,10 +6,10 @@ use mathlib.Core.List.{List, _∷_}
 use lib.ListN.{length}
 use Rattle.lexing.specs.Answer.{Answer}
 use Rattle.tree.specs.Ast.{Expr, Span}
-use Rattle.reading.specs.Steps.{Reader}
+use Rattle.grammar.specs.Steps.{Reader}
 use Rattle.reading.specs.Arena.{Run, Room, Kept, Found, Holds}
 use Rattle.reading.specs.Code.{Begun, Choice, Four}
-use Rattle.reading.specs.Reading.{treeWords}
+use Rattle.grammar.specs.Reading.{treeWords}
 use Rattle.reading.proofs.Laws.{holds-kept}
 
 pub room-on : {text arena later : List ℕ} {at top credit at₁ top₁ credit₁ : ℕ} → Room text arena at top credit → Kept arena later top → top ≤ top₁

@@ -11,8 +11,8 @@ use denote.Enum.Declared.{tagOf}
 use Rattle.lexing.specs.Answer.{Answer, ok, refused}
 use Rattle.tree.specs.Ast.{Span, Expr, noPatterns, pattern}
 use Rattle.tree.specs.Words.{exprsWords, patternsWords}
-use Rattle.reading.specs.Steps.{Reader, after, need, mapped, Sym, signAt, keywordAt}
-use Rattle.reading.specs.Rules.{Sequence, exprs, bindings, closures, properties, ItemOf, ListOf, nil, cons, commaTail, parseNonemptyCommaDelimitedSeq, parseCommaDelimitedSeq, parseListed, parseMarked}
+use Rattle.grammar.specs.Steps.{Reader, after, need, mapped, Sym, signAt, keywordAt}
+use Rattle.grammar.specs.Rules.{Sequence, exprs, bindings, closures, properties, ItemOf, ListOf, nil, cons, commaTail, parseNonemptyCommaDelimitedSeq, parseCommaDelimitedSeq, parseListed, parseMarked}
 use Rattle.reading.specs.Arena.{Run, Node, Holds, Kept, Noted, Found, Builds, neededAt}
 use Rattle.reading.specs.Code.{endCredit, Shuts, listWords, itemWords, same, turns}
 use Rattle.reading.specs.declared.arena.Built.{Built}

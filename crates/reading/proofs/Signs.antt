@@ -10,7 +10,7 @@ use denote.Enum.Declared.{tagOf}
 use Rattle.lexing.specs.Answer.{Answer, ok, refused}
 use Rattle.lexing.specs.declared.token.Lexed.{Lexed}
 use Rattle.lexing.specs.declared.token.Lexed.the-variants.{Ok as LexedOk, None as LexedNone, Refused as LexedRefused}
-use Rattle.reading.specs.Steps.{mapped, _or_}
+use Rattle.grammar.specs.Steps.{mapped, _or_}
 use Rattle.reading.specs.Code.{Tells, Signs, whereRead}
 use Rattle.reading.specs.declared.sign.Sign.{Sign}
 use Rattle.reading.specs.declared.sign.Sign.the-variants.{Found as SignFound, None as SignNone, Refused as SignRefused}

@@ -15,7 +15,7 @@ use Rattle.lexing.specs.Laws.{pick-case}
 use Rattle.lexing.specs.TokenLaws.{Within, keyword-within, sign-within, signNotPrefix-within, parseId-within, parseCustomLiteral-within}
 use Rattle.lexing.specs.declared.token.Lexed.{Lexed}
 use Rattle.lexing.specs.declared.token.Lexed.the-variants.{Ok as LexedOk, None as LexedNone, Refused as LexedRefused}
-use Rattle.reading.specs.Steps.{mapped}
+use Rattle.grammar.specs.Steps.{mapped}
 use Rattle.reading.specs.Code.{Tells, span, movedOf, placed}
 use Rattle.reading.proofs.Laws.{after-ok, after-none, after-refused}
 

@@ -12,9 +12,9 @@ use Rattle.lexing.specs.declared.token.Lexed.the-variants.{Ok as LexedOk, None 
 use Rattle.tree.specs.Ast.{Span, Expr, ILiteral, Operator, OperatorExpr, noExprs, _then_, Patterns, Binding}
 use Rattle.tree.specs.Words.{operatorWord, exprWords, exprsWords, patternsWords, closureBindingsWords, closurePropertiesWords, nameWords, bindingWords, seqWords, optionWords}
 use Rattle.grammar.specs.Grammar.{Build, straight, swapped, single, Class, product, sum, comparison, conjunction, disjunction, implication, explication, equivalence}
-use Rattle.reading.specs.Steps.{Reader, after, need, mapped, _or_, Sym, T, signAt, parseName, parseNat}
-use Rattle.reading.specs.Rules.{Sequence, exprs, bindings, closures, properties, ItemOf, ListOf, leftTail, rightTail, equivOperator, impliesOperator, expliesOperator, andOperator, orOperator, parseComparisonOperator, termOperator, factorOperator, parseIdType, parseClosureBinding, parseClosureProperty, parseUnaryExpr, parseFactorExpr, parseTermExpr, parseJuctExpr, parseLogicalExpr, parseImpExpExpr, parseExpr, afterParen, afterBar}
-use Rattle.reading.specs.Reading.{Outcome, words, refusal, treeWords}
+use Rattle.grammar.specs.Steps.{Reader, after, need, mapped, _or_, Sym, T, signAt, parseName, parseNat}
+use Rattle.grammar.specs.Rules.{Sequence, exprs, bindings, closures, properties, ItemOf, ListOf, leftTail, rightTail, equivOperator, impliesOperator, expliesOperator, andOperator, orOperator, parseComparisonOperator, termOperator, factorOperator, parseIdType, parseClosureBinding, parseClosureProperty, parseUnaryExpr, parseFactorExpr, parseTermExpr, parseJuctExpr, parseLogicalExpr, parseImpExpExpr, parseExpr, afterParen, afterBar}
+use Rattle.grammar.specs.Reading.{Outcome, words, refusal, treeWords}
 use Rattle.reading.specs.Arena.{Run, Node, Holds, Kept, Builds}
 use Rattle.reading.specs.declared.arena.Built.{Built}
 use Rattle.reading.specs.declared.arena.Built.the-variants.{Ok, None, Refused}

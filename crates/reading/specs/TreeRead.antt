@@ -1,24 +1,15 @@
--- What it is to read a tree (document 01, "The entries" and "The operator grammar"): the terms of demand 3's second claim.
+-- What it is that the code gives a tree: the terms of demand 3's second claim.
 use Prim.Native.Nat.{ℕ, _-_}
 use mathlib.Core.Path.{_≡_}
 use mathlib.Core.List.{List, [], _++_}
 use lib.ListN.{length, replicate}
-use Rattle.lexing.specs.Answer.{ok}
 use Rattle.tree.specs.Ast.{Span, Expr}
 use Rattle.tree.specs.Resolve.{resolveExpr}
 use Rattle.grammar.specs.Grammar.{Tree}
-use Rattle.reading.specs.Reading.{words, treeWords, readTree, readExpression}
+use Rattle.grammar.specs.Reading.{treeWords, readExpression}
 use Rattle.reading.specs.Code.{outcomeOf}
 use Rattle.reading.specs.declared.entry.Reading.{Reading}
 use Rattle.reading.specs.declared.entry.Reading.the-variants.{Words}
-
--- Reading the text into a table of n words gives the tree t: the tree read from the whole text is t once its names are bytes, the answer is
--- the number of its words, and the table holds them and zeros after them.
-pub record GivesTree (text : List ℕ) (n : ℕ) (t : Tree) : Type 0 where
-  pub tree : Expr Span
-  pub read : readTree text ≡ ok tree (length text)
-  pub named : resolveExpr text tree ≡ t
-  pub answered : readExpression text n ≡ words (length (treeWords tree [])) (treeWords tree [] ++ replicate (n - length (treeWords tree [])) 0)
 
 -- What `read_expression` ensures of its answer r and of the table of n words after it.
 abbrev pub Answered : List ℕ → ℕ → Reading → List ℕ → Type 0

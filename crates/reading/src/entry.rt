@@ -10,7 +10,7 @@ ghost use mathlib.Core.List.{[]};
 ghost use lib.ListN.{length, replicate};
 ghost use Rattle.reading.specs.Arena.{Run, Holds};
 ghost use Rattle.reading.specs.Flat.{Rooted, Buffers};
-ghost use Rattle.reading.specs.Reading.{outcome, stored, parseText, readExpression};
+ghost use Rattle.grammar.specs.Reading.{outcome, stored, parseText, readExpression};
 ghost use Rattle.reading.specs.Code.{outcomeOf};
 
 // What reading answers: `outcomeOf` in specs/Code.antt gives document 01's number and values of each case.

@@ -21,9 +21,9 @@ ghost use Rattle.tree.specs.Ast.{ILiteral};
 ghost use Rattle.tree.specs.Words.{bindingWords, optionWords, nameWords};
 ghost use Rattle.reading.specs.Arena.{Room, Builds, Stopped, neededAt};
 ghost use Rattle.reading.specs.Code.{missingAt, untakenAt, same, turns, inner, Follows, Shuts};
-ghost use Rattle.reading.specs.Reading.{treeWords};
-ghost use Rattle.reading.specs.Steps.{mapped, parseNat};
-ghost use Rattle.reading.specs.Rules.{opensExpr, opensAt, parseIdType, parseOptionalType, someType, afterBar, afterOld};
+ghost use Rattle.grammar.specs.Reading.{treeWords};
+ghost use Rattle.grammar.specs.Steps.{mapped, parseNat};
+ghost use Rattle.grammar.specs.Rules.{opensExpr, opensAt, parseIdType, parseOptionalType, someType, afterBar, afterOld};
 
 // A rule that must follow at `at`: refusal 2 there where it keeps nothing.
 pub(crate) fn needed(r: Built, at: usize) -> Built

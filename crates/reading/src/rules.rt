@@ -41,9 +41,9 @@ ghost use Rattle.tree.specs.Words.{patternsWords, seqWords, bindingWords};
 ghost use Rattle.reading.specs.Arena.{Room, Builds};
 ghost use Rattle.grammar.specs.Grammar.{implication};
 ghost use Rattle.reading.specs.Code.{Follows, Begun, same, turns, inner, classOf, tighterOf, leftChain, rightChain, sequenceOf, itemWords, listWords, itemRule, span, universalOf, Worded, HasTrigger, NoTrigger, endCredit, unwordedExpr, barredExpr, bracketedExpr};
-ghost use Rattle.reading.specs.Steps.{keywordAt};
-ghost use Rattle.reading.specs.Reading.{treeWords};
-ghost use Rattle.reading.specs.Rules.{parseEquivExpr, parseImpExpExpr, parseLogicalExpr, parseJuctExpr, parseTermExpr, parseFactorExpr, parseUnaryExpr, parsePrimaryExpr, parseAtomicExpr, properties, closures, afterName, afterLabel, afterCall, afterColon, afterParen, afterIf, afterVal, afterQuantifier, afterLift, parseNonemptyCommaDelimitedSeq, parseListed, parseMarked, parseParameters, parseClosureBinding, parseClosureProperty};
+ghost use Rattle.grammar.specs.Steps.{keywordAt};
+ghost use Rattle.grammar.specs.Reading.{treeWords};
+ghost use Rattle.grammar.specs.Rules.{parseEquivExpr, parseImpExpExpr, parseLogicalExpr, parseJuctExpr, parseTermExpr, parseFactorExpr, parseUnaryExpr, parsePrimaryExpr, parseAtomicExpr, properties, closures, afterName, afterLabel, afterCall, afterColon, afterParen, afterIf, afterVal, afterQuantifier, afterLift, parseNonemptyCommaDelimitedSeq, parseListed, parseMarked, parseParameters, parseClosureBinding, parseClosureProperty};
 
 // The sequences that commas part.
 pub(crate) enum Items {

@@ -4,7 +4,7 @@ ghost use Prim.Native.Nat.{_≤_};
 ghost use lib.ListN.{length};
 ghost use Rattle.tree.specs.Words.{operatorWord};
 ghost use Rattle.reading.specs.Code.{Signs, whereRead, wordOf, swapOf, noSwap, operatorOf, classOf, turns};
-ghost use Rattle.reading.specs.Rules.{unaryOperator, equalityOperator, lessOperator, moreOperator, parseComparisonOperator, termOperator, factorOperator};
+ghost use Rattle.grammar.specs.Rules.{unaryOperator, equalityOperator, lessOperator, moreOperator, parseComparisonOperator, termOperator, factorOperator};
 use crate::step::keyword;
 use crate::step::sym;
 use crate::step::sym_not_prefix;

@@ -6,7 +6,7 @@ ghost use lib.ListN.{length, take, drop};
 ghost use Rattle.lexing.specs.Answer.{moved as movedBy};
 ghost use Rattle.lexing.specs.Bytes.{sameBytes};
 ghost use Rattle.lexing.specs.Tokens.{signNotPrefix};
-ghost use Rattle.reading.specs.Steps.{keywordAt, signAt, parseName, parseLiteralText};
+ghost use Rattle.grammar.specs.Steps.{keywordAt, signAt, parseName, parseLiteralText};
 ghost use Rattle.reading.specs.Code.{Tells, span, movedOf, placed};
 
 // The answer with places counted from the text's start.

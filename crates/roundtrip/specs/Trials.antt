@@ -12,9 +12,9 @@ use Rattle.tree.specs.Words.{exprWords}
 use Rattle.tree.specs.Check.{NameIn}
 use Rattle.tree.specs.Resolve.{part}
 use Rattle.grammar.specs.Words.{bytes}
-use Rattle.reading.specs.Examples.{computed as read-computed}
-use Rattle.reading.specs.Reading.{words, refusal, readExpression}
-use Rattle.reading.specs.Reading as Reading
+use Rattle.grammar.specs.ReadingExamples.{computed as read-computed}
+use Rattle.grammar.specs.Reading.{words, refusal, readExpression}
+use Rattle.grammar.specs.Reading as Reading
 use Rattle.printing.specs.declared.format.ExprFormatOption.the-variants.{SingleLine}
 use Rattle.printing.specs.Examples.{computed as print-computed}
 use Rattle.printing.specs.Entries.{written, stored, printOf, printExpression}

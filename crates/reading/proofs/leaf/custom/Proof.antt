@@ -2,7 +2,7 @@
 use native.Mathlib.Omega.{arith}
 use borrow.Author.Needs.{needs}
 use Rattle.reading.specs.Arena.{Holds}
-use Rattle.reading.specs.Rules.{afterBar}
+use Rattle.grammar.specs.Rules.{afterBar}
 use Rattle.reading.proofs.Laws.{kept-refl, took, builds-node, builds-after, token-missing}
 use Rattle.reading.proofs.Nodes.{pair-noted}
 use Rattle.reading.proofs.leaf.custom.Statement.{statement}

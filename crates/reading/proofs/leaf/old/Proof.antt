@@ -2,7 +2,7 @@
 use native.Mathlib.Omega.{arith}
 use borrow.Author.Needs.{needs}
 use Rattle.reading.specs.Arena.{Holds}
-use Rattle.reading.specs.Rules.{afterOld}
+use Rattle.grammar.specs.Rules.{afterOld}
 use Rattle.reading.proofs.Laws.{kept-refl, took, builds-node, builds-after, token-missing}
 use Rattle.reading.proofs.leaf.old.Statement.{statement}
 use Rattle.reading.proofs.leaf.old.Tie as tie

@@ -1,7 +1,7 @@
 -- `leaf::opens_at` meets its contract: its tests against those of `opensAt` (Identifiers).
 use mathlib.Core.Path.{refl}
 use Rattle.lexing.specs.Bytes.{isDigit}
-use Rattle.reading.specs.Rules.{opensAt}
+use Rattle.grammar.specs.Rules.{opensAt}
 use Rattle.reading.proofs.Identifiers.{opensAt-digit, opensAt-none}
 use Rattle.reading.proofs.leaf.opens_at.Statement.{statement}
 use Rattle.reading.proofs.leaf.opens_at.Tie as tie

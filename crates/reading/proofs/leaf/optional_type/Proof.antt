@@ -2,7 +2,7 @@
 use native.Mathlib.Omega.{arith}
 use borrow.Author.Needs.{needs}
 use Rattle.reading.specs.Arena.{Holds}
-use Rattle.reading.specs.Rules.{parseOptionalType}
+use Rattle.grammar.specs.Rules.{parseOptionalType}
 use Rattle.reading.proofs.Laws.{kept-refl, took, after-refused, builds-node, builds-from, builds-after, builds-else}
 use Rattle.reading.proofs.leaf.optional_type.Statement.{statement}
 use Rattle.reading.proofs.leaf.optional_type.Tie as tie

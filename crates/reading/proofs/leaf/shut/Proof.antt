@@ -6,7 +6,7 @@ use borrow.Author.Needs.{needs}
 use Rattle.lexing.specs.declared.token.Lexed.the-variants.{Ok as LexedOk, None as LexedNone, Refused as LexedRefused}
 use Rattle.lexing.specs.declared.token.Lexed.{Lexed}
 use Rattle.reading.specs.Code.{Shuts, untakenAt, missingAt}
-use Rattle.reading.specs.Steps.{signAt}
+use Rattle.grammar.specs.Steps.{signAt}
 use Rattle.reading.proofs.Laws.{took, after-none, after-refused, token-stopped}
 use Rattle.reading.specs.Arena.{Stopped}
 use Rattle.reading.proofs.leaf.shut.Statement.{statement}

@@ -2,7 +2,7 @@
 use Rattle.reading.proofs.Sequences.{Listing, Marking, comma-repetition, marked-repetition, gathering-none, gathering-one, gathering-next, gathering-end, gathering-needed, gathering-refused, nonempty-some, marking-end, patterns-found, patterns-found-some, listed-some, listed-none, listed-refused, nil-holds, shut-builds}
 use Rattle.reading.proofs.Closures.{has-trigger, property-plain, property-refused, property-triggered, quantifier-holds, lift-bound, binding-holds}
 use Rattle.reading.specs.Code.{sequenceOf, itemRule, inner, classOf}
-use Rattle.reading.specs.Rules.{parseNonemptyCommaDelimitedSeq, afterName, afterLabel, parseEquivExpr, parseTermExpr, parseFactorExpr, parseImpExpExpr, impExpTail, parseLogicalExpr, logicalTail, onceTail, parseJuctExpr, afterParen, afterIf, afterVal, afterQuantifier, afterCall, afterColon, parseClosureBinding, parseParameters, parsePrimaryExpr, parseAtomicExpr}
+use Rattle.grammar.specs.Rules.{parseNonemptyCommaDelimitedSeq, afterName, afterLabel, parseEquivExpr, parseTermExpr, parseFactorExpr, parseImpExpExpr, impExpTail, parseLogicalExpr, logicalTail, onceTail, parseJuctExpr, afterParen, afterIf, afterVal, afterQuantifier, afterCall, afterColon, parseClosureBinding, parseParameters, parsePrimaryExpr, parseAtomicExpr}
 use mathlib.Core.Logic.{inl, inr}
 use Rattle.reading.proofs.Chains.{build-holds, chain-first, chain-second, Waiting, waiting-start, waiting-room, waiting-foldable, waiting-end, waiting-refused, waiting-needed, waiting-next, Signed, signed-start, signed-room, signed-refused, signed-next, signed-failed, signed-needed, signed-foldable, signed-end, Leaning, leaning-start, leaning-room, leaning-end, leaning-refused, leaning-needed, leaning-next}
 use Prim.Native.Nat.{_-_, _+_, _*_, _≤_, ℕ, _<_}
@@ -14,7 +14,7 @@ use lib.ListN.{length}
 use Rattle.reading.specs.Arena.{Holds}
 use Rattle.reading.proofs.Branches.{branch, no-branch, branch-refused, builds-branch, builds-skip, builds-first, ends-keeps, afterBar-keeps, afterOld-keeps, afterName-keeps}
 use Rattle.reading.proofs.Identifiers.{deep-builds, level-opens, name-worded, name-not-refused, wordless, word-past, word-stands, word-long, word-absent, word-no-natural, word-no-bar}
-use Rattle.reading.specs.Bridge.NoOperand.{if-ends, val-ends, quantifier-ends, lift-ends}
+use Rattle.grammar.specs.Bridge.NoOperand.{if-ends, val-ends, quantifier-ends, lift-ends}
 use Rattle.reading.proofs.Laws.{kept-refl, kept-trans, kept-next, holds-kept, after-ok, after-none, after-refused, found, took, stands, builds-after, builds-else, builds-node, builds-from, token-untaken, token-missing, rule-failed, rule-needed}
 use Rattle.reading.specs.declared.sign.Level.{Level}
 use Rattle.reading.specs.declared.sign.Level.the-variants.{Product, Sum, Comparison, Conjunction, Disjunction, Implication, Explication, Equivalence}

@@ -1,6 +1,6 @@
 -- `sign::comparison` meets its contract, by three branches (Signs).
 use borrow.Author.Needs.{needs}
-use Rattle.reading.specs.Rules.{parseComparisonOperator}
+use Rattle.grammar.specs.Rules.{parseComparisonOperator}
 use Rattle.reading.proofs.Signs.{sign-first, sign-next}
 use Rattle.reading.proofs.sign.comparison.Statement.{statement}
 use Rattle.reading.proofs.sign.comparison.Tie as tie

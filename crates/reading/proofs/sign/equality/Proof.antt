@@ -1,7 +1,7 @@
 -- `sign::equality` meets its contract, by two branches (Signs).
 use native.Mathlib.Omega.{arith}
 use borrow.Author.Needs.{needs}
-use Rattle.reading.specs.Rules.{equalityOperator}
+use Rattle.grammar.specs.Rules.{equalityOperator}
 use Rattle.reading.proofs.Signs.{sign-read, sign-first, sign-next}
 use Rattle.reading.proofs.sign.equality.Statement.{statement}
 use Rattle.reading.proofs.sign.equality.Tie as tie

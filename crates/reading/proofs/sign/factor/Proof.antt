@@ -1,7 +1,7 @@
 -- `sign::factor` meets its contract, by three branches (Signs).
 use native.Mathlib.Omega.{arith}
 use borrow.Author.Needs.{needs}
-use Rattle.reading.specs.Rules.{factorOperator}
+use Rattle.grammar.specs.Rules.{factorOperator}
 use Rattle.reading.proofs.Signs.{sign-read, sign-first, sign-next}
 use Rattle.reading.proofs.sign.factor.Statement.{statement}
 use Rattle.reading.proofs.sign.factor.Tie as tie

@@ -1,7 +1,7 @@
 -- `sign::less` meets its contract, by two branches (Signs).
 use native.Mathlib.Omega.{arith}
 use borrow.Author.Needs.{needs}
-use Rattle.reading.specs.Rules.{lessOperator}
+use Rattle.grammar.specs.Rules.{lessOperator}
 use Rattle.reading.proofs.Signs.{sign-read, sign-first, sign-next}
 use Rattle.reading.proofs.sign.less.Statement.{statement}
 use Rattle.reading.proofs.sign.less.Tie as tie

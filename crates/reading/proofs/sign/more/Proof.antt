@@ -1,7 +1,7 @@
 -- `sign::more` meets its contract, by two branches (Signs).
 use native.Mathlib.Omega.{arith}
 use borrow.Author.Needs.{needs}
-use Rattle.reading.specs.Rules.{moreOperator}
+use Rattle.grammar.specs.Rules.{moreOperator}
 use Rattle.reading.proofs.Signs.{sign-read, sign-first, sign-next}
 use Rattle.reading.proofs.sign.more.Statement.{statement}
 use Rattle.reading.proofs.sign.more.Tie as tie

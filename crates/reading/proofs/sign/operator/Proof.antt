@@ -1,7 +1,7 @@
 -- `sign::operator` meets its contract, by the level (Signs: `sign-read`).
 use native.Mathlib.Omega.{arith}
 use borrow.Author.Needs.{needs}
-use Rattle.reading.specs.Rules.{andOperator, orOperator, impliesOperator, expliesOperator, equivOperator}
+use Rattle.grammar.specs.Rules.{andOperator, orOperator, impliesOperator, expliesOperator, equivOperator}
 use Rattle.reading.proofs.Signs.{sign-read}
 use Rattle.reading.proofs.sign.operator.Statement.{statement}
 use Rattle.reading.proofs.sign.operator.Tie as tie

@@ -1,7 +1,7 @@
 -- `sign::term` meets its contract, by two branches (Signs).
 use native.Mathlib.Omega.{arith}
 use borrow.Author.Needs.{needs}
-use Rattle.reading.specs.Rules.{termOperator}
+use Rattle.grammar.specs.Rules.{termOperator}
 use Rattle.reading.proofs.Signs.{sign-read, sign-first, sign-next}
 use Rattle.reading.proofs.sign.term.Statement.{statement}
 use Rattle.reading.proofs.sign.term.Tie as tie

@@ -1,7 +1,7 @@
 -- `sign::unary_operator` meets its contract, by two branches (Signs).
 use native.Mathlib.Omega.{arith}
 use borrow.Author.Needs.{needs}
-use Rattle.reading.specs.Rules.{unaryOperator}
+use Rattle.grammar.specs.Rules.{unaryOperator}
 use Rattle.reading.proofs.Signs.{sign-read, sign-first, sign-next}
 use Rattle.reading.proofs.sign.unary_operator.Statement.{statement}
 use Rattle.reading.proofs.sign.unary_operator.Tie as tie

@@ -13,9 +13,9 @@ use Rattle.lexing.specs.Tokens.{identifierLength}
 use Rattle.tree.specs.Ast.{Span, Binding, binding, Expr, BLiteral, ILiteral, CustomLiteral, IdExpr, OperatorExpr, FunctionCallExpr, LabeledExpr, LetExpr, QuantifierExpr, ClosureExpr}
 use Rattle.tree.specs.Ast.{Exprs, noExprs, _then_, Patterns, noPatterns, pattern, ClosureBindings, noClosureBindings, closureBinding, ClosureProperties, noClosureProperties, closureProperty}
 use Rattle.tree.specs.Ast.{Operator, IfThenElse, Equiv, LogicalImp, LogicalAnd, LogicalOr, Eq, Neq, Less, AtMost, Plus, Minus, Times, Div, Mod, LogicalNot, UnaryMinus}
 use Rattle.grammar.specs.Words.{bytes}
 use Rattle.grammar.specs.Grammar.{Build, straight, swapped, single, build}
-use Rattle.reading.specs.Steps.{Reader, after, need, _or_, mapped, T, Sym, SymNotPrefix, keywordAt, signAt, parseName, parseType, parseLiteralText, parseNat}
+use Rattle.grammar.specs.Steps.{Reader, after, need, _or_, mapped, T, Sym, SymNotPrefix, keywordAt, signAt, parseName, parseType, parseLiteralText, parseNat}
 
 -- ---- sequences that commas part
 

@@ -12,22 +12,22 @@ use Rattle.lexing.specs.Answer.{Answer, moved}
 use Rattle.lexing.specs.Bytes.{isDigit, canStartIdentifierChar, identifierChar, run, startsWith, sameBytes}
 use Rattle.lexing.specs.Blanks.{Blanks, passed, unclosed, W}
 use Rattle.lexing.specs.Tokens.{closed, lexeme, identifierLength, decimal, mostNatural}
 use Rattle.grammar.specs.Tokens.{Sign, '!', '-', '*', '+', '==', '!=', '<', '<=', '>=', '>', '&&', '||', '==>', '<==', '<==>'}
 use Rattle.grammar.specs.Tokens.{Token, name, nat, mark, sign, illegal, Mark, lparen, rparen, comma, token, nothing, tokenAt}
 use Rattle.grammar.specs.Grammar.{Class, product, sum, comparison, conjunction, disjunction, implication, explication, equivalence}
 use Rattle.grammar.specs.Grammar.{Build, role, wordRole, unary, binary}
 use Rattle.grammar.specs.Parser.{isMark, isNat, isWord, inClass}
-use Rattle.reading.specs.Steps.{after, mapped, signAt}
-use Rattle.reading.specs.Rules as rules
+use Rattle.grammar.specs.Steps.{after, mapped, signAt}
+use Rattle.grammar.specs.Rules as rules
 use Rattle.grammar.specs.Laws.Steps.{impossible}
 use Rattle.grammar.specs.Laws.Looks.{both-true, pick-both}
 use Rattle.grammar.specs.Laws.Stops.{Misses}
 use Rattle.grammar.specs.Laws.Views.{spelt, speltMark, Longest, View, wordView, digitView, signView, markView, noView, view, Nothing}
 use Rattle.grammar.specs.Laws.Views.{word-token, digit-token, sign-token, mark-token, no-token}
-use Rattle.reading.specs.Bridge.Relation as relation
-use Rattle.reading.specs.Bridge.Relation.{tokens, Test, seen, missed}
-use Rattle.reading.specs.Bridge.Places.{limit, follow, readThen, tokens-here, inside-here, nothing-here}
-use Rattle.reading.specs.Bridge.Answers.{given, operatorOf, Answers, answersAt, answersOf, sign-answers, mark-answers, word-answers}
+use Rattle.grammar.specs.Bridge.Relation as relation
+use Rattle.grammar.specs.Bridge.Relation.{tokens, Test, seen, missed}
+use Rattle.grammar.specs.Bridge.Places.{limit, follow, readThen, tokens-here, inside-here, nothing-here}
+use Rattle.grammar.specs.Bridge.Answers.{given, operatorOf, Answers, answersAt, answersOf, sign-answers, mark-answers, word-answers}
 
 -- a byte that begins a name or a natural
 abbrev begins : ℕ → Bool

@@ -3,12 +3,12 @@ use Prim.Native.Nat.{ℕ, zero, suc}
 use mathlib.Core.List.{List}
 use mathlib.Core.Bool.{Bool}
 use Rattle.tree.specs.Ast.{Span, Expr}
 use Rattle.grammar.specs.Words.{bytes}
-use Rattle.reading.specs.Steps.{Reader}
-use Rattle.reading.specs.Rules as rules
-use Rattle.reading.specs.Rules.{Sequence, ItemOf}
-use Rattle.reading.specs.Bridge.Relation.{Ends, Kept, refuses, reads, ends-after, ends-then}
-use Rattle.reading.specs.Bridge.Trees.{Bad, root}
+use Rattle.grammar.specs.Steps.{Reader}
+use Rattle.grammar.specs.Rules as rules
+use Rattle.grammar.specs.Rules.{Sequence, ItemOf}
+use Rattle.grammar.specs.Bridge.Relation.{Ends, Kept, refuses, reads, ends-after, ends-then}
+use Rattle.grammar.specs.Bridge.Trees.{Bad, root}
 
 module _ (text : List ℕ) (m : ℕ) where
   listed-kept : (q : Sequence) (item : Reader (ItemOf q)) (close : List ℕ) (at : ℕ) → Kept (rules.parseListed text m q item close at)

@@ -12,22 +12,22 @@ use Rattle.lexing.specs.Tokens as lexing
 use Rattle.lexing.specs.Tokens.{closed, lexeme, identifierLength, decimal, mostNatural}
 use Rattle.lexing.specs.TokenLaws.{startsWith-true}
 use Rattle.tree.specs.Ast.{Span, Expr, ILiteral}
 use Rattle.grammar.specs.Tokens.{Token, name, nat, sign, illegal, lparen}
 use Rattle.grammar.specs.Grammar.{unary, role, single}
 use Rattle.grammar.specs.Parser.{failed, Parser, see, isNat, isWord, isMark, parseBracketed, parseOperand, parseUnary}
-use Rattle.reading.specs.Steps.{Reader, after, mapped, Sym, signAt, parseNat}
-use Rattle.reading.specs.Rules as rules
+use Rattle.grammar.specs.Steps.{Reader, after, mapped, Sym, signAt, parseNat}
+use Rattle.grammar.specs.Rules as rules
 use Rattle.grammar.specs.Laws.Stops.{Misses, see-misses}
 use Rattle.grammar.specs.Laws.Views.{speltMark}
-use Rattle.reading.specs.Bridge.Relation.{Halted, fails, waits, refuses, reads, Dead, ends, absent, agree, dead, tokens}
-use Rattle.reading.specs.Bridge.Relation.{dead-after, dead-then, halted-after, sim-after, sim-see, test-none}
-use Rattle.reading.specs.Bridge.Places.{limit, follow, tokens-here, inside-here, nothing-here}
-use Rattle.reading.specs.Bridge.Trees.{Bad, bad-single}
-use Rattle.reading.specs.Bridge.Tests.{Stands, word, digits, other, nowhere, stands, mark-test, prefix-test}
-use Rattle.reading.specs.Bridge.Tails.{SimExpr, Level}
-use Rattle.reading.specs.Bridge.NoOperand.{bar-ends}
-use Rattle.reading.specs.Bridge.Names.{bracketed-sim, bracketed-halts}
-use Rattle.reading.specs.Bridge.WordOperand.{word-sim}
+use Rattle.grammar.specs.Bridge.Relation.{Halted, fails, waits, refuses, reads, Dead, ends, absent, agree, dead, tokens}
+use Rattle.grammar.specs.Bridge.Relation.{dead-after, dead-then, halted-after, sim-after, sim-see, test-none}
+use Rattle.grammar.specs.Bridge.Places.{limit, follow, tokens-here, inside-here, nothing-here}
+use Rattle.grammar.specs.Bridge.Trees.{Bad, bad-single}
+use Rattle.grammar.specs.Bridge.Tests.{Stands, word, digits, other, nowhere, stands, mark-test, prefix-test}
+use Rattle.grammar.specs.Bridge.Tails.{SimExpr, Level}
+use Rattle.grammar.specs.Bridge.NoOperand.{bar-ends}
+use Rattle.grammar.specs.Bridge.Names.{bracketed-sim, bracketed-halts}
+use Rattle.grammar.specs.Bridge.WordOperand.{word-sim}
 
 module _ (text : List ℕ) (m : ℕ) {c : Reader (Expr Span)} {e : Parser} (l : Level text c e) (at : ℕ) where
   abbrev primary : Answer (Expr Span)

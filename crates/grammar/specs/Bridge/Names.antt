@@ -15,25 +15,25 @@ use Rattle.lexing.specs.TokenLaws.{startsWith-true}
 use Rattle.tree.specs.Ast.{Span, Expr, IdExpr, FunctionCallExpr}
 use Rattle.tree.specs.Resolve as resolved
 use Rattle.tree.specs.Resolve.{part}
 use Rattle.grammar.specs.Words.{bytes}
 use Rattle.grammar.specs.Tokens as cutting
 use Rattle.grammar.specs.Tokens.{Token, name, illegal, lparen, rparen, tokenAt, nameAt, naturalAt}
 use Rattle.grammar.specs.Grammar.{Tree}
 use Rattle.grammar.specs.Parser as parser
 use Rattle.grammar.specs.Parser.{parsed, failed, Parser, see, isMark, isWord, parseNamed, parseBracketed}
-use Rattle.reading.specs.Steps.{Reader, after, signAt, spanned, parseName}
-use Rattle.reading.specs.Rules as rules
+use Rattle.grammar.specs.Steps.{Reader, after, signAt, spanned, parseName}
+use Rattle.grammar.specs.Rules as rules
 use Rattle.grammar.specs.Laws.Looks.{pick-both}
 use Rattle.grammar.specs.Laws.Cut.{tokens-drop, tokens-illegal}
-use Rattle.reading.specs.Bridge.Relation as relation
-use Rattle.reading.specs.Bridge.Relation.{tokens, Halted, fails, waits, Kept, refuses, reads, ends, absent, agree, dead, Test, seen, missed}
-use Rattle.reading.specs.Bridge.Relation.{dead-after, ends-after, ends-then, halted-after, sim-after, sim-see}
-use Rattle.reading.specs.Bridge.Places.{follow, tokens-here, inside-here, nothing-here}
-use Rattle.reading.specs.Bridge.Trees.{bad-call}
-use Rattle.reading.specs.Bridge.Tests.{Stands, word, digits, other, nowhere, stands, mark-test}
-use Rattle.reading.specs.Bridge.Tails.{SimExpr, Level}
-use Rattle.reading.specs.Bridge.NoOperand.{colon-ends}
-use Rattle.reading.specs.Bridge.Series.{items-sim, items-halts}
+use Rattle.grammar.specs.Bridge.Relation as relation
+use Rattle.grammar.specs.Bridge.Relation.{tokens, Halted, fails, waits, Kept, refuses, reads, ends, absent, agree, dead, Test, seen, missed}
+use Rattle.grammar.specs.Bridge.Relation.{dead-after, ends-after, ends-then, halted-after, sim-after, sim-see}
+use Rattle.grammar.specs.Bridge.Places.{follow, tokens-here, inside-here, nothing-here}
+use Rattle.grammar.specs.Bridge.Trees.{bad-call}
+use Rattle.grammar.specs.Bridge.Tests.{Stands, word, digits, other, nowhere, stands, mark-test}
+use Rattle.grammar.specs.Bridge.Tails.{SimExpr, Level}
+use Rattle.grammar.specs.Bridge.NoOperand.{colon-ends}
+use Rattle.grammar.specs.Bridge.Series.{items-sim, items-halts}
 
 module _ (text : List ℕ) (m at : ℕ) where
   no-name : identifierLength (drop at text) ≡ 0 → parseName text at ≡ Answer.none

@@ -6,17 +6,17 @@ use lib.ListN.{length, drop}
 use Rattle.lexing.specs.Answer.{Answer, ok, refused}
 use Rattle.tree.specs.Ast.{Span, Expr}
 use Rattle.tree.specs.Resolve.{resolveExpr}
 use Rattle.grammar.specs.Tokens.{Token, illegal}
 use Rattle.grammar.specs.Grammar.{Tree, Class, Build, build, role, binary}
 use Rattle.grammar.specs.Parser as parser
 use Rattle.grammar.specs.Parser.{Parsed, parsed, Parser, Tail, see, inClass, continued}
-use Rattle.reading.specs.Steps.{Reader, after}
-use Rattle.reading.specs.Rules as rules
-use Rattle.reading.specs.Bridge.Relation.{tokens, Halted, waits, refuses, reads, Dead, ends, absent, Sim, agree}
-use Rattle.reading.specs.Bridge.Relation.{dead-after, dead-then, halted-after, sim-after, sim-see, sim-either}
-use Rattle.reading.specs.Bridge.Trees.{Bad, resolve-build, bad-left, bad-right}
-use Rattle.reading.specs.Bridge.Answers.{operatorOf}
-use Rattle.reading.specs.Bridge.Tests.{class-test}
+use Rattle.grammar.specs.Steps.{Reader, after}
+use Rattle.grammar.specs.Rules as rules
+use Rattle.grammar.specs.Bridge.Relation.{tokens, Halted, waits, refuses, reads, Dead, ends, absent, Sim, agree}
+use Rattle.grammar.specs.Bridge.Relation.{dead-after, dead-then, halted-after, sim-after, sim-see, sim-either}
+use Rattle.grammar.specs.Bridge.Trees.{Bad, resolve-build, bad-left, bad-right}
+use Rattle.grammar.specs.Bridge.Answers.{operatorOf}
+use Rattle.grammar.specs.Bridge.Tests.{class-test}
 
 abbrev pub SimExpr : List ℕ → Answer (Expr Span) → Parsed Tree → Type 0
 SimExpr text = Sim text (resolveExpr text) (Bad text)

@@ -12,16 +12,16 @@ use Rattle.lexing.specs.Tokens as lexing
 use Rattle.lexing.specs.Tokens.{lexeme, identifierLength}
 use Rattle.lexing.specs.Blanks.{Blanks, passed, unclosed, W}
 use Rattle.tree.specs.Ast.{Operator, LogicalNot, Times, Div, Mod, Plus, Eq, Neq, Less, AtMost}
 use Rattle.grammar.specs.Words.{bytes}
 use Rattle.grammar.specs.Tokens.{Sign, '!', '-', '*', '+', '==', '!=', '<', '<=', '>=', '>', '&&', '||', '==>', '<==', '<==>'}
 use Rattle.grammar.specs.Tokens.{Token, name, mark, sign, Mark, lparen, rparen, comma}
 use Rattle.grammar.specs.Grammar.{Class, product, sum, comparison, conjunction, disjunction, implication, explication, equivalence}
 use Rattle.grammar.specs.Grammar.{Build, straight, swapped, signRole, wordRole, role, unary, binary}
 use Rattle.grammar.specs.Parser.{isMark, inClass}
-use Rattle.reading.specs.Steps.{Reader, after, _or_, mapped, signAt, T}
-use Rattle.reading.specs.Rules as rules
+use Rattle.grammar.specs.Steps.{Reader, after, _or_, mapped, signAt, T}
+use Rattle.grammar.specs.Rules as rules
 use Rattle.grammar.specs.Laws.Steps.{impossible}
 use Rattle.grammar.specs.Laws.Views.{spelt, speltMark, Longest, shorter}
 
 -- h of what a test of the parser gives, if it accepts the token
 abbrev pub given : {X A : Type 0} → Option X → (X → Answer A) → Answer A

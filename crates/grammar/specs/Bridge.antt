@@ -14,4 +14,3 @@ pub mod Operand
 pub mod Whole
 pub mod Entry
 pub mod Limits
-pub mod Answered

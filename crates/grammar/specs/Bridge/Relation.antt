@@ -5,13 +5,13 @@ use mathlib.Core.List.{List, _∷_}
 use mathlib.Core.Option.{Option, some}
 use lib.ListN.{length}
 use Rattle.lexing.specs.Answer.{Answer, ok, refused}
 use Rattle.grammar.specs.Tokens.{Token, illegal, tokensAfter}
 use Rattle.grammar.specs.Parser as parser
 use Rattle.grammar.specs.Parser.{Parsed, parsed, failed, see}
-use Rattle.reading.specs.Steps.{after}
+use Rattle.grammar.specs.Steps.{after}
 use Rattle.grammar.specs.Laws.Steps.{impossible}
 use Rattle.grammar.specs.Laws.Limited.{limited}
 use Rattle.grammar.specs.Laws.Stops.{Misses, see-misses}
 
 -- the tokens from a place on, a natural past the limit counted as illegal
 unfoldable pub tokens : List ℕ → ℕ → List Token

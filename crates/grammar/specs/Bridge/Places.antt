@@ -14,14 +14,14 @@ use Rattle.lexing.specs.Blanks.{Blanks, passed, unclosed, W}
 use Rattle.lexing.specs.Laws.{run-inside, W-inside}
 use Rattle.lexing.specs.Tokens.{identifierLength, mostNatural}
 use Rattle.lexing.specs.TokenLaws.{identifier-inside, startsWith-inside}
 use Rattle.grammar.specs.Words.{bytes}
 use Rattle.grammar.specs.Tokens.{Token, name, nat, mark, sign, illegal, Spelling, _is_, signs, Cut, token, nothing, signAt, naturalAt, nameAt}
 use Rattle.grammar.specs.Tokens.{tokenAt, tokensAfter, afterBlanks, cut}
 use Rattle.grammar.specs.Laws.Steps.{impossible}
 use Rattle.grammar.specs.Laws.Stops.{Misses}
 use Rattle.grammar.specs.Laws.Limited.{limited}
 use Rattle.grammar.specs.Laws.Cut.{tokens-drop, tokens-first, tokens-illegal}
-use Rattle.reading.specs.Bridge.Relation.{tokens}
+use Rattle.grammar.specs.Bridge.Relation.{tokens}
 
 -- a natural past the limit is illegal
 abbrev pub limit : Token → Token

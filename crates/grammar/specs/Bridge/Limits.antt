@@ -9,18 +9,18 @@ use lib.Dec.{leb}
 use borrow.Author.Tests.{leb-true, le-leb}
 use Rattle.lexing.specs.Answer.{ok, refused, pick}
 use Rattle.tree.specs.Ast.{Span, Expr}
-use Rattle.tree.specs.Resolve.{resolveExpr}
+use Rattle.tree.specs.Resolve.{bytes, resolveExpr}
 use Rattle.grammar.specs.Grammar.{Tree}
 use Rattle.grammar.specs.OperatorTrees.{OperatorTree, DerivesWithin, wordCount, mostBytes, mostWords, mostDepth}
 use Rattle.grammar.specs.Tokens.{cut}
-use Rattle.reading.specs.Reading.{words, refusal, treeWords, stored, outcome, parseText, readTree, readExpression}
-use Rattle.reading.specs.TreeRead.{GivesTree}
+use Rattle.grammar.specs.Reading.{words, refusal, treeWords, stored, outcome, parseText, readTree, readExpression}
+use Rattle.grammar.specs.TreeRead.{GivesTree}
 use Rattle.grammar.specs.Laws.Steps.{impossible}
 use Rattle.grammar.specs.Laws.Looks.{both-true}
 use Rattle.grammar.specs.Laws.Limited.{parse-limited}
 use Rattle.grammar.specs.Laws.Every.{derived-operators}
-use Rattle.grammar.specs.Claims.{words-counted}
-use Rattle.reading.specs.Bridge.Entry.{text-agrees, agrees-ok, agrees-some}
+use Rattle.tree.specs.Claims.{expression-count}
+use Rattle.grammar.specs.Bridge.Entry.{text-agrees, agrees-ok, agrees-some}
 
 module _ (text : List ℕ) (n : ℕ) where
   -- reading a text that is not too long
@@ -53,7 +53,7 @@ module _ (text : List ℕ) (n : ℕ) where
   stored-fits ws h i = rw (le-leb (length ws) n h, le-leb (length ws) mostWords i) refl
 
   count : (e : Expr Span) → length (treeWords e []) ≡ wordCount (resolveExpr text e)
-  count e = sym (words-counted text e)
+  count e = sym (expression-count (bytes text) _ _ e)
 
   stored-read : {e : Expr Span} {next : ℕ} → readTree text ≡ ok e next → readExpression text n ≡ stored n (treeWords e [])
   unfolding readExpression

@@ -8,9 +8,9 @@ use Rattle.lexing.specs.Answer.{Answer, ok, refused, pick}
 use Rattle.lexing.specs.Blanks.{Blanks, passed, unclosed, W}
 use Rattle.tree.specs.Ast.{Span, Expr}
 use Rattle.tree.specs.Words.{exprWords}
 use Rattle.grammar.specs.OperatorTrees.{mostBytes, mostDepth, mostWords}
-use Rattle.reading.specs.Steps.{after, need}
-use Rattle.reading.specs.Rules.{parseExpr}
+use Rattle.grammar.specs.Steps.{after, need}
+use Rattle.grammar.specs.Rules.{parseExpr}
 
 -- the words of a tree whose names are spans, followed by others
 abbrev pub treeWords : Expr Span → List ℕ → List ℕ

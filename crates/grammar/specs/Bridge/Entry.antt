@@ -13,24 +13,24 @@ use Rattle.lexing.specs.Answer.{Answer, ok, refused, pick}
 use Rattle.lexing.specs.Blanks.{Blanks, passed, unclosed, W}
 use Rattle.tree.specs.Ast.{Span, Expr}
 use Rattle.tree.specs.Resolve.{resolveExpr}
 use Rattle.grammar.specs.Tokens.{Token, Cut, token, nothing, tokenAt, atToken, tokensAfter, afterBlanks, cut}
 use Rattle.grammar.specs.Grammar.{Tree}
 use Rattle.grammar.specs.OperatorTrees.{OperatorTree}
 use Rattle.grammar.specs.Parser as parser
 use Rattle.grammar.specs.Parser.{Parsed, parsed, whole}
-use Rattle.reading.specs.Steps.{after, need}
-use Rattle.reading.specs.Rules as rules
-use Rattle.reading.specs.Reading.{leading, toEnd, parseText}
+use Rattle.grammar.specs.Steps.{after, need}
+use Rattle.grammar.specs.Rules as rules
+use Rattle.grammar.specs.Reading.{leading, toEnd, parseText}
 use Rattle.grammar.specs.OperatorTrees.{mostDepth}
 use Rattle.grammar.specs.Laws.Steps.{impossible}
 use Rattle.grammar.specs.Laws.Looks.{pick-both}
 use Rattle.grammar.specs.Laws.Limited.{limited}
 use Rattle.grammar.specs.Laws.Cut.{tokens-drop}
-use Rattle.reading.specs.Bridge.Relation.{tokens, Halted, fails, waits, refuses, reads, Dead, ends, absent, agree, dead, dead-then}
-use Rattle.reading.specs.Bridge.Places.{limited-first}
-use Rattle.reading.specs.Bridge.Trees.{Bad}
-use Rattle.reading.specs.Bridge.Tails.{SimExpr}
-use Rattle.reading.specs.Bridge.Whole.{expr-level}
+use Rattle.grammar.specs.Bridge.Relation.{tokens, Halted, fails, waits, refuses, reads, Dead, ends, absent, agree, dead, dead-then}
+use Rattle.grammar.specs.Bridge.Places.{limited-first}
+use Rattle.grammar.specs.Bridge.Trees.{Bad}
+use Rattle.grammar.specs.Bridge.Tails.{SimExpr}
+use Rattle.grammar.specs.Bridge.Whole.{expr-level}
 
 -- A text's reading and the parser's tree: equal, or neither gives an operator tree.
 pub data Agrees (text : List ℕ) : Answer (Expr Span) → Option Tree → Type 0 where

@@ -7,17 +7,17 @@ use Rattle.lexing.specs.Answer.{Answer, refused}
 use Rattle.lexing.specs.Bytes.{isDigit, canStartIdentifierChar}
 use Rattle.lexing.specs.Tokens.{identifierLength}
 use Rattle.tree.specs.Ast.{Span, Expr}
 use Rattle.grammar.specs.Grammar.{Class, product, sum, comparison, conjunction, disjunction, implication, explication, equivalence}
 use Rattle.grammar.specs.Parser as parser
 use Rattle.grammar.specs.Parser.{Parser}
-use Rattle.reading.specs.Steps.{Reader, after}
-use Rattle.reading.specs.Rules as rules
+use Rattle.grammar.specs.Steps.{Reader, after}
+use Rattle.grammar.specs.Rules as rules
 use Rattle.grammar.specs.Laws.Looks.{pick-both}
-use Rattle.reading.specs.Bridge.Relation.{fails, refuses, Dead, ends, absent, dead}
-use Rattle.reading.specs.Bridge.Trees.{Bad}
-use Rattle.reading.specs.Bridge.Answers.{operatorOf}
-use Rattle.reading.specs.Bridge.Tails.{Level, level, left-tail, right-tail, once-tail, either-tail}
-use Rattle.reading.specs.Bridge.Operand.{unary-level}
+use Rattle.grammar.specs.Bridge.Relation.{fails, refuses, Dead, ends, absent, dead}
+use Rattle.grammar.specs.Bridge.Trees.{Bad}
+use Rattle.grammar.specs.Bridge.Answers.{operatorOf}
+use Rattle.grammar.specs.Bridge.Tails.{Level, level, left-tail, right-tail, once-tail, either-tail}
+use Rattle.grammar.specs.Bridge.Operand.{unary-level}
 
 module _ (text : List ℕ) (n : ℕ) where
   abbrev m : ℕ

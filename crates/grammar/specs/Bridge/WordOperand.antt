@@ -13,21 +13,21 @@ use Rattle.lexing.specs.Tokens.{closed, lexeme, identifierLength}
 use Rattle.lexing.specs.TokenLaws.{sameBytes-true, sameBytes-refl, startsWith-true}
 use Rattle.tree.specs.Ast.{Span, Expr, BLiteral, IdExpr}
 use Rattle.tree.specs.Resolve.{part}
 use Rattle.grammar.specs.Words.{bytes, oneOf, isName}
 use Rattle.grammar.specs.Tokens.{Token, name, lparen}
 use Rattle.grammar.specs.Grammar.{Tree}
 use Rattle.grammar.specs.Parser.{Parsed, parsed, failed, Parser, see, isNat, isWord, parseNamed, parseExcluded, parseOperand}
-use Rattle.reading.specs.Steps.{Reader, after, T, Sym, signAt, spanned, parseName, parseNat}
-use Rattle.reading.specs.Rules as rules
+use Rattle.grammar.specs.Steps.{Reader, after, T, Sym, signAt, spanned, parseName, parseNat}
+use Rattle.grammar.specs.Rules as rules
 use Rattle.grammar.specs.Laws.Steps.{impossible}
 use Rattle.grammar.specs.Laws.Views.{speltMark}
-use Rattle.reading.specs.Bridge.Relation.{Halted, fails, waits, Ends, refuses, reads, ends, absent, agree, dead}
-use Rattle.reading.specs.Bridge.Relation.{ends-then, dead-then}
-use Rattle.reading.specs.Bridge.Places.{follow}
-use Rattle.reading.specs.Bridge.Trees.{Bad}
-use Rattle.reading.specs.Bridge.Tails.{SimExpr, Level}
-use Rattle.reading.specs.Bridge.NoOperand.{if-ends, val-ends, quantifier-ends, lift-ends}
-use Rattle.reading.specs.Bridge.Names.{lexeme-ends, name-sim, named-halts, old-sim, old-ends}
+use Rattle.grammar.specs.Bridge.Relation.{Halted, fails, waits, Ends, refuses, reads, ends, absent, agree, dead}
+use Rattle.grammar.specs.Bridge.Relation.{ends-then, dead-then}
+use Rattle.grammar.specs.Bridge.Places.{follow}
+use Rattle.grammar.specs.Bridge.Trees.{Bad}
+use Rattle.grammar.specs.Bridge.Tails.{SimExpr, Level}
+use Rattle.grammar.specs.Bridge.NoOperand.{if-ends, val-ends, quantifier-ends, lift-ends}
+use Rattle.grammar.specs.Bridge.Names.{lexeme-ends, name-sim, named-halts, old-sim, old-ends}
 
 -- ---- a branch of a rule and the branches after it
 
