@@ -69,3 +69,8 @@ printExpression step text words format out =
     pick (leb (length text) mostBytes && leb (startIndent format) mostIndent)
     (printChecked step text words format out (checkExpression words (length text)) refl)
     (refusal 6 0 out)
+
+-- The contract of `print_expression` (one line) and of `print_expression_lines` (broken lines from a start indent): their answer r and the
+-- output afterwards.
+abbrev pub PrintAnswered : (text words : List ℕ) → ExprFormatOption → (out : List ℕ) → Printed → (out′ : List ℕ) → Type 0
+PrintAnswered text words format out r out′ = outcomeOf r out′ ≡ printExpression 2 text words format out

@@ -12,7 +12,7 @@ ghost use mathlib.Core.Path.{_≡_};
 ghost use lib.ListN.{length};
 ghost use Rattle.printing.specs.declared.format.ExprFormatOption.the-variants.{SingleLine, MultipleLines};
 ghost use Rattle.printing.specs.Ends.{Known};
-ghost use Rattle.printing.specs.Entries.{mostPrint, mostIndent, startIndent, outcomeOf, printExpression};
+ghost use Rattle.printing.specs.Entries.{mostPrint, mostIndent, startIndent, outcomeOf, PrintAnswered};
 ghost use Rattle.printing.specs.Stores.{Stores, delivered};
 
 const MOST_TEXT: usize = 32768;
@@ -21,14 +21,14 @@ const MOST_INDENT: usize = 255;
 
 // Prints the expression that a table holds over a text on one line.
 pub fn print_expression(text: &[u8], words: &[u32], out: &mut [u8]) -> Printed
-    ensures { λ r. ⌜ outcomeOf r (now (out .exit)) ≡ printExpression 2 (now (text .entry)) (now (words .entry)) SingleLine (now (out .entry)) ⌝ }
+    ensures { λ r. ⌜ PrintAnswered (now (text .entry)) (now (words .entry)) SingleLine (now (out .entry)) r (now (out .exit)) ⌝ }
 {
     print(text, words, ExprFormatOption::SingleLine, out)
 }
 
 // The same on several lines, from a start indent on.
 pub fn print_expression_lines(text: &[u8], words: &[u32], indent: usize, out: &mut [u8]) -> Printed
-    ensures { λ r. ⌜ outcomeOf r (now (out .exit)) ≡ printExpression 2 (now (text .entry)) (now (words .entry)) (MultipleLines indent) (now (out .entry)) ⌝ }
+    ensures { λ r. ⌜ PrintAnswered (now (text .entry)) (now (words .entry)) (MultipleLines indent) (now (out .entry)) r (now (out .exit)) ⌝ }
 {
     if MOST_INDENT < indent {
         return Printed::Refused(6, 0);
@@ -38,7 +38,7 @@ pub fn print_expression_lines(text: &[u8], words: &[u32], indent: usize, out: &m
 
 fn print(text: &[u8], words: &[u32], format: ExprFormatOption, out: &mut [u8]) -> Printed
     requires { ⌜ startIndent format ≤ mostIndent ⌝ }
-    ensures { λ r. ⌜ outcomeOf r (now (out .exit)) ≡ printExpression 2 (now (text .entry)) (now (words .entry)) format (now (out .entry)) ⌝ }
+    ensures { λ r. ⌜ PrintAnswered (now (text .entry)) (now (words .entry)) format (now (out .entry)) r (now (out .exit)) ⌝ }
 {
     if MOST_TEXT < text.len() {
         return Printed::Refused(6, 0);
