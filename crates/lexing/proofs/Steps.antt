@@ -9,7 +9,7 @@ use native.Mathlib.Numerals.{one-add}
 use lib.ListN.{length, getD, drop, take, length-drop, drop-of-length-le}
 use lib.Seq.{take-all, drop-drop}
 use lib.Dec.{leb}
-use Rattle.lexing.specs.Answer.{Answer, ok, refused, pick}
+use Rattle.lexing.specs.Answer.{Answer, ok, refused, largeNatural, pick}
 use Rattle.lexing.specs.Bytes.{isSpace, sameBytes, notNewline, run, startsWith, isDigit, canStartIdentifierChar, identifierChar}
 use Rattle.lexing.specs.Blanks.{passed, unclosed, further, blank, blanksFrom, W, positionAfterEndOfLongComment}
 use Rattle.lexing.specs.Tokens.{identifierLength, keyword, lexeme, closed, decimal, natural, mostNatural}
@@ -169,6 +169,6 @@ module _ (s : List ℕ) {n : ℕ} (d : n ≡ run isDigit s) where
         let (p, w) = number-value (decimal 0 (take n s)) v (sym q ∙ e) in
         rw (← d) (simp (p, ← w) (unlessEmpty-some n _ z))
 
-    pub natural-large : r ≡ TooLarge → refused 4 0 ≡ natural s
+    pub natural-large : r ≡ TooLarge → refused largeNatural 0 ≡ natural s
     unfolding natural
     natural-large q = rw (← d) (simp (number-large (decimal 0 (take n s)) (sym q ∙ e)) (unlessEmpty-some n _ z))

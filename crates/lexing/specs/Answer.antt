@@ -9,6 +9,13 @@ pub data Answer (A : Type 0) : Type 0 where
   none : Answer A
   refused : ℕ → ℕ → Answer A
 
+-- document 01's number for a long comment that is not closed, and for a natural above the largest
+abbrev pub unclosedComment : ℕ
+unclosedComment = 2
+
+abbrev pub largeNatural : ℕ
+largeNatural = 4
+
 -- the answer of a step over `drop at text`, with its places counted in `text`
 abbrev pub moved : {A : Type 0} → ℕ → Answer A → Answer A
 moved at (ok v n) = ok v (at + n)

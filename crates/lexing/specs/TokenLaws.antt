@@ -9,7 +9,7 @@ use lib.ListN.{length, take, drop, getD, length-drop, length-take}
 use lib.Dec.{leb, eqb}
 use lib.Seq.{drop-drop}
 use borrow.Author.Tests.{eqb-true, eq-eqb}
-use Rattle.lexing.specs.Answer.{Answer, ok, none, refused, pick}
+use Rattle.lexing.specs.Answer.{Answer, ok, none, refused, largeNatural, pick}
 use Rattle.lexing.specs.Bytes.{run, startsWith, sameBytes, isDigit, identifierChar, canStartIdentifierChar, customLiteralChar}
 use Rattle.lexing.specs.Blanks.{Blanks, passed, unclosed, W, blank}
 use Rattle.lexing.specs.Tokens.{closed, lexeme, unlessEmpty, identifierLength, parseId, parseCustomLiteral, keyword, sign, signNotPrefix, natural, decimal, mostNatural}
@@ -32,7 +32,7 @@ lexeme-within v k n s h l = go (W (drop n s)) (W-inside (drop n s))
 -- What the readers of tokens answer: nothing, a natural that is too large, or a token of at least k bytes with the blanks after it.
 pub data Token (k : ℕ) (s : List ℕ) : Answer ℕ → Type 0 where
   absent : Token k s none
-  too-large : Token k s (refused 4 0)
+  too-large : Token k s (refused largeNatural 0)
   present : (v n : ℕ) → k ≤ n → n ≤ length s → Token k s (lexeme v n s)
 
 -- a token lies inside the text

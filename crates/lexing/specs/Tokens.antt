@@ -3,14 +3,14 @@ use mathlib.Core.List.{List, [], _∷_}
 use Prim.Native.Nat.{ℕ, zero, suc, _+_, _*_, _-_}
 use lib.ListN.{length, take, drop}
 use lib.Dec.{leb}
-use Rattle.lexing.specs.Answer.{Answer, ok, none, refused, pick}
+use Rattle.lexing.specs.Answer.{Answer, ok, none, refused, unclosedComment, largeNatural, pick}
 use Rattle.lexing.specs.Bytes.{isDigit, canStartIdentifierChar, identifierChar, customLiteralChar, run, startsWith, sameBytes}
 use Rattle.lexing.specs.Blanks.{Blanks, passed, unclosed, W}
 
 -- the answer of a token of n bytes with the blanks after it
 abbrev pub closed : ℕ → ℕ → Blanks → Answer ℕ
 closed v n (passed k) = ok v (n + k)
-closed v n (unclosed place) = refused 2 (n + place)
+closed v n (unclosed place) = refused unclosedComment (n + place)
 
 -- `.I_e(W)`: a token with the value v that takes n bytes, and the blanks after it
 unfoldable pub lexeme : ℕ → ℕ → List ℕ → Answer ℕ
@@ -56,8 +56,8 @@ decimal v (d ∷ s) = decimal (v * 10 + (d - 48)) s
 abbrev pub mostNatural : ℕ
 mostNatural = 0xffff_ffff_ffff_ffff
 
--- `Nat.I_e(W)`: the value is the natural; refusal 4 at its first digit where it exceeds the largest
+-- `Nat.I_e(W)`: the value is the natural; refused at its first digit where it exceeds the largest
 unfoldable pub natural : List ℕ → Answer ℕ
 natural s =
     unlessEmpty (run isDigit s)
-    (pick (leb (decimal 0 (take (run isDigit s) s)) mostNatural) (lexeme (decimal 0 (take (run isDigit s) s)) (run isDigit s) s) (refused 4 0))
+    (pick (leb (decimal 0 (take (run isDigit s) s)) mostNatural) (lexeme (decimal 0 (take (run isDigit s) s)) (run isDigit s) s) (refused largeNatural 0))

@@ -11,6 +11,14 @@ ghost use Prim.Native.Nat.{_-_};
 ghost use Rattle.lexing.specs.Tokens as tokens;
 ghost use Rattle.lexing.specs.Code.{answerOf, numberOf};
 
+// The refusal numbers of a long comment that is not closed and of a natural above the largest.
+pub const UNCLOSED_COMMENT: u64 = 2;
+
+pub const LARGE_NATURAL: u64 = 4;
+
+// The largest natural.
+const MOST_NATURAL: u64 = 18446744073709551615;
+
 // What reading a token answers.
 pub enum Lexed {
     // Its value, and how many bytes it takes with the blanks after it.
@@ -37,7 +45,7 @@ pub fn lexeme(text: &[u8], value: u64, n: usize) -> Lexed
     }
     match blanks(&text[n..]) {
         Reach::Passed(k) => Lexed::Ok(value, n + k),
-        Reach::Unclosed(k) => Lexed::Refused(2, n + k),
+        Reach::Unclosed(k) => Lexed::Refused(UNCLOSED_COMMENT, n + k),
     }
 }
 
@@ -121,7 +129,7 @@ pub(crate) fn decimal(s: &[u8]) -> Number
     let mut i = 0;
     while i < s.len() {
         let d = digit_value(s[i]);
-        if (18446744073709551615 - d) / 10 < value {
+        if (MOST_NATURAL - d) / 10 < value {
             return Number::TooLarge;
         }
         value = value * 10 + d;
@@ -139,6 +147,6 @@ pub fn natural(text: &[u8]) -> Lexed
     }
     match decimal(&text[..n]) {
         Number::Value(value) => lexeme(text, value, n),
-        Number::TooLarge => Lexed::Refused(4, 0),
+        Number::TooLarge => Lexed::Refused(LARGE_NATURAL, 0),
     }
 }

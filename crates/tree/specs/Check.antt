@@ -5,6 +5,7 @@ use mathlib.Core.Option.{Option, none, some}
 use mathlib.Core.List.{List, [], _∷_, _++_}
 use lib.ListN.{length}
 use lib.Dec.{leb}
+use Rattle.tree.specs.Limits.{mostWords}
 use Rattle.tree.specs.Ast.{Span}
 use Rattle.tree.specs.Kind.{choose, Kind, expr, programFields, fits, misfit, turn}
 use Rattle.tree.specs.declared.Checked.{Checked}
@@ -29,7 +30,7 @@ pub record NameIn (len : ℕ) : Type 0 where
   pub inside : span .start + span .len ≤ len
 
 abbrev pub check : List Kind → List ℕ → ℕ → Checked
-check ks words len = choose (leb (length words) 16384) (run (within len) ks 0 words) TooLong
+check ks words len = choose (leb (length words) mostWords) (run (within len) ks 0 words) TooLong
 
 -- the table of an expression, and of a program, over a text of that length
 unfoldable pub checkExpression : List ℕ → ℕ → Checked
@@ -47,3 +48,12 @@ abbrev pub refusal : Checked → Option Refusal
 refusal Tree = none
 refusal (Misfit at) = some (record { number = 7; place = at })
 refusal TooLong = some (record { number = 6; place = 0 })
+
+-- the refusal of a table, none where it is one expression's, or one program's, over a text of that length
+unfoldable pub expressionRefusal : List ℕ → ℕ → Option Refusal
+unfolding checkExpression
+expressionRefusal words len = refusal (checkExpression words len)
+
+unfoldable pub programRefusal : List ℕ → ℕ → Option Refusal
+unfolding checkProgram
+programRefusal words len = refusal (checkProgram words len)

@@ -6,6 +6,7 @@ use mathlib.Core.Logic.{_↔_}
 use mathlib.Core.Option.{none, some}
 use mathlib.Core.List.{List, [], _++_}
 use lib.ListN.{length, getD, drop}
+use Rattle.tree.specs.Limits.{mostWords}
 use Rattle.tree.specs.Ast.{Span, Expr, Program}
 use Rattle.tree.specs.Resolve.{mapExpr, mapProgram}
 use Rattle.tree.specs.Words.{exprWords, programWords}
@@ -24,11 +25,11 @@ use Rattle.tree.specs.declared.Checked.the-variants.{Tree, Misfit}
 
 -- Accepted if and only if there are at most 16,384 words and they are those of a tree whose names lie inside the text.
 pub expression-accepted : (words : List ℕ) (len : ℕ)
-    → (checkExpression words len ≡ Tree) ↔ ((length words ≤ 16384) × ((t : Expr (NameIn len)) × (exprWords (λ n. n .span) t [] ≡ words)))
+    → (checkExpression words len ≡ Tree) ↔ ((length words ≤ mostWords) × ((t : Expr (NameIn len)) × (exprWords (λ n. n .span) t [] ≡ words)))
 expression-accepted = Tables.expression-accepted
 
 pub program-accepted : (words : List ℕ) (len : ℕ)
-    → (checkProgram words len ≡ Tree) ↔ ((length words ≤ 16384) × ((p : Program (NameIn len)) × (programWords (λ n. n .span) p [] ≡ words)))
+    → (checkProgram words len ≡ Tree) ↔ ((length words ≤ mostWords) × ((p : Program (NameIn len)) × (programWords (λ n. n .span) p [] ≡ words)))
 program-accepted = Tables.program-accepted
 
 -- The words determine the tree, and what follows it.
@@ -62,14 +63,14 @@ accepted-is-unrefused = Refused.no-refusal
 pub misfit-is-7 : (c : Checked) (place : ℕ) → (refusal c ≡ some (record { number = 7; place = place })) ↔ (c ≡ Misfit place)
 misfit-is-7 = Refused.refusal-7
 
-pub too-many-is-6 : (ks : List Kind) (words : List ℕ) (len : ℕ) → (refusal (check ks words len) ≡ some (record { number = 6; place = 0 })) ↔ (16384 < length words)
+pub too-many-is-6 : (ks : List Kind) (words : List ℕ) (len : ℕ) → (refusal (check ks words len) ≡ some (record { number = 6; place = 0 })) ↔ (mostWords < length words)
 too-many-is-6 = Refused.refusal-6
 
 -- A misfit's place is at most the word count.
-pub expression-place : (words : List ℕ) (len p : ℕ) → checkExpression words len ≡ Misfit p → (p ≤ length words) × (length words ≤ 16384)
+pub expression-place : (words : List ℕ) (len p : ℕ) → checkExpression words len ≡ Misfit p → (p ≤ length words) × (length words ≤ mostWords)
 expression-place = Tables.expression-place
 
-pub program-place : (words : List ℕ) (len p : ℕ) → checkProgram words len ≡ Misfit p → (p ≤ length words) × (length words ≤ 16384)
+pub program-place : (words : List ℕ) (len p : ℕ) → checkProgram words len ≡ Misfit p → (p ≤ length words) × (length words ≤ mostWords)
 program-place = Tables.program-place
 
 -- A walk over a table goes from a tree's first word to its fields' words, for every kind and constructor.

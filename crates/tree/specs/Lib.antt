@@ -4,6 +4,7 @@ pub mod Ast
 pub mod Resolve
 pub mod Words
 pub mod Kind
+pub mod Limits
 pub mod Check
 -- what is proved, and examples
 pub mod Refused

@@ -8,6 +8,7 @@ use mathlib.Core.List.{List, [], _∷_, _++_}
 use lib.ListN.{length}
 use lib.Dec.{leb}
 use borrow.Author.Tests.{leb-true, le-leb}
+use Rattle.tree.specs.Limits.{mostWords}
 use Rattle.tree.specs.Ast.{Span, Expr, Program}
 use Rattle.tree.specs.Resolve.{mapExpr, mapProgram}
 use Rattle.tree.specs.Words.{exprWords, programWords}
@@ -21,14 +22,14 @@ use Rattle.tree.specs.declared.Checked.{Checked}
 use Rattle.tree.specs.declared.Checked.the-variants.{Tree, Misfit, TooLong}
 
 accepted : (ks : List Kind) (words : List ℕ) (len : ℕ)
-    → (check ks words len ≡ Tree) ↔ ((length words ≤ 16384) × ((ts : Trees (namesIn len) ks) × (allWords (namesIn len) ks ts [] ≡ words)))
-accepted ks words len = (to (leb (length words) 16384) refl, λ h. from (leb (length words) 16384) (le-leb _ _ (h .0)) (h .1))
+    → (check ks words len ≡ Tree) ↔ ((length words ≤ mostWords) × ((ts : Trees (namesIn len) ks) × (allWords (namesIn len) ks ts [] ≡ words)))
+accepted ks words len = (to (leb (length words) mostWords) refl, λ h. from (leb (length words) mostWords) (le-leb _ _ (h .0)) (h .1))
   where
     Answer : Bool → Checked
     Answer b = choose b (run (within len) ks 0 words) TooLong
 
-    to : (b : Bool) → leb (length words) 16384 ≡ b → Answer b ≡ Tree
-        → (length words ≤ 16384) × ((ts : Trees (namesIn len) ks) × (allWords (namesIn len) ks ts [] ≡ words))
+    to : (b : Bool) → leb (length words) mostWords ≡ b → Answer b ≡ Tree
+        → (length words ≤ mostWords) × ((ts : Trees (namesIn len) ks) × (allWords (namesIn len) ks ts [] ≡ words))
     to true h e = (leb-true _ _ h, sound (namesIn len) ks 0 words e)
     to false h e = impossible cc
 
@@ -45,14 +46,14 @@ module _ (I : Names) where
   fromProgram p = (p .types, (p .taggers, (p .functions, (p .axioms, (p .procedures, tt)))))
 
 pub expression-accepted : (words : List ℕ) (len : ℕ)
-    → (checkExpression words len ≡ Tree) ↔ ((length words ≤ 16384) × ((t : Expr (NameIn len)) × (exprWords (λ n. n .span) t [] ≡ words)))
+    → (checkExpression words len ≡ Tree) ↔ ((length words ≤ mostWords) × ((t : Expr (NameIn len)) × (exprWords (λ n. n .span) t [] ≡ words)))
 unfolding checkExpression
 expression-accepted words len =
     let a = accepted (expr ∷ []) words len in
     ((λ e. let r = a .0 e in (r .0, (r .1 .0 .0, r .1 .1))), (λ h. a .1 (h .0, ((h .1 .0, tt), h .1 .1))))
 
 pub program-accepted : (words : List ℕ) (len : ℕ)
-    → (checkProgram words len ≡ Tree) ↔ ((length words ≤ 16384) × ((p : Program (NameIn len)) × (programWords (λ n. n .span) p [] ≡ words)))
+    → (checkProgram words len ≡ Tree) ↔ ((length words ≤ mostWords) × ((p : Program (NameIn len)) × (programWords (λ n. n .span) p [] ≡ words)))
 unfolding checkProgram
 program-accepted words len =
     let a = accepted programFields words len in (
@@ -96,17 +97,17 @@ run-place inside (k ∷ ks) at (w ∷ ws) p e = go (turn inside k w) e (λ fs h.
     go (fits fs) h ih = let q = ih fs h in omega arith
     go (misfit b) h ih = let q : at - b ≡ p = cc in omega arith
 
-place : (ks : List Kind) (words : List ℕ) (len p : ℕ) → check ks words len ≡ Misfit p → (p ≤ length words) × (length words ≤ 16384)
-place ks words len p = go (leb (length words) 16384) refl
+place : (ks : List Kind) (words : List ℕ) (len p : ℕ) → check ks words len ≡ Misfit p → (p ≤ length words) × (length words ≤ mostWords)
+place ks words len p = go (leb (length words) mostWords) refl
   where
-    go : (b : Bool) → leb (length words) 16384 ≡ b → choose b (run (within len) ks 0 words) TooLong ≡ Misfit p → (p ≤ length words) × (length words ≤ 16384)
+    go : (b : Bool) → leb (length words) mostWords ≡ b → choose b (run (within len) ks 0 words) TooLong ≡ Misfit p → (p ≤ length words) × (length words ≤ mostWords)
     go true h e = let q = run-place (within len) ks 0 words p e in (omega arith, leb-true _ _ h)
     go false h e = impossible cc
 
-pub expression-place : (words : List ℕ) (len p : ℕ) → checkExpression words len ≡ Misfit p → (p ≤ length words) × (length words ≤ 16384)
+pub expression-place : (words : List ℕ) (len p : ℕ) → checkExpression words len ≡ Misfit p → (p ≤ length words) × (length words ≤ mostWords)
 unfolding checkExpression
 expression-place words len p e = place (expr ∷ []) words len p e
 
-pub program-place : (words : List ℕ) (len p : ℕ) → checkProgram words len ≡ Misfit p → (p ≤ length words) × (length words ≤ 16384)
+pub program-place : (words : List ℕ) (len p : ℕ) → checkProgram words len ≡ Misfit p → (p ≤ length words) × (length words ≤ mostWords)
 unfolding checkProgram
 program-place words len p e = place programFields words len p e

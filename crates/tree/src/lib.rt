@@ -10,8 +10,13 @@ ghost use mathlib.Core.Path.{_≡_};
 ghost use Prim.Native.Nat.{_+_, _*_, _^_};
 ghost use lib.ListN.{getD};
 ghost use Rattle.tree.specs.Resolve.{part};
-ghost use Rattle.tree.specs.Check.{check as checkOf, checkExpression, checkProgram};
+ghost use Rattle.tree.specs.Check.{check as checkOf, refusal, expressionRefusal, programRefusal};
 ghost use Rattle.tree.specs.Rows.{kindsOf};
+
+// The limits of a table's words and of a text's bytes.
+pub const MOST_WORDS: usize = 16384;
+
+pub const MOST_TEXT: usize = 32768;
 
 // What the check of a table finds.
 pub enum Checked {
@@ -19,20 +24,20 @@ pub enum Checked {
     Tree,
     // The words aren't one tree; the place is that of refusal 7.
     Misfit(usize),
-    // There are more than 16,384 words.
+    // There are more than `MOST_WORDS` words.
     TooLong,
 }
 
 // Whether the words are one expression over a text of that length.
 pub fn check_expression(words: &[u32], text_len: usize) -> Checked
-    ensures { λ r. ⌜ r ≡ checkExpression (now (words .entry)) «text_len» ⌝ }
+    ensures { λ r. ⌜ refusal r ≡ expressionRefusal (now (words .entry)) «text_len» ⌝ }
 {
     check(words, text_len, EXPR)
 }
 
 // Whether the words are one program over a text of that length.
 pub fn check_program(words: &[u32], text_len: usize) -> Checked
-    ensures { λ r. ⌜ r ≡ checkProgram (now (words .entry)) «text_len» ⌝ }
+    ensures { λ r. ⌜ refusal r ≡ programRefusal (now (words .entry)) «text_len» ⌝ }
 {
     check(words, text_len, PROGRAM)
 }
@@ -45,8 +50,8 @@ fn check(words: &[u32], text_len: usize, first: u32) -> Checked
         let mut stack = [0u32; 256];
         return walk(words, text_len, first, &mut stack);
     }
-    if words.len() <= 16384 {
-        let mut stack = [0u32; 16385];
+    if words.len() <= MOST_WORDS {
+        let mut stack = [0u32; MOST_WORDS + 1];
         return walk(words, text_len, first, &mut stack);
     }
     Checked::TooLong

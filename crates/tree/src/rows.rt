@@ -173,14 +173,14 @@ const CONTENT_ROWS: [u32; 20] = [
 ];
 
 // What a word says where a kind is expected.
-pub enum Fit {
+pub(crate) enum Fit {
     // The row of its fields.
     Row(u32),
     Misfit,
 }
 
 // What a word says at a kind of those before NAME; 0, which no row holds, is taken for BOOL.
-pub fn turn(kind: u32, word: u32) -> Fit
+pub(crate) fn turn(kind: u32, word: u32) -> Fit
     requires { ⌜ kind < 27 ⌝ }
     ensures { λ r. ⌜ ((inside : ℕ → ℕ → Bool) → asTurn r ≡ turnOf inside (kindOf kind) word) ⌝ }
 {

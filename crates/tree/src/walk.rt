@@ -13,7 +13,7 @@ ghost use Rattle.tree.specs.Check.{run, within};
 ghost use Rattle.tree.specs.Rows.{kindOf, kindsOf, Stepped};
 
 // What the words at a place do where a kind is expected.
-pub enum Step {
+pub(crate) enum Step {
     // They fit: the place after them, and the row that is expected next.
     Go(usize, u32),
     // The place of the misfit.
@@ -21,7 +21,7 @@ pub enum Step {
 }
 
 // What the check finds where the kinds of the row `first` are expected at the table's start.
-pub fn walk(words: &[u32], text_len: usize, first: u32, stack: &mut [u32]) -> Checked
+pub(crate) fn walk(words: &[u32], text_len: usize, first: u32, stack: &mut [u32]) -> Checked
     requires { ⌜ length (now words) < length (now stack) ⌝ }
     ensures { λ r. ⌜ r ≡ run (within «text_len») (kindsOf first) 0 (now (words .entry)) ⌝ }
 {

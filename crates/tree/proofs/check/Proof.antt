@@ -6,14 +6,15 @@ use mathlib.Core.List.{List}
 use native.Mathlib.Omega.{arith}
 use lib.ListN.{length}
 use borrow.Author.Tests.{le-leb, lt-leb}
+use Rattle.tree.specs.Limits.{mostWords}
 use Rattle.tree.specs.Kind.{Kind}
 use Rattle.tree.specs.Check.{run, within, check}
 use Rattle.tree.specs.declared.Checked.{Checked}
 use Rattle.tree.proofs.check.Statement.{statement}
 use Rattle.tree.proofs.check.Tie as tie
 
-checked-run : (ks : List Kind) (words : List ℕ) (len : ℕ) (r : Checked) → r ≡ run (within len) ks 0 words → length words ≤ 16384 → r ≡ check ks words len
-checked-run ks words len r e h = e ∙ sym (simp (le-leb (length words) 16384 h))
+checked-run : (ks : List Kind) (words : List ℕ) (len : ℕ) (r : Checked) → r ≡ run (within len) ks 0 words → length words ≤ mostWords → r ≡ check ks words len
+checked-run ks words len r e h = e ∙ sym (simp (le-leb (length words) mostWords h))
 
 slice-aggregate-walk : tie.Need-slice-aggregate-walk
 slice-aggregate-walk c = search needs
@@ -34,7 +35,7 @@ returns-2 : tie.Need-returns-2
 returns-2 c = checked-run _ _ _ _ (c .before .walk2 .ensures) (omega arith)
 
 returns-3 : tie.Need-returns-3
-returns-3 c = sym (simp (lt-leb (length (c .before .before .before .args .words .now)) 16384 (c .if2 .left)))
+returns-3 c = sym (simp (lt-leb (length (c .before .before .before .args .words .now)) mostWords (c .if2 .left)))
 
 pub check-spec : {M : Type 1} → statement M
 check-spec =

@@ -1,6 +1,7 @@
 -- The row EXPR is the kind `expr`, by computation.
 use borrow.Author.Needs.{needs}
-use Rattle.tree.specs.Check.{checkExpression}
+use mathlib.Core.Path.{ap}
+use Rattle.tree.specs.Check.{checkExpression, expressionRefusal, refusal}
 use Rattle.tree.specs.Rows.{kindOf, digits, kindsOf}
 use Rattle.tree.proofs.check_expression.Statement.{statement}
 use Rattle.tree.proofs.check_expression.Tie as tie
@@ -9,8 +10,8 @@ check-requires : tie.Need-check-requires
 check-requires c κs = search needs
 
 returns : tie.Need-returns
-unfolding checkExpression kindsOf digits kindOf
-returns c = c .check .ensures
+unfolding checkExpression expressionRefusal kindsOf digits kindOf
+returns c = ap refusal (c .check .ensures)
 
 pub check-expression-spec : {M : Type 1} → statement M
 check-expression-spec = tie.close (tie.spec check-requires returns)
