@@ -4,6 +4,7 @@ use Prim.Native.Nat.{ℕ, _+_, _≤_, _<_, min}
 use native.Mathlib.Omega.{arith}
 use mathlib.Core.Path.{_≡_, refl, sym, ap, _∙_}
 use mathlib.Core.Bool.{Bool, true, false, _&&_}
+use mathlib.Core.Option.{some}
 use mathlib.Core.List.{List, [], _++_, append-nil}
 use lib.ListN.{length, take, drop}
 use lib.Seq.{length-take-le}
@@ -11,7 +12,7 @@ use lib.Dec.{leb}
 use borrow.Author.Tests.{leb-true, leb-false, le-leb, lt-leb}
 use Rattle.lexing.specs.Answer.{pick}
 use Rattle.grammar.specs.Laws.Steps.{impossible}
-use Rattle.tree.specs.Check.{checkExpression}
+use Rattle.tree.specs.Check.{checkExpression, Refusal, refusal as checkRefusal}
 use Rattle.tree.specs.Tables.{expression-accepted}
 use Rattle.tree.specs.declared.Checked.{Checked}
 use Rattle.tree.specs.declared.Checked.the-variants.{Tree, Misfit, TooLong}
@@ -20,7 +21,7 @@ use Rattle.printing.specs.declared.format.ExprFormatOption.{ExprFormatOp
 use Rattle.printing.specs.declared.Printed.{Printed}
 use Rattle.printing.specs.PrintUtil.{Init}
 use Rattle.printing.specs.Entries.{mostPrint, mostIndent, startIndent, Outcome, written, refusal, outcomeOf, stored, printOf, printChecked, printExpression}
-use Rattle.printing.specs.EntryLaws.{prints}
+use Rattle.printing.specs.EntryLaws.{prints, refuses}
 use Rattle.printing.specs.Ends.{Known}
 use Rattle.printing.specs.Wrote.{Wrote}
 use Rattle.printing.specs.Steps.{Prints}
@@ -114,32 +115,15 @@ module _ (text words : List ℕ) (format : ExprFormatOption) (out : List ℕ) wh
   deep-indent h = go (leb (length text) mostBytes)
     where
       go : (v : Bool) → refusal 6 0 out
-          ≡ pick (v && leb (startIndent format) mostIndent) (printChecked 2 text words format out (checkExpression words (length text)) refl) (refusal 6 0 out)
+          ≡ pick (v && leb (startIndent format) mostIndent) (printChecked 2 text words format out (checkRefusal (checkExpression words (length text))) refl) (refusal 6 0 out)
       go true = sym (simp (lt-leb (startIndent format) mostIndent h))
       go false = refl
 
   module _ (t : length text ≤ mostBytes) (i : startIndent format ≤ mostIndent) where
-    checked : {o : Outcome} → o ≡ printChecked 2 text words format out (checkExpression words (length text)) refl → o ≡ printExpression 2 text words format out
-    unfolding printExpression
-    checked e = e ∙ sym (simp (le-leb (length text) mostBytes t, le-leb (startIndent format) mostIndent i))
-
-    pub misfit : {c : Checked} {place : ℕ} → c ≡ checkExpression words (length text) → c ≡ Misfit place → refusal 7 place out ≡ printExpression 2 text words format out
-    unfolding printChecked
-    misfit {c} {place} e f = checked (go (checkExpression words (length text)) refl (sym e ∙ f))
-      where
-        go : (d : Checked) (h : checkExpression words (length text) ≡ d) → d ≡ Misfit place → refusal 7 place out ≡ printChecked 2 text words format out d h
-        go Tree h g = impossible cc
-        go (Misfit q) h g = cc
-        go TooLong h g = impossible cc
-
-    pub too-many : {c : Checked} → c ≡ checkExpression words (length text) → c ≡ TooLong → refusal 6 0 out ≡ printExpression 2 text words format out
-    unfolding printChecked
-    too-many {c} e f = checked (go (checkExpression words (length text)) refl (sym e ∙ f))
-      where
-        go : (d : Checked) (h : checkExpression words (length text) ≡ d) → d ≡ TooLong → refusal 6 0 out ≡ printChecked 2 text words format out d h
-        go Tree h g = impossible cc
-        go (Misfit q) h g = impossible cc
-        go TooLong h g = refl
+    -- the check's refusal is the print's
+    pub refused : {c : Checked} {number place : ℕ} → c ≡ checkExpression words (length text) → checkRefusal c ≡ some (record { number = number; place = place })
+        → refusal number place out ≡ printExpression 2 text words format out
+    refused e f = sym (refuses 2 text words format out t i _ (ap checkRefusal (sym e) ∙ f))
 
     pub accepted : {c : Checked} {out′ : List ℕ} {r : Printed} → c ≡ checkExpression words (length text) → c ≡ Tree → Stores text words format out out′ r
         → outcomeOf r out′ ≡ printExpression 2 text words format out

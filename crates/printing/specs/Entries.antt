@@ -1,18 +1,19 @@
 -- Print an expression (document 01, "The entries"): refusals 6 to 8, and the output afterwards.
 use Rattle.grammar.specs.OperatorTrees.{mostBytes}
-use Prim.Native.Nat.{ℕ}
+use Prim.Native.Nat.{ℕ, _≤_}
 use mathlib.Core.Path.{_≡_, refl}
 use mathlib.Core.Bool.{_&&_}
+use mathlib.Core.Option.{Option, none, some}
 use mathlib.Core.List.{List, [], _++_}
 use lib.ListN.{length, drop}
 use lib.Dec.{leb}
 use Rattle.lexing.specs.Answer.{pick}
 use Rattle.tree.specs.Ast.{Expr}
 use Rattle.tree.specs.Resolve.{bytes}
-use Rattle.tree.specs.Check.{NameIn, checkExpression}
+use Rattle.tree.specs.Words.{exprWords}
+use Rattle.tree.specs.Check.{NameIn, checkExpression, Refusal, refusal as checkRefusal}
 use Rattle.tree.specs.Tables.{expression-accepted}
-use Rattle.tree.specs.declared.Checked.{Checked}
-use Rattle.tree.specs.declared.Checked.the-variants.{Tree, Misfit, TooLong}
+use Rattle.tree.specs.Refused.{no-refusal}
 use Rattle.printing.specs.declared.format.ExprFormatOption.{ExprFormatOption}
 use Rattle.printing.specs.declared.format.ExprFormatOption.the-variants.{SingleLine, MultipleLines}
 use Rattle.printing.specs.declared.Printed.{Printed}
@@ -40,37 +41,53 @@ unfoldable pub stored : List ℕ → List ℕ → Outcome
 stored print out =
     pick (leb (length print) (length out) && leb (length print) mostPrint) (written (length print) (print ++ drop (length print) out)) (refusal 8 0 out)
 
--- the tree that a checked table holds: the one whose words these are
-abbrev pub treeOf : (words : List ℕ) (len : ℕ) → checkExpression words len ≡ Tree → Expr (NameIn len)
-treeOf words len e = expression-accepted words len .0 e .1 .0
+-- the tree that an unrefused table holds: the one whose words these are
+abbrev pub treeOf : (words : List ℕ) (len : ℕ) → checkRefusal (checkExpression words len) ≡ none → Expr (NameIn len)
+treeOf words len e = expression-accepted words len .0 (no-refusal (checkExpression words len) .0 e) .1 .0
 
 -- a name as the part of the text that it occupies
 abbrev pub nameIn : (text : List ℕ) → NameIn (length text) → List ℕ
 nameIn text n = bytes text (n .span)
 
--- the print of a table in a format, without what follows
+-- the print of a tree in a format, without what follows
 unfoldable pub printOf : (step : ℕ) (text : List ℕ) → ExprFormatOption → Expr (NameIn (length text)) → List ℕ
 printOf step text format e = Expression (nameIn text) step e Init format []
 
 module _ (step : ℕ) (text words : List ℕ) (format : ExprFormatOption) (out : List ℕ) where
-  -- by what the check finds: refusal 7 at the check's place
-  unfoldable pub printChecked : (c : Checked) → checkExpression words (length text) ≡ c → Outcome
-  printChecked Tree e = stored (printOf step text format (treeOf words (length text) e)) out
-  printChecked (Misfit place) e = refusal 7 place out
-  printChecked TooLong e = refusal 6 0 out
+  -- the check's refusal, by 7 at a misfit's place or by 6; else the print
+  unfoldable pub printChecked : (r : Option Refusal) → checkRefusal (checkExpression words (length text)) ≡ r → Outcome
+  printChecked none e = stored (printOf step text format (treeOf words (length text) e)) out
+  printChecked (some r) e = refusal (r .number) (r .place) out
 
 abbrev pub startIndent : ExprFormatOption → ℕ
 startIndent SingleLine = 0
 startIndent (MultipleLines indent) = indent
 
--- print expression; the check refuses too many words by 6 too
+-- print expression; of the limits, that on words is the check's
 unfoldable pub printExpression : ℕ → List ℕ → List ℕ → ExprFormatOption → List ℕ → Outcome
 printExpression step text words format out =
     pick (leb (length text) mostBytes && leb (startIndent format) mostIndent)
-    (printChecked step text words format out (checkExpression words (length text)) refl)
+    (printChecked step text words format out (checkRefusal (checkExpression words (length text))) refl)
     (refusal 6 0 out)
 
 -- The contract of `print_expression` (one line) and of `print_expression_lines` (broken lines from a start indent): their answer r and the
 -- output afterwards.
 abbrev pub PrintAnswered : (text words : List ℕ) → ExprFormatOption → (out : List ℕ) → Printed → (out′ : List ℕ) → Type 0
 PrintAnswered text words format out r out′ = outcomeOf r out′ ≡ printExpression 2 text words format out
+
+-- ---- the cases of document 01
+
+-- the table holds the tree t over its text, whose names lie inside it
+abbrev pub Holds : (text words : List ℕ) → Expr (NameIn (length text)) → Type 0
+Holds text words t = exprWords (λ n. n .span) t [] ≡ words
+
+-- the limits that refusal 6 is about
+pub record Within (text words : List ℕ) (format : ExprFormatOption) : Type 0 where
+  pub text-fits : length text ≤ mostBytes
+  pub words-fit : length words ≤ 16384
+  pub indent-fits : startIndent format ≤ mostIndent
+
+-- the limits that refusal 8 is about
+pub record Fits (print out : List ℕ) : Type 0 where
+  pub in-output : length print ≤ length out
+  pub in-print : length print ≤ mostPrint

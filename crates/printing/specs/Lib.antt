@@ -6,6 +6,8 @@ pub mod PrintUtil
 pub mod Printer
 pub mod Entries
 pub mod EntryLaws
+pub mod PrintCases
+pub mod Claims
 pub mod Ends
 pub mod Steps
 pub mod ExprParts

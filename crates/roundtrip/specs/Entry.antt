@@ -3,15 +3,14 @@ use Rattle.grammar.specs.OperatorTrees.{mostBytes}
 use Prim.Native.Nat.{ℕ}
 use mathlib.Core.Path.{_≡_, refl, ap, _∙_}
 use mathlib.Core.Bool.{_&&_}
+use mathlib.Core.Option.{Option, none, some}
 use mathlib.Core.List.{List, [], _++_}
 use lib.Dec.{leb}
 use lib.ListN.{length, take, drop}
 use lib.Seq.{take-append-seam}
 use Rattle.tree.specs.Ast.{Expr}
 use Rattle.tree.specs.Words.{exprWords}
-use Rattle.tree.specs.Check.{NameIn, checkExpression}
-use Rattle.tree.specs.declared.Checked.{Checked}
-use Rattle.tree.specs.declared.Checked.the-variants.{Tree, Misfit, TooLong}
+use Rattle.tree.specs.Check.{NameIn, checkExpression, Refusal, refusal}
 use Rattle.grammar.specs.Laws.Steps.{impossible}
 use Rattle.grammar.specs.Laws.Looks.{pick-cases}
 use Rattle.printing.specs.declared.format.ExprFormatOption.{ExprFormatOption}
@@ -29,18 +28,17 @@ stored-print print out out′ n h =
 
 module _ (step : ℕ) (text words : List ℕ) (format : ExprFormatOption) (out out′ : List ℕ) (n : ℕ) (e : Expr (NameIn (length text)))
     (holds : exprWords (λ n. n .span) e [] ≡ words) where
-  checked-print : (c : Checked) (h : checkExpression words (length text) ≡ c) → printChecked step text words format out c h ≡ written n out′
+  checked-print : (r : Option Refusal) (h : refusal (checkExpression words (length text)) ≡ r) → printChecked step text words format out r h ≡ written n out′
       → take n out′ ≡ printOf step text format e
   unfolding printChecked
-  checked-print Tree h k =
+  checked-print none h k =
       stored-print (printOf step text format (treeOf words (length text) h)) out out′ n k
       ∙ ap (printOf step text format) (tree-of text words e holds h)
-  checked-print (Misfit place) h k = impossible (cc)
-  checked-print TooLong h k = impossible (cc)
+  checked-print (some r) h k = impossible (cc)
 
   pub written-print : printExpression step text words format out ≡ written n out′ → take n out′ ≡ printOf step text format e
   unfolding printExpression
   written-print h =
       pick-cases (leb (length text) mostBytes && leb (startIndent format) mostIndent) h
-      (λ t k. checked-print (checkExpression words (length text)) refl k)
+      (λ t k. checked-print (refusal (checkExpression words (length text))) refl k)
       (λ t k. impossible (cc))

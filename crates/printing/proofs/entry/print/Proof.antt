@@ -1,12 +1,13 @@
 -- The refusals 6 and 7, and the print of an accepted table.
-use Rattle.printing.proofs.Stored.{long-text, misfit, too-many, accepted, few}
+use Rattle.printing.proofs.Stored.{long-text, refused, accepted, few}
+use mathlib.Core.Path.{ap}
+use Rattle.tree.specs.Check.{refusal as checkRefusal}
 use borrow.Author.Needs.{needs}
 use Rattle.printing.proofs.entry.print.Statement.{statement}
 use Rattle.printing.proofs.entry.print.Tie as tie
 use Rattle.printing.proofs.entry.print.Reads as reads
 use Rattle.printing.proofs.entry.print.Lts as lts
 use Rattle.printing.proofs.entry.print_tree.Reads as print-tree-reads
-use Rattle.tree.specs.Refused.{expression-answer}
 use Rattle.tree.proofs.check_expression.Reads as check-expression-reads
 
 returns : tie.Need-returns
@@ -19,7 +20,7 @@ enum-told : tie.Need-enum-told
 enum-told c = search needs
 
 print-tree-requires : tie.Need-print-tree-requires
-print-tree-requires c κs = (c .before .before .before .before .before .before .before .before .pre, few (c .before .before .before .before .before .before .before .before .args .words .now) _ (expression-answer _ _ (c .before .before .before .check-expression .ensures)) (c .before .enum-told .given .1))
+print-tree-requires c κs = (c .before .before .before .before .before .before .before .before .pre, few (c .before .before .before .before .before .before .before .before .args .words .now) _ (c .before .before .before .check-expression .ensures) (c .before .enum-told .given .1))
 
 enum-known-found : tie.Need-enum-known-found
 enum-known-found c = search needs
@@ -31,13 +32,13 @@ same-length : tie.Need-same-length
 same-length c = search needs
 
 returns-2 : tie.Need-returns-2
-returns-2 c = accepted (c .before .before .before .before .before .before .before .before .before .before .before .args .text .now) (c .before .before .before .before .before .before .before .before .before .before .before .args .words .now) _ (c .before .before .before .before .before .before .before .before .before .before .before .args .out .now) (c .before .before .before .before .before .before .before .if1 .left) (c .before .before .before .before .before .before .before .before .before .before .before .pre) (expression-answer _ _ (c .before .before .before .before .before .before .check-expression .ensures)) (c .before .before .before .before .enum-told .given .1) (c .before .before .print-tree .ensures)
+returns-2 c = accepted (c .before .before .before .before .before .before .before .before .before .before .before .args .text .now) (c .before .before .before .before .before .before .before .before .before .before .before .args .words .now) _ (c .before .before .before .before .before .before .before .before .before .before .before .args .out .now) (c .before .before .before .before .before .before .before .if1 .left) (c .before .before .before .before .before .before .before .before .before .before .before .pre) (c .before .before .before .before .before .before .check-expression .ensures) (c .before .before .before .before .enum-told .given .1) (c .before .before .print-tree .ensures)
 
 returns-3 : tie.Need-returns-3
-returns-3 c = misfit (c .before .before .before .before .before .before .before .before .args .text .now) (c .before .before .before .before .before .before .before .before .args .words .now) _ (c .before .before .before .before .before .before .before .before .args .out .now) (c .before .before .before .before .if1 .left) (c .before .before .before .before .before .before .before .before .pre) (expression-answer _ _ (c .before .before .before .check-expression .ensures)) (c .before .found .given .1)
+returns-3 c = refused (c .before .before .before .before .before .before .before .before .args .text .now) (c .before .before .before .before .before .before .before .before .args .words .now) _ (c .before .before .before .before .before .before .before .before .args .out .now) (c .before .before .before .before .if1 .left) (c .before .before .before .before .before .before .before .before .pre) (c .before .before .before .check-expression .ensures) (ap checkRefusal (c .before .found .given .1))
 
 returns-4 : tie.Need-returns-4
-returns-4 c = too-many (c .before .before .before .before .before .before .before .args .text .now) (c .before .before .before .before .before .before .before .args .words .now) _ (c .before .before .before .before .before .before .before .args .out .now) (c .before .before .before .if1 .left) (c .before .before .before .before .before .before .before .pre) (expression-answer _ _ (c .before .before .check-expression .ensures)) (c .enum-told2 .given .1)
+returns-4 c = refused (c .before .before .before .before .before .before .before .args .text .now) (c .before .before .before .before .before .before .before .args .words .now) _ (c .before .before .before .before .before .before .before .args .out .now) (c .before .before .before .if1 .left) (c .before .before .before .before .before .before .before .pre) (c .before .before .check-expression .ensures) (ap checkRefusal (c .enum-told2 .given .1))
 
 pub print-spec : {M : Type 1} → statement M
 print-spec =
