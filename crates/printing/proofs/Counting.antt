@@ -8,6 +8,7 @@ use lib.ListN.{length, drop, getD, set, length-set, List·getD-eq-default}
 use lib.Seq.{getD-set-same, getD-set-other}
 use lib.Dec.{leb}
 use borrow.Author.Tests.{ne-eqb, leb-true, leb-false}
+use Rattle.tree.specs.Limits.{mostWords}
 use Rattle.tree.specs.Ast.{Expr, Exprs, noExprs, _then_}
 use Rattle.tree.specs.Words.{exprWords, exprsWords}
 use Rattle.tree.specs.Check.{NameIn}
@@ -57,13 +58,13 @@ row-end ends kind {row} {at} {a} {b} {c} {d} {word} {w} p q r s e f =
 -- ---- the loop
 
 pub record Filling (table ends₀ ends : List ℕ) (i : ℕ) : Type 0 where
-  pub few : length table ≤ 16384
+  pub few : length table ≤ mostWords
   pub room : length table * 7 ≤ length ends
   pub same : length ends ≡ length ends₀
   pub below : i ≤ length table * 7
   pub right : (len j : ℕ) → i ≤ j → j < length table * 7 → Entry (namesIn len) table ends j
 
-pub filling-none : (table ends : List ℕ) → length table ≤ 16384 → length table * 7 ≤ length ends → Filling table ends ends (length table * 7)
+pub filling-none : (table ends : List ℕ) → length table ≤ mostWords → length table * 7 ≤ length ends → Filling table ends ends (length table * 7)
 filling-none table ends h r = record { few = h; room = r; same = refl; below = omega arith; right = λ len j l m. absurd (omega arith) }
 
 pub filling-more : {table ends₀ ends : List ℕ} {i : ℕ} (e v : ℕ) → Filling table ends₀ ends i → 0 < i

@@ -1,10 +1,9 @@
 -- What the entries answer: a print in a buffer handed to the output, and the refusals.
-use Rattle.grammar.specs.OperatorTrees.{mostBytes}
 use Prim.Native.Nat.{ℕ, _+_, _≤_, _<_, min}
 use native.Mathlib.Omega.{arith}
 use mathlib.Core.Path.{_≡_, refl, sym, ap, _∙_}
 use mathlib.Core.Bool.{Bool, true, false, _&&_}
-use mathlib.Core.Option.{some}
+use mathlib.Core.Option.{none, some}
 use mathlib.Core.List.{List, [], _++_, append-nil}
 use lib.ListN.{length, take, drop}
 use lib.Seq.{length-take-le}
@@ -12,15 +11,15 @@ use lib.Dec.{leb}
 use borrow.Author.Tests.{leb-true, leb-false, le-leb, lt-leb}
 use Rattle.lexing.specs.Answer.{pick}
 use Rattle.grammar.specs.Laws.Steps.{impossible}
-use Rattle.tree.specs.Check.{checkExpression, Refusal, refusal as checkRefusal}
+use Rattle.tree.specs.Limits.{mostText, mostWords}
+use Rattle.tree.specs.Check.{expressionRefusal}
+use Rattle.tree.specs.Refused.{expression-answer}
 use Rattle.tree.specs.Tables.{expression-accepted}
-use Rattle.tree.specs.declared.Checked.{Checked}
-use Rattle.tree.specs.declared.Checked.the-variants.{Tree, Misfit, TooLong}
 use Rattle.printing.specs.declared.parts.Step.{Step}
 use Rattle.printing.specs.declared.format.ExprFormatOption.{ExprFormatOption}
 use Rattle.printing.specs.declared.Printed.{Printed}
 use Rattle.printing.specs.PrintUtil.{Init}
-use Rattle.printing.specs.Entries.{mostPrint, mostIndent, startIndent, Outcome, written, refusal, outcomeOf, stored, printOf, printChecked, printExpression}
+use Rattle.printing.specs.Entries.{mostPrint, mostIndent, startIndent, written, refusal, outcomeOf, stored, printOf, printChecked, printExpression}
 use Rattle.printing.specs.EntryLaws.{prints, refuses}
 use Rattle.printing.specs.Ends.{Known}
 use Rattle.printing.specs.Wrote.{Wrote}
@@ -106,31 +105,31 @@ through {text} {words} {out = out} i known h k x e =
 -- ---- the refusals, and the print of an accepted table
 
 module _ (text words : List ℕ) (format : ExprFormatOption) (out : List ℕ) where
-  pub long-text : mostBytes < length text → refusal 6 0 out ≡ printExpression 2 text words format out
+  pub long-text : mostText < length text → refusal 6 0 out ≡ printExpression 2 text words format out
   unfolding printExpression
-  long-text h = sym (simp (lt-leb (length text) mostBytes h))
+  long-text h = sym (simp (lt-leb (length text) mostText h))
 
   pub deep-indent : mostIndent < startIndent format → refusal 6 0 out ≡ printExpression 2 text words format out
   unfolding printExpression
-  deep-indent h = go (leb (length text) mostBytes)
+  deep-indent h = go (leb (length text) mostText)
     where
       go : (v : Bool) → refusal 6 0 out
-          ≡ pick (v && leb (startIndent format) mostIndent) (printChecked 2 text words format out (checkRefusal (checkExpression words (length text))) refl) (refusal 6 0 out)
+          ≡ pick (v && leb (startIndent format) mostIndent) (printChecked 2 text words format out (expressionRefusal words (length text)) refl) (refusal 6 0 out)
       go true = sym (simp (lt-leb (startIndent format) mostIndent h))
       go false = refl
 
-  module _ (t : length text ≤ mostBytes) (i : startIndent format ≤ mostIndent) where
+  module _ (t : length text ≤ mostText) (i : startIndent format ≤ mostIndent) where
     -- the check's refusal is the print's
-    pub refused : {c : Checked} {number place : ℕ} → c ≡ checkExpression words (length text) → checkRefusal c ≡ some (record { number = number; place = place })
+    pub refused : {number place : ℕ} → expressionRefusal words (length text) ≡ some (record { number = number; place = place })
         → refusal number place out ≡ printExpression 2 text words format out
-    refused e f = sym (refuses 2 text words format out t i _ (ap checkRefusal (sym e) ∙ f))
+    refused e = sym (refuses 2 text words format out t i _ e)
 
-    pub accepted : {c : Checked} {out′ : List ℕ} {r : Printed} → c ≡ checkExpression words (length text) → c ≡ Tree → Stores text words format out out′ r
+    pub accepted : {out′ : List ℕ} {r : Printed} → expressionRefusal words (length text) ≡ none → Stores text words format out out′ r
         → outcomeOf r out′ ≡ printExpression 2 text words format out
-    accepted e f x =
-        let a = expression-accepted words (length text) .0 (sym e ∙ f) in
+    accepted e x =
+        let a = expression-accepted words (length text) .0 (sym (expression-answer words (length text) (sym e))) in
         x .stores (a .1 .0) (a .1 .1) ∙ sym (prints text words (a .1 .0) (a .1 .1) 2 format out t (a .0) i)
 
--- an accepted table is no longer than 16,384 words
-pub few : (words : List ℕ) (len : ℕ) {c : Checked} → c ≡ checkExpression words len → c ≡ Tree → length words ≤ 16384
-few words len e f = expression-accepted words len .0 (sym e ∙ f) .0
+-- an accepted table is no longer than a table may be
+pub few : (words : List ℕ) (len : ℕ) → expressionRefusal words len ≡ none → length words ≤ mostWords
+few words len e = expression-accepted words len .0 (sym (expression-answer words len (sym e))) .0

@@ -8,7 +8,7 @@ use mathlib.Core.Option.{some}
 use mathlib.Core.List.{List, _++_}
 use lib.ListN.{length, drop}
 use Rattle.tree.specs.Ast.{Expr}
-use Rattle.tree.specs.Check.{NameIn, checkExpression, refusal}
+use Rattle.tree.specs.Check.{NameIn, expressionRefusal}
 use Rattle.printing.specs.declared.format.ExprFormatOption.{ExprFormatOption}
 use Rattle.printing.specs.declared.Printed.{Printed}
 use Rattle.printing.specs.declared.Printed.the-variants.{Written, Refused}
@@ -42,7 +42,7 @@ module _ (text words : List ℕ) (format : ExprFormatOption) (out : List ℕ) (r
   refused-7 = Cases.refused-7 text words format out r out′ a
 
   pub refused-7-place : (place : ℕ)
-      → (r ≡ Refused 7 place) ↔ (Within text words format × (refusal (checkExpression words (length text)) ≡ some (record { number = 7; place = place })))
+      → (r ≡ Refused 7 place) ↔ (Within text words format × (expressionRefusal words (length text) ≡ some (record { number = 7; place = place })))
   refused-7-place = Cases.refused-7-place text words format out r out′ a
 
   -- Refusal 8: exactly where the print of the table's tree is longer than the output or than 65,536 bytes.

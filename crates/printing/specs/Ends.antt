@@ -8,6 +8,7 @@ use mathlib.Core.List.{List, [], _∷_}
 use lib.ListN.{length, drop, getD}
 use lib.Dec.{eqb}
 use Rattle.lexing.specs.Answer.{pick}
+use Rattle.tree.specs.Limits.{mostWords}
 use Rattle.tree.specs.Ast.{Expr, Exprs, noExprs, _then_}
 use Rattle.tree.specs.Words.{exprWords, exprsWords}
 use Rattle.tree.specs.Check.{NameIn}
@@ -40,7 +41,7 @@ rowEnd ends row at = endOf ends (row / 4096) (endOf ends (row / 256 % 16) (endOf
 
 -- the ends of the expressions of a table that is no longer than a checked one
 pub record Known (len : ℕ) (table ends : List ℕ) : Type 0 where
-  pub few : length table ≤ 16384
+  pub few : length table ≤ mostWords
   pub expression : (at : ℕ) (t : Expr (NameIn len)) (rest : List ℕ) → drop at table ≡ exprWords (λ n. n .span) t rest → drop (endOf ends 4 at) table ≡ rest
 
 -- how many expressions, of the first so many

@@ -1,19 +1,19 @@
 -- Print an expression (document 01, "The entries"): refusals 6 to 8, and the output afterwards.
-use Rattle.grammar.specs.OperatorTrees.{mostBytes}
 use Prim.Native.Nat.{ℕ, _≤_}
-use mathlib.Core.Path.{_≡_, refl}
+use mathlib.Core.Path.{_≡_, refl, sym}
 use mathlib.Core.Bool.{_&&_}
 use mathlib.Core.Option.{Option, none, some}
 use mathlib.Core.List.{List, [], _++_}
 use lib.ListN.{length, drop}
 use lib.Dec.{leb}
 use Rattle.lexing.specs.Answer.{pick}
+use Rattle.tree.specs.Limits.{mostText, mostWords}
 use Rattle.tree.specs.Ast.{Expr}
 use Rattle.tree.specs.Resolve.{bytes}
 use Rattle.tree.specs.Words.{exprWords}
-use Rattle.tree.specs.Check.{NameIn, checkExpression, Refusal, refusal as checkRefusal}
+use Rattle.tree.specs.Check.{NameIn, Refusal, expressionRefusal}
 use Rattle.tree.specs.Tables.{expression-accepted}
-use Rattle.tree.specs.Refused.{no-refusal}
+use Rattle.tree.specs.Refused.{expression-answer}
 use Rattle.printing.specs.declared.format.ExprFormatOption.{ExprFormatOption}
 use Rattle.printing.specs.declared.format.ExprFormatOption.the-variants.{SingleLine, MultipleLines}
 use Rattle.printing.specs.declared.Printed.{Printed}
@@ -42,8 +42,8 @@ stored print out =
     pick (leb (length print) (length out) && leb (length print) mostPrint) (written (length print) (print ++ drop (length print) out)) (refusal 8 0 out)
 
 -- the tree that an unrefused table holds: the one whose words these are
-abbrev pub treeOf : (words : List ℕ) (len : ℕ) → checkRefusal (checkExpression words len) ≡ none → Expr (NameIn len)
-treeOf words len e = expression-accepted words len .0 (no-refusal (checkExpression words len) .0 e) .1 .0
+abbrev pub treeOf : (words : List ℕ) (len : ℕ) → expressionRefusal words len ≡ none → Expr (NameIn len)
+treeOf words len e = expression-accepted words len .0 (sym (expression-answer words len (sym e))) .1 .0
 
 -- a name as the part of the text that it occupies
 abbrev pub nameIn : (text : List ℕ) → NameIn (length text) → List ℕ
@@ -55,7 +55,7 @@ printOf step text format e = Expression (nameIn text) step e Init format []
 
 module _ (step : ℕ) (text words : List ℕ) (format : ExprFormatOption) (out : List ℕ) where
   -- the check's refusal, by 7 at a misfit's place or by 6; else the print
-  unfoldable pub printChecked : (r : Option Refusal) → checkRefusal (checkExpression words (length text)) ≡ r → Outcome
+  unfoldable pub printChecked : (r : Option Refusal) → expressionRefusal words (length text) ≡ r → Outcome
   printChecked none e = stored (printOf step text format (treeOf words (length text) e)) out
   printChecked (some r) e = refusal (r .number) (r .place) out
 
@@ -66,8 +66,8 @@ startIndent (MultipleLines indent) = indent
 -- print expression; of the limits, that on words is the check's
 unfoldable pub printExpression : ℕ → List ℕ → List ℕ → ExprFormatOption → List ℕ → Outcome
 printExpression step text words format out =
-    pick (leb (length text) mostBytes && leb (startIndent format) mostIndent)
-    (printChecked step text words format out (checkRefusal (checkExpression words (length text))) refl)
+    pick (leb (length text) mostText && leb (startIndent format) mostIndent)
+    (printChecked step text words format out (expressionRefusal words (length text)) refl)
     (refusal 6 0 out)
 
 -- The contract of `print_expression` (one line) and of `print_expression_lines` (broken lines from a start indent): their answer r and the
@@ -83,8 +83,8 @@ Holds text words t = exprWords (λ n. n .span) t [] ≡ words
 
 -- the limits that refusal 6 is about
 pub record Within (text words : List ℕ) (format : ExprFormatOption) : Type 0 where
-  pub text-fits : length text ≤ mostBytes
-  pub words-fit : length words ≤ 16384
+  pub text-fits : length text ≤ mostText
+  pub words-fit : length words ≤ mostWords
   pub indent-fits : startIndent format ≤ mostIndent
 
 -- the limits that refusal 8 is about

@@ -9,21 +9,21 @@ use mathlib.Core.List.{List, [], _∷_, _++_}
 use lib.ListN.{length, drop}
 use lib.Dec.{leb}
 use borrow.Author.Tests.{leb-true, le-leb}
-use Rattle.grammar.specs.OperatorTrees.{mostBytes}
 use Rattle.grammar.specs.Laws.Steps.{impossible}
 use Rattle.grammar.specs.Laws.Looks.{pick-cases, both-true}
+use Rattle.tree.specs.Limits.{mostText}
 use Rattle.tree.specs.Ast.{Expr}
 use Rattle.tree.specs.Kind.{expr}
-use Rattle.tree.specs.Check.{NameIn, checkExpression, refusal as checkRefusal}
+use Rattle.tree.specs.Check.{NameIn, checkExpression, refusal as checkRefusal, expressionRefusal}
 use Rattle.tree.specs.Tables.{expression-accepted, expression-place}
-use Rattle.tree.specs.Refused.{refusal-6, refusal-7}
+use Rattle.tree.specs.Refused.{refusal-6, expression-answer}
 use Rattle.tree.specs.declared.Checked.{Checked}
 use Rattle.tree.specs.declared.Checked.the-variants.{Tree, Misfit, TooLong}
 use Rattle.printing.specs.declared.format.ExprFormatOption.{ExprFormatOption}
 use Rattle.printing.specs.declared.Printed.{Printed}
 use Rattle.printing.specs.declared.Printed.the-variants.{Written, Refused}
 use Rattle.printing.specs.Entries.{mostPrint, mostIndent, startIndent, written, refusal, outcomeOf, stored, printOf, printExpression, PrintAnswered, Holds, Within, Fits}
-use Rattle.printing.specs.EntryLaws.{same-tree, prints, refuses}
+use Rattle.printing.specs.EntryLaws.{refusal-of, same-tree, prints, refuses}
 
 -- one of the four cases of document 01 holds of the answer r and of the output afterwards
 pub data Answer (text words : List ℕ) (format : ExprFormatOption) (out : List ℕ) (r : Printed) (out′ : List ℕ) : Type 0 where
@@ -65,23 +65,23 @@ module _ (text words : List ℕ) (format : ExprFormatOption) (out : List ℕ) (r
   unfolding checkExpression
   too-many h w = let k = refusal-6 (expr ∷ []) words (length text) .0 (ap checkRefusal h) in let f = w .words-fit in omega arith
 
-  of-check : length text ≤ mostBytes → startIndent format ≤ mostIndent → (c : Checked) → checkExpression words (length text) ≡ c
+  of-check : length text ≤ mostText → startIndent format ≤ mostIndent → (c : Checked) → checkExpression words (length text) ≡ c
       → printExpression 2 text words format out ≡ outcomeOf r out′ → Answer text words format out r out′
   of-check ht hi Tree h e =
       let a = expression-accepted words (length text) .0 h in
       of-tree (record { text-fits = ht; words-fit = a .0; indent-fits = hi }) (a .1 .0) (a .1 .1)
       (sym (prints text words (a .1 .0) (a .1 .1) 2 format out ht (a .0) hi) ∙ e)
   of-check ht hi (Misfit place) h e =
-      let c = is-refused r (sym e ∙ refuses 2 text words format out ht hi _ (ap checkRefusal h)) in
+      let c = is-refused r (sym e ∙ refuses 2 text words format out ht hi _ (refusal-of words (length text) h)) in
       misfit (record { text-fits = ht; words-fit = expression-place words (length text) place h .1; indent-fits = hi }) place h (c .0) (c .1)
   of-check ht hi TooLong h e =
-      let c = is-refused r (sym e ∙ refuses 2 text words format out ht hi _ (ap checkRefusal h)) in
+      let c = is-refused r (sym e ∙ refuses 2 text words format out ht hi _ (refusal-of words (length text) h)) in
       over (too-many h) (c .0) (c .1)
 
   pub cases : PrintAnswered text words format out r out′ → Answer text words format out r out′
   unfolding printExpression
   cases a =
-      pick-cases (leb (length text) mostBytes && leb (startIndent format) mostIndent) (sym a)
+      pick-cases (leb (length text) mostText && leb (startIndent format) mostIndent) (sym a)
       (λ b f. let two = both-true _ _ b in
       of-check (leb-true _ _ (two .0)) (leb-true _ _ (two .1)) (checkExpression words (length text)) refl (sym a))
       (λ b f. let c = is-refused r (sym f) in
@@ -152,15 +152,15 @@ module _ (text words : List ℕ) (format : ExprFormatOption) (out : List ℕ) (r
   )
 
   pub refused-7-place : (place : ℕ)
-      → (r ≡ Refused 7 place) ↔ (Within text words format × (checkRefusal (checkExpression words (length text)) ≡ some (record { number = 7; place = place })))
+      → (r ≡ Refused 7 place) ↔ (Within text words format × (expressionRefusal words (length text) ≡ some (record { number = 7; place = place })))
   refused-7-place place = (
     λ e. elim answer [
       | over n f k ↦ let z : _≡_ {A = ℕ} 7 6 = one-number e f in absurd (omega arith)
-      | misfit v at m f k ↦ (v, refusal-7 _ place .1 (m ∙ cc))
+      | misfit v at m f k ↦ (v, refusal-of words (length text) m ∙ cc)
       | long v u i n f k ↦ let z : _≡_ {A = ℕ} 7 8 = one-number e f in absurd (omega arith)
       | printed v u i g f k ↦ not-written f e
     ],
-    λ h. let c = refusal-7 _ place .0 (h .1) in
+    λ h. let c = sym (expression-answer words (length text) {c = Misfit place} (sym (h .1))) in
         elim answer [
           | over n f k ↦ absurd (n (h .0))
           | misfit v at m f k ↦ f ∙ ap (Refused 7) (same-place m c)
@@ -171,7 +171,7 @@ module _ (text words : List ℕ) (format : ExprFormatOption) (out : List ℕ) (r
 
   pub refused-7 : ((place : ℕ) × (r ≡ Refused 7 place)) ↔ (Within text words format × ((t : T) → Holds text words t → ⊥))
   refused-7 = (
-    λ e. let h = refused-7-place (e .0) .0 (e .1) in (h .0, λ t i. held t i (h .0) (refusal-7 _ (e .0) .0 (h .1))),
+    λ e. let h = refused-7-place (e .0) .0 (e .1) in (h .0, λ t i. held t i (h .0) (sym (expression-answer words (length text) {c = Misfit (e .0)} (sym (h .1))))),
     λ h. elim answer [
       | over n f k ↦ absurd (n (h .0))
       | misfit v at m f k ↦ (at, f)

@@ -5,6 +5,7 @@ use tree::get;
 ghost use mathlib.Core.Path.{_≡_};
 ghost use Prim.Native.Nat.{ℕ, _+_, _*_, _^_, _≤_, _<_};
 ghost use lib.ListN.{length, getD};
+ghost use Rattle.tree.specs.Limits.{mostWords};
 ghost use Rattle.printing.specs.Ends.{EndAt, rowOf, rowEnd, Known, Counts};
 
 // The kinds are numbers from 0 on: no words, one word, two words, an optional name, an expression, expressions, bindings, patterns,
@@ -82,7 +83,7 @@ fn narrow(x: usize) -> u16
 
 // Fills the table of ends.
 pub(crate) fn fill(words: &[u32], ends: &mut [u16])
-    requires { ⌜ (length (now words) ≤ 16384) × (length (now words) * 7 ≤ length (now ends)) ⌝ }
+    requires { ⌜ (length (now words) ≤ mostWords) × (length (now words) * 7 ≤ length (now ends)) ⌝ }
     ensures { λ _. ⌜ ((len : ℕ) → Known len (now (words .entry)) (now (ends .exit))) ⌝ }
 {
     let mut i = words.len() * KINDS;

@@ -6,16 +6,17 @@ use crate::format::ExprFormatOption;
 use crate::power::BindingPower;
 use crate::write::store;
 use tree::Checked;
+use tree::MOST_TEXT;
+use tree::MOST_WORDS;
 use tree::check_expression;
 ghost use Prim.Native.Nat.{ℕ, _≤_, min};
 ghost use mathlib.Core.Path.{_≡_};
 ghost use lib.ListN.{length};
+ghost use Rattle.tree.specs.Limits.{mostWords};
 ghost use Rattle.printing.specs.declared.format.ExprFormatOption.the-variants.{SingleLine, MultipleLines};
 ghost use Rattle.printing.specs.Ends.{Known};
 ghost use Rattle.printing.specs.Entries.{mostPrint, mostIndent, startIndent, outcomeOf, PrintAnswered};
 ghost use Rattle.printing.specs.Stores.{Stores, delivered};
-
-const MOST_TEXT: usize = 32768;
 
 const MOST_INDENT: usize = 255;
 
@@ -53,7 +54,7 @@ fn print(text: &[u8], words: &[u32], format: ExprFormatOption, out: &mut [u8]) -
 
 // The print of a table's tree. A small table takes a small table of ends.
 fn print_tree(text: &[u8], words: &[u32], format: ExprFormatOption, out: &mut [u8]) -> Printed
-    requires { ⌜ (startIndent format ≤ mostIndent) × (length (now words) ≤ 16384) ⌝ }
+    requires { ⌜ (startIndent format ≤ mostIndent) × (length (now words) ≤ mostWords) ⌝ }
     ensures { λ r. ⌜ Stores (now (text .entry)) (now (words .entry)) format (now (out .entry)) (now (out .exit)) r ⌝ }
 {
     if words.len() <= 256 {
@@ -61,7 +62,7 @@ fn print_tree(text: &[u8], words: &[u32], format: ExprFormatOption, out: &mut [u
         fill(words, &mut ends);
         return print_by(text, words, &ends, format, out);
     }
-    let mut ends = [0u16; 114688];
+    let mut ends = [0u16; 7 * MOST_WORDS];
     fill(words, &mut ends);
     print_by(text, words, &ends, format, out)
 }

@@ -10,7 +10,7 @@ use lib.ListN.{length, take, drop}
 use lib.Seq.{take-append-seam}
 use Rattle.tree.specs.Ast.{Expr}
 use Rattle.tree.specs.Words.{exprWords}
-use Rattle.tree.specs.Check.{NameIn, checkExpression, Refusal, refusal}
+use Rattle.tree.specs.Check.{NameIn, Refusal, expressionRefusal}
 use Rattle.grammar.specs.Laws.Steps.{impossible}
 use Rattle.grammar.specs.Laws.Looks.{pick-cases}
 use Rattle.printing.specs.declared.format.ExprFormatOption.{ExprFormatOption}
@@ -28,7 +28,7 @@ stored-print print out out′ n h =
 
 module _ (step : ℕ) (text words : List ℕ) (format : ExprFormatOption) (out out′ : List ℕ) (n : ℕ) (e : Expr (NameIn (length text)))
     (holds : exprWords (λ n. n .span) e [] ≡ words) where
-  checked-print : (r : Option Refusal) (h : refusal (checkExpression words (length text)) ≡ r) → printChecked step text words format out r h ≡ written n out′
+  checked-print : (r : Option Refusal) (h : expressionRefusal words (length text) ≡ r) → printChecked step text words format out r h ≡ written n out′
       → take n out′ ≡ printOf step text format e
   unfolding printChecked
   checked-print none h k =
@@ -40,5 +40,5 @@ module _ (step : ℕ) (text words : List ℕ) (format : ExprFormatOption) (out o
   unfolding printExpression
   written-print h =
       pick-cases (leb (length text) mostBytes && leb (startIndent format) mostIndent) h
-      (λ t k. checked-print (refusal (checkExpression words (length text))) refl k)
+      (λ t k. checked-print (expressionRefusal words (length text)) refl k)
       (λ t k. impossible (cc))
