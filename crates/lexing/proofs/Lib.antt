@@ -1,3 +1,3 @@
 -- What the proofs of several functions cite.
 pub mod Loops
-pub mod Steps
+pub mod Returns

@@ -13,8 +13,8 @@ use borrow.Author.Tests.{eq-eqb, ne-eqb, le-leb, lt-leb}
 use Rattle.lexing.specs.Bytes.{oneOf, run, startsWith, sameBytes}
 use Rattle.lexing.specs.Blanks.{Mark, closing, mark, plus, atMark, longComment, positionAfterEndOfLongComment, orElse}
 use Rattle.lexing.specs.Tokens.{decimal, mostNatural}
-use Rattle.lexing.specs.Laws.{plus-plus, longComment-inside}
-use Rattle.lexing.specs.Code.{Position, markOf, endOf, numberOf}
+use Rattle.lexing.specs.BlankLaws.{plus-plus, longComment-inside}
+use Rattle.lexing.specs.CodeAnswers.{Position, markOf, endOf, numberOf}
 use Rattle.lexing.specs.declared.blank.Pair.{Pair}
 use Rattle.lexing.specs.declared.blank.Pair.the-variants.{Closing, Opening, Neither}
 use Rattle.lexing.specs.declared.blank.End.{End}
@@ -95,11 +95,11 @@ pub startsWith-long : (w s : List ℕ) → length s < length w → startsWith w 
 unfolding startsWith
 startsWith-long [] s h = absurd (omega arith)
 startsWith-long (a ∷ w) [] h = refl
-startsWith-long (a ∷ w) (b ∷ s) h = go (eqb a b) (startsWith-long w s (omega arith))
+startsWith-long (a ∷ w) (b ∷ s) h = by-test (eqb a b) (startsWith-long w s (omega arith))
   where
-    go : (t : Bool) → startsWith w s ≡ false → (t && startsWith w s) ≡ false
-    go true e = e
-    go false e = refl
+    by-test : (t : Bool) → startsWith w s ≡ false → (t && startsWith w s) ≡ false
+    by-test true e = e
+    by-test false e = refl
 
 -- of the same length, one starts with the other where they are the same
 pub sameBytes-starts : (a b : List ℕ) → length a ≡ length b → startsWith b a ≡ sameBytes a b
@@ -114,11 +114,11 @@ unfolding sameBytes
 sameBytes-lengths [] [] h = absurd (h refl)
 sameBytes-lengths [] (y ∷ b) h = refl
 sameBytes-lengths (x ∷ a) [] h = refl
-sameBytes-lengths (x ∷ a) (y ∷ b) h = go (eqb y x) (sameBytes-lengths a b (λ e. h (ap suc e)))
+sameBytes-lengths (x ∷ a) (y ∷ b) h = by-test (eqb y x) (sameBytes-lengths a b (λ e. h (ap suc e)))
   where
-    go : (t : Bool) → sameBytes a b ≡ false → (t && sameBytes a b) ≡ false
-    go true e = e
-    go false e = refl
+    by-test : (t : Bool) → sameBytes a b ≡ false → (t && sameBytes a b) ≡ false
+    by-test true e = e
+    by-test false e = refl
 
 decimal-next : (s : List ℕ) (i v : ℕ) → i < length s → decimal v (drop i s) ≡ decimal (v * 10 + (getD s i 0 - 48)) (drop (i + 1) s)
 unfolding decimal
@@ -173,12 +173,12 @@ longComment-at d s i h =
 
 pub longComment-end : (d : ℕ) (s : List ℕ) (i : ℕ) → length s ≤ i + 1 → longComment d (drop i s) ≡ none
 unfolding longComment
-longComment-end d s i h = go (drop i s) (length-drop i s)
+longComment-end d s i h = by-rest (drop i s) (length-drop i s)
   where
-    go : (t : List ℕ) → length t ≡ length s - i → longComment d t ≡ none
-    go [] e = refl
-    go (a ∷ []) e = refl
-    go (a ∷ (b ∷ t)) e = absurd (omega arith)
+    by-rest : (t : List ℕ) → length t ≡ length s - i → longComment d t ≡ none
+    by-rest [] e = refl
+    by-rest (a ∷ []) e = refl
+    by-rest (a ∷ (b ∷ t)) e = absurd (omega arith)
 
 -- the loop of `long_comment` at i, with d comments open inside the outermost
 pub record Open (s : List ℕ) (d i : ℕ) : Type 0 where
@@ -187,11 +187,11 @@ pub record Open (s : List ℕ) (d i : ℕ) : Type 0 where
   pub says : longComment 0 s ≡ plus i (longComment d (drop i s))
 
 pub open-start : (s : List ℕ) → Open s 0 0
-open-start s = record { inside = omega arith; few = omega arith; says = go (longComment 0 s) }
+open-start s = record { inside = omega arith; few = omega arith; says = by-end (longComment 0 s) }
   where
-    go : (r : Option ℕ) → r ≡ plus 0 r
-    go none = refl
-    go (some n) = ap some (omega arith)
+    by-end : (r : Option ℕ) → r ≡ plus 0 r
+    by-end none = refl
+    by-end (some n) = ap some (omega arith)
 
 -- one turn, by the mark that `mark_at` found at i
 module _ {s : List ℕ} {d i : ℕ} (m : Pair) (o : Open s d i) (h : i + 1 < length s) (e : markOf m ≡ mark (getD s i 0) (getD s (i + 1) 0)) where
@@ -204,13 +204,13 @@ module _ {s : List ℕ} {d i : ℕ} (m : Pair) (o : Open s d i) (h : i + 1 < len
   open-close p z = sym (at-mark (ap markOf p) ∙ ap (λ k. plus i (atMark closing k (λ k. longComment k (drop (i + 2) s)) (λ k. longComment k (drop (i + 1) s)))) z)
 
   pub open-inner : m ≡ Closing → (d ≡ 0 → ⊥) → Open s (d - 1) (i + 2)
-  open-inner p z = record { inside = omega arith; few = omega (arith, o .few); says = go d z (at-mark (ap markOf p)) }
+  open-inner p z = record { inside = omega arith; few = omega (arith, o .few); says = by-depth d z (at-mark (ap markOf p)) }
     where
-      go : (d : ℕ) → (d ≡ 0 → ⊥)
+      by-depth : (d : ℕ) → (d ≡ 0 → ⊥)
           → longComment 0 s ≡ plus i (atMark closing d (λ k. longComment k (drop (i + 2) s)) (λ k. longComment k (drop (i + 1) s)))
           → longComment 0 s ≡ plus (i + 2) (longComment (d - 1) (drop (i + 2) s))
-      go zero z q = absurd (z refl)
-      go (suc d) z q = let less : suc d - 1 ≡ d = omega arith in rw less (q ∙ plus-plus i 2 (longComment d (drop (i + 2) s)))
+      by-depth zero z q = absurd (z refl)
+      by-depth (suc d) z q = let less : suc d - 1 ≡ d = omega arith in rw less (q ∙ plus-plus i 2 (longComment d (drop (i + 2) s)))
 
   pub open-more : m ≡ Opening → Open s (d + 1) (i + 2)
   open-more p =

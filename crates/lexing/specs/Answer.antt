@@ -1,6 +1,7 @@
--- What a reading step answers, and small helpers on tests.
-use mathlib.Core.Bool.{Bool, true, false}
+-- What a reading step answers, and the choice by a test.
 use Prim.Native.Nat.{ℕ, _+_}
+-- the first where the test is true, else the second
+pub use mathlib.Core.Bool.{cond as pick}
 
 -- The answer of a step that reads at a place: `ok`, with a value and the place after what was kept; `none`, it failed having kept nothing;
 -- `refused`, with document 01's number and place.
@@ -21,7 +22,3 @@ abbrev pub moved : {A : Type 0} → ℕ → Answer A → Answer A
 moved at (ok v n) = ok v (at + n)
 moved at none = none
 moved at (refused number place) = refused number (at + place)
-
-abbrev pub pick : {X : Type 0} → Bool → X → X → X
-pick true x y = x
-pick false x y = y

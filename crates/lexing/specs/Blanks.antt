@@ -47,7 +47,7 @@ abbrev pub orElse : ℕ → Option ℕ → ℕ
 orElse n none = n
 orElse n (some k) = k
 
--- upstream's function of this name, over what lies between its `start` and its `end`: `Laws.antt` has upstream's equations of it
+-- upstream's function of this name, over what lies between its `start` and its `end`: `BlankLaws` has upstream's equations of it
 unfoldable pub positionAfterEndOfLongComment : List ℕ → ℕ
 positionAfterEndOfLongComment s = orElse (length s) (longComment 0 s)
 

@@ -9,7 +9,7 @@ use Rattle.lexing.specs.Answer.{ok}
 use Rattle.lexing.specs.Bytes.{isDigit, identifierChar, run}
 use Rattle.lexing.specs.Blanks.{passed, closing, opening, neither, mark, W}
 use Rattle.lexing.specs.Tokens.{identifierLength, parseId, parseCustomLiteral, keyword, sign, signNotPrefix, natural}
-use Rattle.lexing.specs.Laws as laws
+use Rattle.lexing.specs.BlankLaws as laws
 use Rattle.lexing.specs.TokenLaws as tokens
 use Rattle.lexing.specs.Upstream as upstream
 

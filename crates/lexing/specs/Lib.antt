@@ -3,9 +3,10 @@ pub mod Answer
 pub mod Bytes
 pub mod Blanks
 pub mod Tokens
-pub mod Code
+pub mod CodeAnswers
 pub mod Examples
-pub mod Laws
+pub mod RunLaws
+pub mod BlankLaws
 pub mod TokenLaws
 pub mod Upstream
 pub mod Claims

@@ -1,6 +1,6 @@
 -- Laws of words and signs: each lies inside the text with the blanks after it, makes progress, and is maximal.
 use mathlib.Core.Path.{_≡_, refl, sym, ap, _∙_}
-use mathlib.Core.Bool.{Bool, true, false, _&&_}
+use mathlib.Core.Bool.{Bool, true, false, _&&_, false≢true}
 use mathlib.Core.List.{List, [], _∷_, _++_}
 use Prim.Native.Nat.{ℕ, zero, suc, _+_, _≤_, _<_, zero-le, suc-le-suc}
 use native.Mathlib.Omega.{arith}
@@ -13,7 +13,8 @@ use Rattle.lexing.specs.Answer.{Answer, ok, none, refused, largeNatural,
 use Rattle.lexing.specs.Bytes.{run, startsWith, sameBytes, isDigit, identifierChar, canStartIdentifierChar, customLiteralChar}
 use Rattle.lexing.specs.Blanks.{Blanks, passed, unclosed, W, blank}
 use Rattle.lexing.specs.Tokens.{closed, lexeme, unlessEmpty, identifierLength, parseId, parseCustomLiteral, keyword, sign, signNotPrefix, natural, decimal, mostNatural}
-use Rattle.lexing.specs.Laws.{pick-case, run-inside, run-all, run-ends, W-inside, W-stops, reach}
+use Rattle.lexing.specs.RunLaws.{pick-case, run-inside, run-ends}
+use Rattle.lexing.specs.BlankLaws.{W-inside, W-stops, reach}
 
 -- What an answer says of a token: it takes at least k bytes and lies inside n bytes; a refusal's place lies there too.
 abbrev pub Within : ℕ → ℕ → Answer ℕ → Type 0
@@ -23,11 +24,11 @@ Within k n (refused number place) = place ≤ n
 
 pub lexeme-within : (v k n : ℕ) (s : List ℕ) → k ≤ n → n ≤ length s → Within k (length s) (lexeme v n s)
 unfolding lexeme
-lexeme-within v k n s h l = go (W (drop n s)) (W-inside (drop n s))
+lexeme-within v k n s h l = by-blanks (W (drop n s)) (W-inside (drop n s))
   where
-    go : (r : Blanks) → reach r ≤ length (drop n s) → Within k (length s) (closed v n r)
-    go (passed m) i = (omega arith, omega (arith, length-drop n s))
-    go (unclosed m) i = omega (arith, length-drop n s)
+    by-blanks : (r : Blanks) → reach r ≤ length (drop n s) → Within k (length s) (closed v n r)
+    by-blanks (passed m) i = (omega arith, omega (arith, length-drop n s))
+    by-blanks (unclosed m) i = omega (arith, length-drop n s)
 
 -- What the readers of tokens answer: nothing, a natural that is too large, or a token of at least k bytes with the blanks after it.
 pub data Token (k : ℕ) (s : List ℕ) : Answer ℕ → Type 0 where
@@ -49,11 +50,11 @@ Stopped s (refused number place) = Unit {0}
 
 pub lexeme-stops : (v n : ℕ) (s : List ℕ) → Stopped s (lexeme v n s)
 unfolding lexeme
-lexeme-stops v n s = go (W (drop n s)) refl
+lexeme-stops v n s = by-blanks (W (drop n s)) refl
   where
-    go : (r : Blanks) → W (drop n s) ≡ r → Stopped s (closed v n r)
-    go (passed k) e = rw (← drop-drop k n s) (W-stops (drop n s) e)
-    go (unclosed k) e = tt
+    by-blanks : (r : Blanks) → W (drop n s) ≡ r → Stopped s (closed v n r)
+    by-blanks (passed k) e = rw (← drop-drop k n s) (W-stops (drop n s) e)
+    by-blanks (unclosed k) e = tt
 
 pub token-stops : {k : ℕ} {s : List ℕ} {r : Answer ℕ} → Token k s r → Stopped s r
 token-stops absent = tt
@@ -83,14 +84,6 @@ unfolding identifierLength
 identifier-starts [] h = absurd (omega arith)
 identifier-starts (a ∷ s) h = pick-case (λ n. 0 < n → canStartIdentifierChar a ≡ true) (canStartIdentifierChar a) (λ e _. e) (λ _ h. absurd (omega arith)) h
 
-pub identifier-all : (s : List ℕ) (i : ℕ) → i < identifierLength s → identifierChar (getD s i 0) ≡ true
-unfolding identifierLength identifierChar
-identifier-all [] i h = absurd (omega arith)
-identifier-all (a ∷ s) zero h = rw (identifier-starts (a ∷ s) h)
-identifier-all (a ∷ s) (suc i) h =
-    pick-case (λ n. suc i < n → identifierChar (getD s i 0) ≡ true) (canStartIdentifierChar a) (λ _ h. run-all identifierChar s i (omega arith))
-    (λ _ h. absurd (omega arith)) h
-
 pub identifier-maximal : (s : List ℕ) → 0 < identifierLength s → identifierChar (getD s (identifierLength s) 0) ≡ false
 unfolding identifierLength identifierChar
 identifier-maximal [] h = absurd (omega arith)
@@ -107,11 +100,11 @@ parseId-within s = token-within (parseId-token s)
 
 pub parseCustomLiteral-within : (s : List ℕ) → Within 1 (length s) (parseCustomLiteral s)
 unfolding parseCustomLiteral
-parseCustomLiteral-within s = go (run customLiteralChar s) (run-inside customLiteralChar s)
+parseCustomLiteral-within s = by-count (run customLiteralChar s) (run-inside customLiteralChar s)
   where
-    go : (n : ℕ) → n ≤ length s → Within 1 (length s) (unlessEmpty n (ok n n))
-    go zero h = tt
-    go (suc n) h = (omega arith, h)
+    by-count : (n : ℕ) → n ≤ length s → Within 1 (length s) (unlessEmpty n (ok n n))
+    by-count zero h = tt
+    by-count (suc n) h = (omega arith, h)
 
 -- a natural is maximal: the byte after its digits is none
 pub natural-maximal : (s : List ℕ) → isDigit (getD s (run isDigit s) 0) ≡ false
@@ -129,13 +122,13 @@ natural-within s = token-within (natural-token s)
 
 and-true : (a b : Bool) → (a && b) ≡ true → (a ≡ true) × (b ≡ true)
 and-true true b e = (refl, e)
-and-true false b e = absurd (let z : _≡_ {A = ℕ} 0 1 = cc in omega arith)
+and-true false b e = absurd (false≢true cc)
 
 pub sameBytes-true : (a b : List ℕ) → sameBytes a b ≡ true → a ≡ b
 unfolding sameBytes
 sameBytes-true [] [] e = refl
-sameBytes-true [] (y ∷ b) e = absurd (let z : _≡_ {A = ℕ} 0 1 = cc in omega arith)
-sameBytes-true (x ∷ a) [] e = absurd (let z : _≡_ {A = ℕ} 0 1 = cc in omega arith)
+sameBytes-true [] (y ∷ b) e = absurd (false≢true cc)
+sameBytes-true (x ∷ a) [] e = absurd (false≢true cc)
 sameBytes-true (x ∷ a) (y ∷ b) e =
     let (p, q) = and-true (eqb y x) (sameBytes a b) e in
     let h : y ≡ x = eqb-true y x p in
@@ -150,7 +143,7 @@ sameBytes-refl (x ∷ a) = rw (eq-eqb x x refl) (sameBytes-refl a)
 pub startsWith-true : (w s : List ℕ) → startsWith w s ≡ true → s ≡ w ++ drop (length w) s
 unfolding startsWith
 startsWith-true [] s e = refl
-startsWith-true (a ∷ w) [] e = absurd (let z : _≡_ {A = ℕ} 0 1 = cc in omega arith)
+startsWith-true (a ∷ w) [] e = absurd (false≢true cc)
 startsWith-true (a ∷ w) (b ∷ s) e =
     let (p, q) = and-true (eqb a b) (startsWith w s) e in
     let h : a ≡ b = eqb-true a b p in
@@ -159,7 +152,7 @@ startsWith-true (a ∷ w) (b ∷ s) e =
 pub startsWith-inside : (w s : List ℕ) → startsWith w s ≡ true → length w ≤ length s
 unfolding startsWith
 startsWith-inside [] s e = zero-le
-startsWith-inside (a ∷ w) [] e = absurd (let z : _≡_ {A = ℕ} 0 1 = cc in omega arith)
+startsWith-inside (a ∷ w) [] e = absurd (false≢true cc)
 startsWith-inside (a ∷ w) (b ∷ s) e = suc-le-suc (startsWith-inside w s (and-true (eqb a b) (startsWith w s) e .1))
 
 pub sign-token : (w s : List ℕ) → Token (length w) s (sign w s)
@@ -194,32 +187,32 @@ keyword-within w s = token-within (keyword-token w s)
 -- the blanks after a token do not depend on its value
 lexeme-value : (u v n : ℕ) (s : List ℕ) {w m : ℕ} → lexeme u n s ≡ ok w m → (u ≡ w) × (lexeme v n s ≡ ok v m)
 unfolding lexeme
-lexeme-value u v n s {w} {m} e = go (W (drop n s)) e
+lexeme-value u v n s {w} {m} e = by-blanks (W (drop n s)) e
   where
-    go : (r : Blanks) → closed u n r ≡ ok w m → (u ≡ w) × (closed v n r ≡ ok v m)
-    go (passed k) e = (cc, let h : n + k ≡ m = cc in ap (ok v) h)
-    go (unclosed k) e = absurd (let z : _≡_ {A = ℕ} 0 1 = cc in omega arith)
+    by-blanks : (r : Blanks) → closed u n r ≡ ok w m → (u ≡ w) × (closed v n r ≡ ok v m)
+    by-blanks (passed k) e = (cc, let h : n + k ≡ m = cc in ap (ok v) h)
+    by-blanks (unclosed k) e = absurd (false≢true cc)
 
 -- the value of `parseId` is the identifier's length
 pub parseId-value : (s : List ℕ) {v n : ℕ} → parseId s ≡ ok v n → (identifierLength s ≡ v) × (lexeme v v s ≡ ok v n)
 unfolding parseId
-parseId-value s {v} {n} e = go (identifierLength s) e
+parseId-value s {v} {n} e = by-length (identifierLength s) e
   where
-    go : (k : ℕ) → unlessEmpty k (lexeme k k s) ≡ ok v n → (k ≡ v) × (lexeme v v s ≡ ok v n)
-    go zero e = absurd (let z : _≡_ {A = ℕ} 0 1 = cc in omega arith)
-    go (suc k) e = let h : suc k ≡ v = lexeme-value (suc k) 0 (suc k) s e .0 in (h, rw h at e)
+    by-length : (k : ℕ) → unlessEmpty k (lexeme k k s) ≡ ok v n → (k ≡ v) × (lexeme v v s ≡ ok v n)
+    by-length zero e = absurd (false≢true cc)
+    by-length (suc k) e = let h : suc k ≡ v = lexeme-value (suc k) 0 (suc k) s e .0 in (h, rw h at e)
 
 -- where a keyword stands `parseId` reads its bytes, and where `parseId` reads them the keyword stands
 pub keyword-parseId : (w s : List ℕ) {v n : ℕ} → 0 < length w → keyword w s ≡ ok v n → (parseId s ≡ ok (length w) n) × (take (length w) s ≡ w)
 unfolding keyword parseId
-keyword-parseId w s {v} {n} h e = go (sameBytes (take (identifierLength s) s) w) refl e
+keyword-parseId w s {v} {n} h e = by-test (sameBytes (take (identifierLength s) s) w) refl e
   where
-    go : (t : Bool) → sameBytes (take (identifierLength s) s) w ≡ t → pick t (lexeme 0 (identifierLength s) s) none ≡ ok v n
+    by-test : (t : Bool) → sameBytes (take (identifierLength s) s) w ≡ t → pick t (lexeme 0 (identifierLength s) s) none ≡ ok v n
         → (unlessEmpty (identifierLength s) (lexeme (identifierLength s) (identifierLength s) s) ≡ ok (length w) n) × (take (length w) s ≡ w)
-    go true q e =
+    by-test true q e =
         let (p, l) = keyword-is w s q in
         (rw l (sym (unlessEmpty-some (length w) _ (λ z. omega arith)) ∙ lexeme-value 0 (length w) (length w) s (rw l at e) .1), rw l at p)
-    go false q e = absurd (let z : _≡_ {A = ℕ} 0 1 = cc in omega arith)
+    by-test false q e = absurd (false≢true cc)
 
 pub parseId-keyword : (w s : List ℕ) {n : ℕ} → parseId s ≡ ok (length w) n → take (length w) s ≡ w → keyword w s ≡ ok 0 n
 unfolding keyword

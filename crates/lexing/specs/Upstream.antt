@@ -1,7 +1,7 @@
 -- Upstream's own forms of two definitions, shown equal to ours: `PositionAfterEndOfLongComment(input, start, end)` with its parameters, its
 -- `ensures` and the four equations of its body; `T(s)`, the bytes of s with no identifier character after them.
 use mathlib.Core.Path.{_≡_, refl, sym, ap, _∙_}
-use mathlib.Core.Bool.{Bool, true, false, _&&_, not}
+use mathlib.Core.Bool.{Bool, true, false, _&&_, not, false≢true}
 use mathlib.Core.List.{List, [], _∷_, _++_}
 use Prim.Native.Nat.{ℕ, zero, suc, _+_, _-_, _≤_, _<_}
 use native.Mathlib.Numerals.{add-one}
@@ -13,7 +13,7 @@ use Rattle.lexing.specs.Answer.{Answer, none, pick}
 use Rattle.lexing.specs.Bytes.{identifierChar, canStartIdentifierChar, run, startsWith, sameBytes}
 use Rattle.lexing.specs.Tokens.{lexeme, identifierLength, keyword}
 use Rattle.lexing.specs.Blanks.{closing, opening, neither, mark, positionAfterEndOfLongComment}
-use Rattle.lexing.specs.Laws.{position-inside, position-short, position-closing, position-opening, position-neither}
+use Rattle.lexing.specs.BlankLaws.{position-inside, position-short, position-closing, position-opening, position-neither}
 use Rattle.lexing.specs.TokenLaws.{sameBytes-refl, startsWith-true, identifier-maximal, keyword-is}
 
 -- the place after the long comment that is open at `start`, as the code's contract has it
@@ -86,22 +86,22 @@ pub run-append : (p : ℕ → Bool) (w r : List ℕ) → run p w ≡ length w �
 unfolding run
 run-append p [] [] h e = refl
 run-append p [] (b ∷ r) h e = rw (e, run)
-run-append p (a ∷ w) r h e = go (p a) refl h (run-append p w r)
+run-append p (a ∷ w) r h e = by-test (p a) refl h (run-append p w r)
   where
-    go : (t : Bool) → p a ≡ t → elim t [ true ↦ suc (run p w) | false ↦ 0 ] ≡ suc (length w)
+    by-test : (t : Bool) → p a ≡ t → elim t [ true ↦ suc (run p w) | false ↦ 0 ] ≡ suc (length w)
         → (run p w ≡ length w → p (getD r 0 0) ≡ false → run p (w ++ r) ≡ length w) → run p (a ∷ (w ++ r)) ≡ suc (length w)
-    go true q h f = let i : run p w ≡ length w = omega arith in let j = f i e in rw (q, run) (ap suc j)
-    go false q h f = absurd (omega arith)
+    by-test true q h f = let i : run p w ≡ length w = omega arith in let j = f i e in rw (q, run) (ap suc j)
+    by-test false q h f = absurd (omega arith)
 
 pub identifier-append : (w r : List ℕ) → 0 < length w → identifierLength w ≡ length w → identifierChar (getD r 0 0) ≡ false
     → identifierLength (w ++ r) ≡ length w
 unfolding identifierLength
 identifier-append [] r h l e = absurd (omega arith)
-identifier-append (a ∷ w) r h l e = go (canStartIdentifierChar a) l
+identifier-append (a ∷ w) r h l e = by-test (canStartIdentifierChar a) l
   where
-    go : (t : Bool) → pick t (suc (run identifierChar w)) 0 ≡ suc (length w) → pick t (suc (run identifierChar (w ++ r))) 0 ≡ suc (length w)
-    go true l = let i : run identifierChar w ≡ length w = omega arith in ap suc (run-append identifierChar w r i e)
-    go false l = absurd (omega arith)
+    by-test : (t : Bool) → pick t (suc (run identifierChar w)) 0 ≡ suc (length w) → pick t (suc (run identifierChar (w ++ r))) 0 ≡ suc (length w)
+    by-test true l = let i : run identifierChar w ≡ length w = omega arith in ap suc (run-append identifierChar w r i e)
+    by-test false l = absurd (omega arith)
 
 startsWith-take : (n : ℕ) (s : List ℕ) → startsWith (take n s) s ≡ true
 unfolding startsWith
@@ -112,10 +112,10 @@ startsWith-take (suc n) (a ∷ s) = rw (eq-eqb a a refl) (startsWith-take n s)
 -- of a word that is an identifier, `T` is the keyword
 pub keyword-T : (w s : List ℕ) → 0 < length w → identifierLength w ≡ length w → keyword w s ≡ T w s
 unfolding keyword T
-keyword-T w s h l = go (sameBytes (take (identifierLength s) s) w) refl
+keyword-T w s h l = by-test (sameBytes (take (identifierLength s) s) w) refl
   where
     clash : (t : Bool) → t ≡ false → t ≡ true → ⊥
-    clash t e f = let z : _≡_ {A = ℕ} 0 1 = cc in omega arith
+    clash t e f = false≢true cc
 
     whole : startsWith w s ≡ true → identifierChar (getD s (length w) 0) ≡ false → sameBytes (take (identifierLength s) s) w ≡ true
     whole p e =
@@ -126,14 +126,14 @@ keyword-T w s h l = go (sameBytes (take (identifierLength s) s) w) refl
         let n : identifierLength s ≡ length w = ap identifierLength q ∙ identifier-append w r h l f in
         ap (λ k. sameBytes (take k s) w) n ∙ ap (λ t. sameBytes t w) (ap (take (length w)) q ∙ take-append-seam w r) ∙ sameBytes-refl w
 
-    go : (t : Bool) → sameBytes (take (identifierLength s) s) w ≡ t
+    by-test : (t : Bool) → sameBytes (take (identifierLength s) s) w ≡ t
         → pick t (lexeme 0 (identifierLength s) s) none ≡ pick (startsWith w s && not (identifierChar (getD s (length w) 0))) (lexeme 0 (length w) s) none
-    go true e =
+    by-test true e =
         let (p, n) = keyword-is w s e in
         let a : startsWith w s ≡ true = rw p at (startsWith-take (identifierLength s) s) in
         let b : identifierChar (getD s (length w) 0) ≡ false = rw n at (identifier-maximal s (omega arith)) in
         rw (a, b, n)
-    go false e = ends (startsWith w s) (identifierChar (getD s (length w) 0)) refl refl
+    by-test false e = ends (startsWith w s) (identifierChar (getD s (length w) 0)) refl refl
       where
         ends : (t u : Bool) → startsWith w s ≡ t → identifierChar (getD s (length w) 0) ≡ u → none ≡ pick (t && not u) (lexeme 0 (length w) s) none
         ends true true p q = refl

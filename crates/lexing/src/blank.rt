@@ -7,7 +7,7 @@ ghost use mathlib.Core.Path.{_≡_};
 ghost use Prim.Native.Nat.{_-_, _≤_};
 ghost use lib.ListN.{length, take, drop};
 ghost use Rattle.lexing.specs.Blanks.{mark, longComment, blank, W};
-ghost use Rattle.lexing.specs.Code.{reachOf, markOf, endOf, Position};
+ghost use Rattle.lexing.specs.CodeAnswers.{reachOf, markOf, endOf, Position};
 
 // How far blanks reach.
 pub enum Reach {

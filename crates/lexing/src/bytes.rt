@@ -1,7 +1,7 @@
 // Byte classes, runs of bytes and comparison with constant byte strings.
 ghost use mathlib.Core.Path.{_≡_};
 ghost use Rattle.lexing.specs.Bytes.{between, oneOf, isSpace, isDigit, canStartIdentifierChar, identifierChar, customLiteralChar, run, startsWith, sameBytes};
-ghost use Rattle.lexing.specs.Code.{classOf};
+ghost use Rattle.lexing.specs.CodeAnswers.{classOf};
 
 // The classes that runs are made of.
 pub(crate) enum Class {

@@ -9,7 +9,7 @@ use crate::bytes::starts_with;
 ghost use mathlib.Core.Path.{_≡_};
 ghost use Prim.Native.Nat.{_-_};
 ghost use Rattle.lexing.specs.Tokens as tokens;
-ghost use Rattle.lexing.specs.Code.{answerOf, numberOf};
+ghost use Rattle.lexing.specs.CodeAnswers.{answerOf, numberOf};
 
 // The refusal numbers of a long comment that is not closed and of a natural above the largest.
 pub const UNCLOSED_COMMENT: u64 = 2;

@@ -2,14 +2,14 @@
 use Prim.Native.Nat.{ℕ, zero, suc, _+_, _-_, _*_, _/_, _%_, _≤_, _<_}
 use native.Mathlib.Omega.{arith}
 use mathlib.Core.Path.{_≡_, refl, sym, subst}
-use mathlib.Core.Bool.{Bool, true, false}
+use mathlib.Core.Bool.{Bool, true, false, cond}
 use mathlib.Core.Option.{Option, none}
 use mathlib.Core.List.{List, [], _∷_}
 use lib.ListN.{length, drop, getD}
 use lib.Dec.{leb}
 use borrow.Author.Tests.{leb-true}
 use Rattle.tree.specs.Ast.{Expr}
-use Rattle.tree.specs.Kind.{choose, Kind, bool, operator, mode, natural, low, name, lengthFrom, expr, stmt, aexpr, option, seq, fields, exprRows}
+use Rattle.tree.specs.Kind.{Kind, bool, operator, mode, natural, low, name, lengthFrom, expr, stmt, aexpr, option, seq, fields, exprRows}
 use Rattle.tree.specs.Kind.{Item, ofName, ofExpr, ofBinding, ofPattern, ofClosureBinding, ofClosureProperty, ofStmt, ofCallArgument, ofCase, ofAExpr, ofTagger, ofFParameter, ofFunction, ofAxiom, ofPParameter, ofProcedure}
 use Rattle.tree.specs.Kind.{Content, aName, anExpr, aStmt, aDefinition}
 use Rattle.tree.specs.Trees.{Names, Seq, Tree, Trees, words, allWords, Makes, formAt, taggedForm}
@@ -225,7 +225,7 @@ module _ (I : Names) (table ends : List ℕ) where
           → Opened I (taggedForm I first rows m w) t rest (drop (at + 1) table) → (first ≤ w) × Opened I (formAt I rows m (w - first)) t rest (drop (at + 1) table)
       tagged R first rows m w t rest = go (leb first w) refl
         where
-          go : (b : Bool) → leb first w ≡ b → Opened I (choose b (formAt I rows m (w - first)) none) t rest (drop (at + 1) table)
+          go : (b : Bool) → leb first w ≡ b → Opened I (cond b (formAt I rows m (w - first)) none) t rest (drop (at + 1) table)
               → (first ≤ w) × Opened I (formAt I rows m (w - first)) t rest (drop (at + 1) table)
           go true e o = (leb-true first w e, o)
           go false e o = absurd o

@@ -10,8 +10,8 @@ use borrow.Author.Fill.{fill-none, fill-more}
 use borrow.Author.Tests.{le-leb, lt-leb, leb-true, eq-eqb, ne-eqb}
 use Rattle.lexing.specs.Answer.{Answer, ok, refused, pick}
 use Rattle.lexing.specs.Blanks.{W}
-use Rattle.lexing.specs.Laws.{reach, W-inside}
-use Rattle.lexing.specs.Code.{reachOf}
+use Rattle.lexing.specs.BlankLaws.{reach, W-inside}
+use Rattle.lexing.specs.CodeAnswers.{reachOf}
 use Rattle.lexing.specs.declared.blank.Reach.{Reach}
 use Rattle.lexing.specs.declared.blank.Reach.the-variants.{Passed, Unclosed}
 use Rattle.tree.specs.Ast.{Span, Expr}

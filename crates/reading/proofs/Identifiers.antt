@@ -11,8 +11,8 @@ use Rattle.lexing.specs.Answer.{Answer, ok, refused, moved}
 use Rattle.lexing.specs.Bytes.{isDigit, canStartIdentifierChar, run, startsWith, sameBytes}
 use Rattle.lexing.specs.Blanks.{W}
 use Rattle.lexing.specs.Tokens.{lexeme, unlessEmpty, identifierLength, keyword, sign, parseId, natural}
-use Rattle.lexing.specs.Code.{answerOf}
-use Rattle.lexing.specs.Laws.{W-closed, reach}
+use Rattle.lexing.specs.CodeAnswers.{answerOf}
+use Rattle.lexing.specs.BlankLaws.{W-closed, reach}
 use Rattle.lexing.specs.TokenLaws.{Within, natural-within, keyword-is, startsWith-true, parseId-value, parseId-keyword}
 use Rattle.lexing.specs.declared.token.Lexed.{Lexed}
 use Rattle.tree.specs.Ast.{Span, Expr}

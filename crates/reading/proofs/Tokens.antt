@@ -10,8 +10,8 @@ use Rattle.lexing.specs.Answer.{Answer, ok, refused, moved}
 use Rattle.lexing.specs.Bytes.{startsWith, sameBytes, run, customLiteralChar}
 use Rattle.lexing.specs.Blanks.{Blanks, passed, unclosed, W}
 use Rattle.lexing.specs.Tokens.{closed, lexeme, unlessEmpty, identifierLength, keyword, sign, signNotPrefix, parseId, parseCustomLiteral}
-use Rattle.lexing.specs.Code.{answerOf}
-use Rattle.lexing.specs.Laws.{pick-case}
+use Rattle.lexing.specs.CodeAnswers.{answerOf}
+use Rattle.lexing.specs.RunLaws.{pick-case}
 use Rattle.lexing.specs.TokenLaws.{Within, keyword-within, sign-within, signNotPrefix-within, parseId-within, parseCustomLiteral-within}
 use Rattle.lexing.specs.declared.token.Lexed.{Lexed}
 use Rattle.lexing.specs.declared.token.Lexed.the-variants.{Ok as LexedOk, None as LexedNone, Refused as LexedRefused}

@@ -8,7 +8,7 @@ use lib.Dec.{leb, eqb}
 use lib.ListN.{length, replicate, getD}
 use borrow.Author.Tests.{leb-true, eqb-true}
 use Rattle.lexing.specs.Bytes.{isSpace, isDigit, canStartIdentifierChar, identifierChar, oneOf, run}
-use Rattle.lexing.specs.Laws.{run-all}
+use Rattle.lexing.specs.RunLaws.{run-all}
 use Rattle.lexing.specs.TokenLaws.{identifier-starts}
 use Rattle.lexing.specs.Tokens.{identifierLength}
 use Rattle.tree.specs.Ast.{Operator, IfThenElse, Equiv, LogicalImp, LogicalAnd, LogicalOr, Eq, Neq, Less, AtMost, Plus, Minus, Times, Div, Mod, ArgumentCount}

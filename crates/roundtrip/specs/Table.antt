@@ -6,7 +6,7 @@ use mathlib.Core.Bool.{Bool, true, false, _&&_}
 use mathlib.Core.List.{List, [], _∷_}
 use lib.Dec.{leb, ltb}
 use Rattle.lexing.specs.Answer.{pick}
-use Rattle.lexing.specs.Laws.{pick-case}
+use Rattle.lexing.specs.RunLaws.{pick-case}
 use Rattle.tree.specs.Ast.{Operator, IfThenElse, Equiv, LogicalImp, LogicalAnd, LogicalOr, Eq, Neq, Less, AtMost, Plus, Minus, Times, Div, Mod}
 use Rattle.tree.specs.Ast.{LogicalNot, UnaryMinus}
 use Rattle.tree.specs.Ast.{Exprs, BLiteral, ILiteral, CustomLiteral, IdExpr, OperatorExpr, FunctionCallExpr, LabeledExpr, LetExpr, QuantifierExpr}

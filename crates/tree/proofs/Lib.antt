@@ -1,4 +1,5 @@
+-- What the proofs of several functions cite.
 mod Digits
 mod Numbers
-mod Steps
+mod RunSteps
 mod Stack

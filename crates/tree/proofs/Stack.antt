@@ -4,12 +4,13 @@ use native.Mathlib.Nat.{pow-suc}
 use native.Mathlib.Numerals.{add-one}
 use native.Mathlib.Omega.{arith}
 use mathlib.Core.Path.{_≡_, refl, sym, ap, subst, _∙_}
+use mathlib.Core.Bool.{cond}
 use mathlib.Core.List.{List, [], _∷_, _++_, append-nil}
 use lib.ListN.{length, getD, take, drop, set, length-set, drop-of-length-le}
 use lib.Seq.{take-suc, take-suc-set, drop-cons}
 use lib.Dec.{eqb}
 use borrow.Author.Tests.{ne-eqb}
-use Rattle.tree.specs.Kind.{choose, Kind}
+use Rattle.tree.specs.Kind.{Kind}
 use Rattle.tree.specs.Check.{run, within}
 use Rattle.tree.specs.Rows.{kindOf, digits, kindsOf, Went, Stepped}
 use Rattle.tree.specs.declared.walk.Step.{Step}
@@ -21,7 +22,7 @@ digits-more : (n row : ℕ) → row < 29 ^ n → digits (suc n) row ≡ digits n
 unfolding digits
 digits-more zero row h = let e : row ≡ 0 = omega arith in rw e
 digits-more (suc n) row h =
-    ap (λ (ks : List Kind). choose (eqb row 0) [] (kindOf (row % 29) ∷ ks)) (digits-more n (row / 29) (omega (arith, pow-suc 29 n)))
+    ap (λ (ks : List Kind). cond (eqb row 0) [] (kindOf (row % 29) ∷ ks)) (digits-more n (row / 29) (omega (arith, pow-suc 29 n)))
 
 -- a row is its lowest digit and the rest
 pub row-cons : (row : ℕ) → (row ≡ 0 → ⊥) → row < 2 ^ 32 → kindsOf row ≡ kindOf (row % 29) ∷ kindsOf (row / 29)

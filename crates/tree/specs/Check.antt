@@ -1,13 +1,13 @@
 -- The check of a table: its words, read from the first on, against a list of expected kinds. Refusals 6 and 7 of document 01.
 use Prim.Native.Nat.{ℕ, suc, _+_, _-_, _≤_}
-use mathlib.Core.Bool.{Bool}
+use mathlib.Core.Bool.{Bool, cond}
 use mathlib.Core.Option.{Option, none, some}
 use mathlib.Core.List.{List, [], _∷_, _++_}
 use lib.ListN.{length}
 use lib.Dec.{leb}
 use Rattle.tree.specs.Limits.{mostWords}
 use Rattle.tree.specs.Ast.{Span}
-use Rattle.tree.specs.Kind.{choose, Kind, expr, programFields, fits, misfit, turn}
+use Rattle.tree.specs.Kind.{Kind, expr, programFields, fits, misfit, turn}
 use Rattle.tree.specs.declared.Checked.{Checked}
 use Rattle.tree.specs.declared.Checked.the-variants.{Tree, Misfit, TooLong}
 
@@ -30,7 +30,7 @@ pub record NameIn (len : ℕ) : Type 0 where
   pub inside : span .start + span .len ≤ len
 
 abbrev pub check : List Kind → List ℕ → ℕ → Checked
-check ks words len = choose (leb (length words) mostWords) (run (within len) ks 0 words) TooLong
+check ks words len = cond (leb (length words) mostWords) (run (within len) ks 0 words) TooLong
 
 -- the table of an expression, and of a program, over a text of that length
 unfoldable pub checkExpression : List ℕ → ℕ → Checked

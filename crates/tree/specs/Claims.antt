@@ -11,7 +11,7 @@ use Rattle.tree.specs.Ast.{Span, Expr, Program}
 use Rattle.tree.specs.Resolve.{mapExpr, mapProgram}
 use Rattle.tree.specs.Words.{exprWords, programWords}
 use Rattle.tree.specs.Kind.{Kind}
-use Rattle.tree.specs.Check.{NameIn, check, checkExpression, checkProgram, refusal}
+use Rattle.tree.specs.Check.{NameIn, expressionRefusal, programRefusal}
 use Rattle.tree.specs.Trees.{spans, Tree as TreeOf, words as wordsOf}
 use Rattle.tree.specs.Forms.{form}
 use Rattle.tree.specs.Opened.{Opened}
@@ -20,17 +20,28 @@ use Rattle.tree.specs.Refused
 use Rattle.tree.specs.MapWords
 use Rattle.tree.specs.WordCount
 use Rattle.tree.specs.Walk
-use Rattle.tree.specs.declared.Checked.{Checked}
-use Rattle.tree.specs.declared.Checked.the-variants.{Tree, Misfit}
 
--- Accepted if and only if there are at most 16,384 words and they are those of a tree whose names lie inside the text.
+-- Not refused if and only if there are at most 16,384 words and they are those of a tree whose names lie inside the text.
 pub expression-accepted : (words : List ℕ) (len : ℕ)
-    → (checkExpression words len ≡ Tree) ↔ ((length words ≤ mostWords) × ((t : Expr (NameIn len)) × (exprWords (λ n. n .span) t [] ≡ words)))
-expression-accepted = Tables.expression-accepted
+    → (expressionRefusal words len ≡ none) ↔ ((length words ≤ mostWords) × ((t : Expr (NameIn len)) × (exprWords (λ n. n .span) t [] ≡ words)))
+expression-accepted = Refused.expression-unrefused
 
 pub program-accepted : (words : List ℕ) (len : ℕ)
-    → (checkProgram words len ≡ Tree) ↔ ((length words ≤ mostWords) × ((p : Program (NameIn len)) × (programWords (λ n. n .span) p [] ≡ words)))
-program-accepted = Tables.program-accepted
+    → (programRefusal words len ≡ none) ↔ ((length words ≤ mostWords) × ((p : Program (NameIn len)) × (programWords (λ n. n .span) p [] ≡ words)))
+program-accepted = Refused.program-unrefused
+
+-- Refusal 6 exactly where there are more than 16,384 words; refusal 7 has a place among the words or their count.
+pub expression-too-many : (words : List ℕ) (len : ℕ) → (expressionRefusal words len ≡ some (record { number = 6; place = 0 })) ↔ (mostWords < length words)
+expression-too-many = Refused.expression-too-many
+
+pub program-too-many : (words : List ℕ) (len : ℕ) → (programRefusal words len ≡ some (record { number = 6; place = 0 })) ↔ (mostWords < length words)
+program-too-many = Refused.program-too-many
+
+pub expression-misfit : (words : List ℕ) (len p : ℕ) → expressionRefusal words len ≡ some (record { number = 7; place = p }) → (p ≤ length words) × (length words ≤ mostWords)
+expression-misfit = Refused.expression-misfit
+
+pub program-misfit : (words : List ℕ) (len p : ℕ) → programRefusal words len ≡ some (record { number = 7; place = p }) → (p ≤ length words) × (length words ≤ mostWords)
+program-misfit = Refused.program-misfit
 
 -- The words determine the tree, and what follows it.
 pub expression-unique : (t t′ : Expr Span) (rest rest′ : List ℕ) → exprWords (λ s. s) t rest ≡ exprWords (λ s. s) t′ rest′ → (t ≡ t′) × (rest ≡ rest′)
@@ -46,32 +57,9 @@ expression-spans len t = MapWords.expr-map (λ s. s) (λ n. n .span) t
 pub program-spans : (len : ℕ) (p : Program (NameIn len)) → programWords (λ n. n .span) p ≡ programWords (λ s. s) (mapProgram (λ n. n .span) p)
 program-spans len p = MapWords.program-map (λ s. s) (λ n. n .span) p
 
-pub expression-tree : (words : List ℕ) (len : ℕ) → checkExpression words len ≡ Tree → (t : Expr Span) × (exprWords (λ s. s) t [] ≡ words)
-expression-tree = Tables.expression-tree
-
-pub program-tree : (words : List ℕ) (len : ℕ) → checkProgram words len ≡ Tree → (p : Program Span) × (programWords (λ s. s) p [] ≡ words)
-program-tree = Tables.program-tree
-
 -- How many words an expression has depends neither on its names nor on their spans.
 pub expression-count : {N M : Type 0} (f : N → M) (g : M → Span) (h : N → Span) (t : Expr N) → length (exprWords g (mapExpr f t) []) ≡ length (exprWords h t [])
 expression-count = WordCount.map-count
-
--- The answers in document 01's numbers: no refusal, refusal 7 at a misfit's place, refusal 6 exactly where there are more than 16,384 words.
-pub accepted-is-unrefused : (c : Checked) → (refusal c ≡ none) ↔ (c ≡ Tree)
-accepted-is-unrefused = Refused.no-refusal
-
-pub misfit-is-7 : (c : Checked) (place : ℕ) → (refusal c ≡ some (record { number = 7; place = place })) ↔ (c ≡ Misfit place)
-misfit-is-7 = Refused.refusal-7
-
-pub too-many-is-6 : (ks : List Kind) (words : List ℕ) (len : ℕ) → (refusal (check ks words len) ≡ some (record { number = 6; place = 0 })) ↔ (mostWords < length words)
-too-many-is-6 = Refused.refusal-6
-
--- A misfit's place is at most the word count.
-pub expression-place : (words : List ℕ) (len p : ℕ) → checkExpression words len ≡ Misfit p → (p ≤ length words) × (length words ≤ mostWords)
-expression-place = Tables.expression-place
-
-pub program-place : (words : List ℕ) (len p : ℕ) → checkProgram words len ≡ Misfit p → (p ≤ length words) × (length words ≤ mostWords)
-program-place = Tables.program-place
 
 -- A walk over a table goes from a tree's first word to its fields' words, for every kind and constructor.
 pub walk : (table : List ℕ) (at : ℕ) (k : Kind) (t : TreeOf spans k) (rest : List ℕ) → drop at table ≡ wordsOf spans k t rest

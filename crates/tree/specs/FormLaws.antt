@@ -3,7 +3,7 @@
 use Prim.Native.Nat.{ℕ, zero, suc, _+_, _-_, _*_, _/_, _%_, _^_, _<_}
 use native.Mathlib.Omega.{arith}
 use mathlib.Core.Path.{_≡_, refl, ap}
-use mathlib.Core.Bool.{Bool, true, false, Bool-set, true≢false}
+use mathlib.Core.Bool.{Bool, true, false, Bool-set, true≢false, cond}
 use mathlib.Core.Option.{Option, none, some}
 use mathlib.Core.List.{List, [], _∷_}
 use lib.Dec.{leb}
@@ -17,7 +17,7 @@ use Rattle.tree.specs.Ast.{noStmts, stmts, noCases, case, AExpr, aExpr, 
 use Rattle.tree.specs.Kind.{Kind, bool, operator, mode, natural, low, name, lengthFrom, expr, stmt, aexpr, option, seq}
 use Rattle.tree.specs.Kind.{Item, ofName, ofExpr, ofBinding, ofPattern, ofClosureBinding, ofClosureProperty, ofStmt, ofCallArgument, ofCase, ofAExpr, ofTagger, ofFParameter, ofFunction, ofAxiom, ofPParameter, ofProcedure}
 use Rattle.tree.specs.Kind.{Content, aName, anExpr, aStmt, aDefinition, firstWord, rows}
-use Rattle.tree.specs.Kind.{choose, Turn, fits, misfit, rowAt, byRow, second, turn}
+use Rattle.tree.specs.Kind.{Turn, fits, misfit, rowAt, byRow, second, turn}
 use Rattle.tree.specs.Trees.{_▸_, Names, below, Held, Seq, Tree, Trees, words, allWords, apply, Form, Makes, formAt}
 use Rattle.tree.specs.Forms.{makes, rowForm, secondForm, form}
 
@@ -36,14 +36,14 @@ module _ (I : Names) where
   rows-agree R (r ∷ rs) m (suc n) = rows-agree R rs (m .1) n
 
   row-agrees : (k : Kind) (w : ℕ) → Agrees (byRow k w) (rowForm I k w)
-  row-agrees k w = go (leb (firstWord k) w)
+  row-agrees k w = by-test (leb (firstWord k) w)
     where
       n : ℕ
       n = w - firstWord k
 
-      go : (b : Bool) → Agrees {R = Tree I k} (choose b (rowAt (rows k) n) (misfit 0)) (choose b (formAt I (rows k) (makes I k) n) none)
-      go true = rows-agree (Tree I k) (rows k) (makes I k) n
-      go false = tt
+      by-test : (b : Bool) → Agrees {R = Tree I k} (cond b (rowAt (rows k) n) (misfit 0)) (cond b (formAt I (rows k) (makes I k) n) none)
+      by-test true = rows-agree (Tree I k) (rows k) (makes I k) n
+      by-test false = tt
 
   second-agrees : (test : ℕ → Bool) (l back : ℕ) (b : Bool) (e : test l ≡ b) → Agrees (second b back) (secondForm I test l b e)
   second-agrees test l back true e = refl
@@ -122,16 +122,16 @@ module _ (I : Names) where
   constructors-spell (seq ofProcedure) = (λ ts rest. refl) ▸ (λ ts rest. refl) ▸ tt
 
   row-spells : (k : Kind) (w : ℕ) → Spells k w (rowForm I k w)
-  row-spells k w = go (leb (firstWord k) w) refl
+  row-spells k w = by-test (leb (firstWord k) w) refl
     where
       n : ℕ
       n = w - firstWord k
 
-      go : (b : Bool) → leb (firstWord k) w ≡ b → Spells k w (choose b (formAt I (rows k) (makes I k) n) none)
-      go true e =
+      by-test : (b : Bool) → leb (firstWord k) w ≡ b → Spells k w (cond b (formAt I (rows k) (makes I k) n) none)
+      by-test true e =
           let le = leb-true (firstWord k) w e in
           rows-spell k (firstWord k) (rows k) (makes I k) (constructors-spell k) n w (omega arith)
-      go false e = tt
+      by-test false e = tt
 
   natural-spells : (h l : ℕ) → l < 2 ^ 32 → (rest : List ℕ) → (h * 2 ^ 32 + l) / 2 ^ 32 ∷ (h * 2 ^ 32 + l) % 2 ^ 32 ∷ rest ≡ h ∷ l ∷ rest
   natural-spells h l b rest =

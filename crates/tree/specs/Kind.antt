@@ -2,7 +2,7 @@
 -- fields (document 01, "The tree words"). Upstream's datatypes of one constructor are their fields alone, so they stand here only as the
 -- items of options and sequences.
 use Prim.Native.Nat.{ℕ, zero, suc, _-_, _^_}
-use mathlib.Core.Bool.{Bool, true, false}
+use mathlib.Core.Bool.{Bool, cond}
 use mathlib.Core.List.{List, [], _∷_, _++_}
 use lib.ListN.{replicate}
 use lib.Dec.{leb, ltb}
@@ -140,20 +140,16 @@ rowAt [] n = misfit 0
 rowAt (r ∷ rs) zero = fits r
 rowAt (r ∷ rs) (suc n) = rowAt rs n
 
-abbrev pub choose : {A : Type 0} → Bool → A → A → A
-choose true a b = a
-choose false a b = b
-
 -- the row of a word, where the first row's word is that number
 abbrev pub tagged : ℕ → List (List Kind) → ℕ → Turn
-tagged first rs w = choose (leb first w) (rowAt rs (w - first)) (misfit 0)
+tagged first rs w = cond (leb first w) (rowAt rs (w - first)) (misfit 0)
 
 abbrev pub byRow : Kind → ℕ → Turn
 byRow k w = tagged (firstWord k) (rows k) w
 
 -- a name's or natural's second word, by its test: one that fails it misfits so many words back
 abbrev pub second : Bool → ℕ → Turn
-second test back = choose test (fits []) (misfit back)
+second test back = cond test (fits []) (misfit back)
 
 -- `inside s l` says whether a name with start s and length l lies inside the text; one that does not misfits at its first word. A natural's
 -- low word is below 2 ^ 32, so that its two words are those of one natural.

@@ -12,7 +12,8 @@ pub mod Claims
 mod Examples
 -- the code's numbers for kinds
 pub mod Rows
--- the trees of each kind, the laws of a walk over a table, and the theorems' proofs
+-- a contradiction's consequence; the trees of each kind, the laws of a walk over a table, and the theorems' proofs
+pub mod Clash
 pub mod Trees
 pub mod Forms
 pub mod FormLaws

@@ -1,16 +1,13 @@
 -- A tree's words, opened at the first: `opened` goes from a word to the words of the fields. Trees of two lists of kinds as trees of one.
 use Prim.Native.Nat.{ℕ}
-use native.Mathlib.Omega.{arith}
 use mathlib.Core.Path.{_≡_, refl, sym, ap, _∙_, subst}
 use mathlib.Core.Option.{Option, none, some}
 use mathlib.Core.List.{List, [], _∷_, _++_}
+use Rattle.tree.specs.Clash.{impossible}
 use Rattle.tree.specs.Kind.{Kind}
 use Rattle.tree.specs.Trees.{Names, Tree, Trees, words, allWords, apply, Form}
 use Rattle.tree.specs.Forms.{form}
 use Rattle.tree.specs.FormLaws.{Spells, spells, MadeBy, made}
-
-pub impossible {ℓ} : {A : Type ℓ} → _≡_ {A = ℕ} 0 1 → A
-impossible e = absurd (omega arith)
 
 module _ (I : Names) where
   -- the words after the first are those of the fields' trees, of which the tree is made
@@ -27,20 +24,20 @@ module _ (I : Names) where
       (cc, (m .0, m .1, cc))
 
   pub opened : (k : Kind) (t : Tree I k) (rest : List ℕ) (w : ℕ) (ws : List ℕ) → words I k t rest ≡ w ∷ ws → Opened (form I k w) t rest ws
-  opened k t rest w ws e = go (made I k t)
+  opened k t rest w ws e = by-maker (made I k t)
     where
-      go : (v : ℕ) × MadeBy I (form I k v) t → Opened (form I k w) t rest ws
-      go m =
+      by-maker : (v : ℕ) × MadeBy I (form I k v) t → Opened (form I k w) t rest ws
+      by-maker m =
           let o = open-form k t rest (m .0) w ws (form I k (m .0)) (spells I k (m .0)) (m .1) e in
           subst (λ (v : ℕ). Opened (form I k v) t rest ws) (o .0) (o .1)
 
   -- a tree has a word
   pub some-word : (k : Kind) (t : Tree I k) (rest : List ℕ) → words I k t rest ≡ [] → ⊥
-  some-word k t rest e = go (made I k t .0) (form I k (made I k t .0)) (spells I k (made I k t .0)) (made I k t .1)
+  some-word k t rest e = by-form (made I k t .0) (form I k (made I k t .0)) (spells I k (made I k t .0)) (made I k t .1)
     where
-      go : (v : ℕ) (o : Option (Form I (Tree I k))) → Spells I k v o → MadeBy I o t → ⊥
-      go v none s m = m
-      go v (some f) s m =
+      by-form : (v : ℕ) (o : Option (Form I (Tree I k))) → Spells I k v o → MadeBy I o t → ⊥
+      by-form v none s m = m
+      by-form v (some f) s m =
           let a : words I k (apply I (f .fields) (f .make) (m .0)) rest ≡ v ∷ allWords I (f .fields) (m .0) rest = s (m .0) rest in
           let b : [] ≡ v ∷ allWords I (f .fields) (m .0) rest = sym e ∙ ap (λ (u : Tree I k). words I k u rest) (sym (m .1)) ∙ a in
           impossible cc

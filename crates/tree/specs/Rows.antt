@@ -1,10 +1,11 @@
 -- The numbers that the check's code has for kinds and lists of kinds. Only contracts of private functions cite this file.
 use Prim.Native.Nat.{ℕ, zero, suc, _/_, _%_, _<_, _≤_}
 use mathlib.Core.Path.{_≡_}
+use mathlib.Core.Bool.{cond}
 use mathlib.Core.List.{List, [], _∷_, _++_}
 use lib.ListN.{length, drop, getD}
 use lib.Dec.{eqb}
-use Rattle.tree.specs.Kind.{choose, Kind, bool, operator, mode, natural, name, expr, stmt, aexpr, option, seq}
+use Rattle.tree.specs.Kind.{Kind, bool, operator, mode, natural, name, expr, stmt, aexpr, option, seq}
 use Rattle.tree.specs.Kind.{ofName, ofExpr, ofBinding, ofPattern, ofClosureBinding, ofClosureProperty, ofStmt, ofCallArgument, ofCase, ofAExpr, ofTagger, ofFParameter, ofFunction, ofAxiom, ofPParameter, ofProcedure}
 use Rattle.tree.specs.Kind.{aName, anExpr, aStmt, aDefinition, exprRows, stmtRows, aexprRows, Turn, fits, misfit}
 use Rattle.tree.specs.declared.rows.Fit.{Fit}
@@ -32,7 +33,7 @@ kindOf n = getD kinds n bool
 -- the kinds of a row: its digits to the base 29, from the lowest; a number of 32 bits has at most seven
 unfoldable pub digits : ℕ → ℕ → List Kind
 digits zero row = []
-digits (suc n) row = choose (eqb row 0) [] (kindOf (row % 29) ∷ digits n (row / 29))
+digits (suc n) row = cond (eqb row 0) [] (kindOf (row % 29) ∷ digits n (row / 29))
 
 unfoldable pub kindsOf : ℕ → List Kind
 kindsOf row = digits 7 row

@@ -1,23 +1,21 @@
 -- From lists of expected kinds to the two tables: an expression's and a program's.
 use Prim.Native.Nat.{ℕ, suc, _+_, _-_, _≤_}
 use native.Mathlib.Omega.{arith}
-use mathlib.Core.Path.{_≡_, refl, sym, ap, _∙_}
-use mathlib.Core.Bool.{Bool, true, false}
+use mathlib.Core.Path.{_≡_, refl, ap}
+use mathlib.Core.Bool.{Bool, true, false, cond}
 use mathlib.Core.Logic.{_↔_}
 use mathlib.Core.List.{List, [], _∷_, _++_}
 use lib.ListN.{length}
 use lib.Dec.{leb}
 use borrow.Author.Tests.{leb-true, le-leb}
 use Rattle.tree.specs.Limits.{mostWords}
+use Rattle.tree.specs.Clash.{impossible}
 use Rattle.tree.specs.Ast.{Span, Expr, Program}
-use Rattle.tree.specs.Resolve.{mapExpr, mapProgram}
 use Rattle.tree.specs.Words.{exprWords, programWords}
-use Rattle.tree.specs.Kind.{choose, Kind, expr, programFields, Turn, fits, misfit, turn}
+use Rattle.tree.specs.Kind.{Kind, expr, programFields, Turn, fits, misfit, turn}
 use Rattle.tree.specs.Check.{NameIn, within, run, check, checkExpression, checkProgram}
 use Rattle.tree.specs.Trees.{Names, Trees, allWords, spans, namesIn}
-use Rattle.tree.specs.Opened.{impossible}
 use Rattle.tree.specs.Accepted.{sound, complete, unique}
-use Rattle.tree.specs.MapWords.{expr-map, program-map}
 use Rattle.tree.specs.declared.Checked.{Checked}
 use Rattle.tree.specs.declared.Checked.the-variants.{Tree, Misfit, TooLong}
 
@@ -26,7 +24,7 @@ accepted : (ks : List Kind) (words : List ℕ) (len : ℕ)
 accepted ks words len = (to (leb (length words) mostWords) refl, λ h. from (leb (length words) mostWords) (le-leb _ _ (h .0)) (h .1))
   where
     Answer : Bool → Checked
-    Answer b = choose b (run (within len) ks 0 words) TooLong
+    Answer b = cond b (run (within len) ks 0 words) TooLong
 
     to : (b : Bool) → leb (length words) mostWords ≡ b → Answer b ≡ Tree
         → (length words ≤ mostWords) × ((ts : Trees (namesIn len) ks) × (allWords (namesIn len) ks ts [] ≡ words))
@@ -71,38 +69,25 @@ program-unique p p′ rest rest′ e =
     let u = unique spans programFields (programWords (λ s. s) p′ rest′) (fromProgram spans p) (fromProgram spans p′) rest rest′ e refl in
     (ap (toProgram spans) (u .0), u .1)
 
--- accepted words are those of a tree over spans
-pub expression-tree : (words : List ℕ) (len : ℕ) → checkExpression words len ≡ Tree → (t : Expr Span) × (exprWords (λ s. s) t [] ≡ words)
-expression-tree words len e =
-    let a = expression-accepted words len .0 e .1 in
-    let m = expr-map (λ s. s) (λ (n : NameIn len). n .span) (a .0) in
-    (mapExpr (λ n. n .span) (a .0), sym (ap (λ (w : List ℕ → List ℕ). w []) m) ∙ a .1)
-
-pub program-tree : (words : List ℕ) (len : ℕ) → checkProgram words len ≡ Tree → (p : Program Span) × (programWords (λ s. s) p [] ≡ words)
-program-tree words len e =
-    let a = program-accepted words len .0 e .1 in
-    let m = program-map (λ s. s) (λ (n : NameIn len). n .span) (a .0) in
-    (mapProgram (λ n. n .span) (a .0), sym (ap (λ (w : List ℕ → List ℕ). w []) m) ∙ a .1)
-
 -- a misfit's place is at most the word count
 run-place : (inside : ℕ → ℕ → Bool) (ks : List Kind) (at : ℕ) (ws : List ℕ) (p : ℕ) → run inside ks at ws ≡ Misfit p → p ≤ at + length ws
 unfolding run
 run-place inside [] at [] p e = impossible cc
 run-place inside (k ∷ ks) at [] p e = let q : at ≡ p = cc in omega arith
 run-place inside [] at (w ∷ ws) p e = let q : at ≡ p = cc in omega arith
-run-place inside (k ∷ ks) at (w ∷ ws) p e = go (turn inside k w) e (λ fs h. run-place inside (fs ++ ks) (suc at) ws p h)
+run-place inside (k ∷ ks) at (w ∷ ws) p e = by-turn (turn inside k w) e (λ fs h. run-place inside (fs ++ ks) (suc at) ws p h)
   where
-    go : (u : Turn) → elim u [ fits fs ↦ run inside (fs ++ ks) (suc at) ws | misfit b ↦ Misfit (at - b) ] ≡ Misfit p
+    by-turn : (u : Turn) → elim u [ fits fs ↦ run inside (fs ++ ks) (suc at) ws | misfit b ↦ Misfit (at - b) ] ≡ Misfit p
         → ((fs : List Kind) → run inside (fs ++ ks) (suc at) ws ≡ Misfit p → p ≤ suc at + length ws) → p ≤ at + suc (length ws)
-    go (fits fs) h ih = let q = ih fs h in omega arith
-    go (misfit b) h ih = let q : at - b ≡ p = cc in omega arith
+    by-turn (fits fs) h ih = let q = ih fs h in omega arith
+    by-turn (misfit b) h ih = let q : at - b ≡ p = cc in omega arith
 
 place : (ks : List Kind) (words : List ℕ) (len p : ℕ) → check ks words len ≡ Misfit p → (p ≤ length words) × (length words ≤ mostWords)
-place ks words len p = go (leb (length words) mostWords) refl
+place ks words len p = by-test (leb (length words) mostWords) refl
   where
-    go : (b : Bool) → leb (length words) mostWords ≡ b → choose b (run (within len) ks 0 words) TooLong ≡ Misfit p → (p ≤ length words) × (length words ≤ mostWords)
-    go true h e = let q = run-place (within len) ks 0 words p e in (omega arith, leb-true _ _ h)
-    go false h e = impossible cc
+    by-test : (b : Bool) → leb (length words) mostWords ≡ b → cond b (run (within len) ks 0 words) TooLong ≡ Misfit p → (p ≤ length words) × (length words ≤ mostWords)
+    by-test true h e = let q = run-place (within len) ks 0 words p e in (omega arith, leb-true _ _ h)
+    by-test false h e = impossible cc
 
 pub expression-place : (words : List ℕ) (len p : ℕ) → checkExpression words len ≡ Misfit p → (p ≤ length words) × (length words ≤ mostWords)
 unfolding checkExpression

@@ -2,7 +2,7 @@
 use Prim.Native.Nat.{ℕ, zero, suc, _+_, _-_, _^_}
 use native.Mathlib.Bridge.{le-prop}
 use mathlib.Core.Path.{_≡_, refl}
-use mathlib.Core.Bool.{Bool, true}
+use mathlib.Core.Bool.{Bool, true, cond}
 use mathlib.Core.Option.{Option, none, some}
 use mathlib.Core.List.{List, [], _∷_}
 use lib.Dec.{leb, ltb}
@@ -10,7 +10,7 @@ use borrow.Author.Tests.{leb-true, le-leb}
 use Rattle.tree.specs.Ast.{Span, Operator, ParameterMode, Binding, CallArgument}
 use Rattle.tree.specs.Ast.{Tagger, FParameter, FunctionDefinition, Function, Axiom, PParameter, Procedure}
 use Rattle.tree.specs.Ast.{Expr, Exprs, Patterns, ClosureBindings, ClosureProperties, Stmt, Stmts, Cases, AExpr, AExprs}
-use Rattle.tree.specs.Kind.{choose, Kind, bool, operator, mode, natural, low, name, lengthFrom, expr, stmt, aexpr, option, seq}
+use Rattle.tree.specs.Kind.{Kind, bool, operator, mode, natural, low, name, lengthFrom, expr, stmt, aexpr, option, seq}
 use Rattle.tree.specs.Kind.{Item, ofName, ofExpr, ofBinding, ofPattern, ofClosureBinding, ofClosureProperty, ofStmt, ofCallArgument, ofCase, ofAExpr, ofTagger, ofFParameter, ofFunction, ofAxiom, ofPParameter, ofProcedure}
 use Rattle.tree.specs.Kind.{Content, aName, anExpr, aStmt, aDefinition}
 use Rattle.tree.specs.Check.{NameIn, within}
@@ -178,4 +178,4 @@ module _ (I : Names) where
   formAt (r ∷ rs) m (suc n) = formAt rs (m .1) n
 
   abbrev pub taggedForm : ℕ → (rows : List (List Kind)) {R : Type 0} → Makes rows R → ℕ → Option (Form R)
-  taggedForm first rows m w = choose (leb first w) (formAt rows m (w - first)) none
+  taggedForm first rows m w = cond (leb first w) (formAt rows m (w - first)) none

@@ -5,17 +5,18 @@
 use Prim.Native.Nat.{ℕ, zero, suc, _+_, _-_, _*_, _/_, _%_, _^_, _≤_, _<_}
 use native.Mathlib.Omega.{arith}
 use mathlib.Core.Path.{_≡_, refl, sym, ap, _∙_, subst}
-use mathlib.Core.Bool.{Bool, true, false}
+use mathlib.Core.Bool.{Bool, true, false, cond}
 use mathlib.Core.Option.{Option, none, some}
 use mathlib.Core.List.{List, [], _∷_, _++_}
 use lib.ListN.{length, getD, drop}
 use lib.Dec.{leb}
 use borrow.Author.Tests.{leb-true}
-use Rattle.tree.specs.Kind.{choose, Kind, bool, operator, mode, natural, low, name, lengthFrom, expr, stmt, aexpr, option, seq, firstWord, rows}
+use Rattle.tree.specs.Clash.{impossible}
+use Rattle.tree.specs.Kind.{Kind, bool, operator, mode, natural, low, name, lengthFrom, expr, stmt, aexpr, option, seq, firstWord, rows}
 use Rattle.tree.specs.Trees.{Names, Tree, Trees, words, allWords, Form, Makes, formAt}
 use Rattle.tree.specs.Forms.{makes, rowForm, form}
 use Rattle.tree.specs.FormLaws.{Spells, spells}
-use Rattle.tree.specs.Opened.{impossible, Opened, opened, some-word, join, join-words}
+use Rattle.tree.specs.Opened.{Opened, opened, some-word, join, join-words}
 
 -- ---- the word at a place
 
@@ -42,11 +43,11 @@ module _ (I : Names) where
 
   pub tree-at : (table : List ℕ) (at : ℕ) (k : Kind) (t : Tree I k) (rest : List ℕ) → drop at table ≡ words I k t rest
       → (at < length table) × Opened I (form I k (getD table at 0)) t rest (drop (at + 1) table)
-  tree-at table at k t rest e = go (words I k t rest) refl
+  tree-at table at k t rest e = by-words (words I k t rest) refl
     where
-      go : (ws : List ℕ) → words I k t rest ≡ ws → (at < length table) × Opened I (form I k (getD table at 0)) t rest (drop (at + 1) table)
-      go [] f = absurd (some-word I k t rest f)
-      go (w ∷ ws) f =
+      by-words : (ws : List ℕ) → words I k t rest ≡ ws → (at < length table) × Opened I (form I k (getD table at 0)) t rest (drop (at + 1) table)
+      by-words [] f = absurd (some-word I k t rest f)
+      by-words (w ∷ ws) f =
           let h = head-at table at w ws (e ∙ f) in
           (h .0, opened I k t rest (getD table at 0) (drop (at + 1) table) (f ∙ sym (λ i. h .1 i ∷ h .2 i)))
 
@@ -62,18 +63,18 @@ module _ (I : Names) where
   rows-range R (r ∷ rs) m (suc n) t rest ws o = let h = rows-range R rs (m .1) n t rest ws o in omega arith
 
   row-range : (k : Kind) (w : ℕ) (t : Tree I k) (rest ws : List ℕ) → Opened I (rowForm I k w) t rest ws → (firstWord k ≤ w) × (w < firstWord k + length (rows k))
-  row-range k w t rest ws = go (leb (firstWord k) w) refl
+  row-range k w t rest ws = by-test (leb (firstWord k) w) refl
     where
       n : ℕ
       n = w - firstWord k
 
-      go : (b : Bool) → leb (firstWord k) w ≡ b → Opened I (choose b (formAt I (rows k) (makes I k) n) none) t rest ws
+      by-test : (b : Bool) → leb (firstWord k) w ≡ b → Opened I (cond b (formAt I (rows k) (makes I k) n) none) t rest ws
           → (firstWord k ≤ w) × (w < firstWord k + length (rows k))
-      go true e o =
+      by-test true e o =
           let h = rows-range (Tree I k) (rows k) (makes I k) n t rest ws o in
           let l = leb-true (firstWord k) w e in
           (omega arith, omega arith)
-      go false e o = absurd o
+      by-test false e o = absurd o
 
   -- the words that a kind's trees begin with: of a kind with rows, theirs
   abbrev pub Range : Kind → ℕ → Type 0
@@ -121,13 +122,13 @@ module _ (I : Names) where
   follow [] (w ∷ ws) ts rest e = impossible cc
   follow (k ∷ ks) [] ts rest e = absurd (some-word I k (ts .0) (allWords I ks (ts .1) []) e)
   follow (k ∷ ks) (w ∷ ws) ts rest e =
-      go (form I k w) (spells I k w) (opened I k (ts .0) (allWords I ks (ts .1) []) w ws e) (λ fs us h. follow (fs ++ ks) ws us rest h)
+      by-form (form I k w) (spells I k w) (opened I k (ts .0) (allWords I ks (ts .1) []) w ws e) (λ fs us h. follow (fs ++ ks) ws us rest h)
     where
-      go : (o : Option (Form I (Tree I k))) → Spells I k w o → Opened I o (ts .0) (allWords I ks (ts .1) []) ws
+      by-form : (o : Option (Form I (Tree I k))) → Spells I k w o → Opened I o (ts .0) (allWords I ks (ts .1) []) ws
           → ((fs : List Kind) (us : Trees I (fs ++ ks)) → allWords I (fs ++ ks) us [] ≡ ws → allWords I (fs ++ ks) us rest ≡ ws ++ rest)
           → words I k (ts .0) (allWords I ks (ts .1) rest) ≡ w ∷ (ws ++ rest)
-      go none s o ih = absurd o
-      go (some f) s o ih =
+      by-form none s o ih = absurd o
+      by-form (some f) s o ih =
           ap (λ (u : Tree I k). words I k u (allWords I ks (ts .1) rest)) (sym (o .1))
           ∙ s (o .0) (allWords I ks (ts .1) rest)
           ∙ ap (λ (l : List ℕ). w ∷ l)

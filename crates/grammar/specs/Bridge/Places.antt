@@ -11,7 +11,8 @@ use lib.Dec.{leb}
 use Rattle.lexing.specs.Answer.{Answer, ok, refused, pick}
 use Rattle.lexing.specs.Bytes.{isDigit, run, startsWith}
 use Rattle.lexing.specs.Blanks.{Blanks, passed, unclosed, W}
-use Rattle.lexing.specs.Laws.{run-inside, W-inside}
+use Rattle.lexing.specs.RunLaws.{run-inside}
+use Rattle.lexing.specs.BlankLaws.{W-inside}
 use Rattle.lexing.specs.Tokens.{identifierLength, mostNatural}
 use Rattle.lexing.specs.TokenLaws.{identifier-inside, startsWith-inside}
 use Rattle.grammar.specs.Words.{bytes}

@@ -10,7 +10,7 @@ use lib.Seq.{drop-drop}
 use Rattle.lexing.specs.Bytes.{isSpace, run, startsWith}
 use Rattle.lexing.specs.Blanks.{Blanks, passed, unclosed, further, blank, blanksFrom, W}
 use Rattle.lexing.specs.Tokens.{identifierLength}
-use Rattle.lexing.specs.Laws.{W-none}
+use Rattle.lexing.specs.BlankLaws.{W-none}
 use Rattle.grammar.specs.Tokens.{Token, illegal, Cut, token, nothing, signAt, naturalAt, nameAt, tokenAt, afterBlanks, atToken}
 use Rattle.grammar.specs.Tokens.{tokensAfter, cut}
 use Rattle.grammar.specs.Laws.Steps.{impossible}

@@ -5,7 +5,7 @@ use mathlib.Core.Bool.{Bool, true, false, _&&_}
 use mathlib.Core.List.{List}
 use mathlib.Core.Option.{Option, none, some}
 use Rattle.lexing.specs.Answer.{pick}
-use Rattle.lexing.specs.Laws.{pick-case}
+use Rattle.lexing.specs.RunLaws.{pick-case}
 use Rattle.grammar.specs.Tokens.{Token, name, nat, mark, sign, illegal, Mark, Mark-discrete}
 use Rattle.grammar.specs.Grammar.{Class, Class-discrete, Build, Row, row, binary}
 use Rattle.grammar.specs.Parser.{isNat, isWord, isMark, ofClass, inClass}

@@ -6,7 +6,7 @@ use native.Mathlib.Omega.{arith}
 use borrow.Author.Needs.{needs}
 use Rattle.lexing.specs.TokenLaws.{startsWith-inside}
 use Rattle.lexing.specs.Bytes.{notNewline}
-use Rattle.lexing.proofs.Steps.{blank-empty, blank-space, blank-line, blank-long, blank-none, run-after-one}
+use Rattle.lexing.proofs.Returns.{blank-empty, blank-space, blank-line, blank-long, blank-none, run-after-one}
 use Rattle.lexing.proofs.blank.blank_at_start.Statement.{statement}
 use Rattle.lexing.proofs.blank.blank_at_start.Tie as tie
 

@@ -4,7 +4,7 @@ use Prim.Native.Nat.{_-_}
 use native.Mathlib.Omega.{arith}
 use lib.ListN.{length}
 use borrow.Author.Needs.{needs}
-use Rattle.lexing.proofs.Steps.{Reached, reached-start, reached-end, reached-inside, reached-more, reached-open}
+use Rattle.lexing.proofs.Returns.{Reached, reached-start, reached-end, reached-inside, reached-more, reached-open}
 use Rattle.lexing.proofs.blank.blanks.Statement.{statement}
 use Rattle.lexing.proofs.blank.blanks.Tie as tie
 

@@ -6,7 +6,7 @@ use native.Mathlib.Omega.{arith}
 use lib.ListN.{length}
 use borrow.Author.Needs.{needs}
 use borrow.Author.Tests.{not-true, not-false}
-use Rattle.lexing.specs.Code.{classOf}
+use Rattle.lexing.specs.CodeAnswers.{classOf}
 use Rattle.lexing.proofs.Loops.{Ran, ran-start, ran-next, ran-stop, ran-end}
 use Rattle.lexing.proofs.bytes.run_length.Statement.{statement}
 use Rattle.lexing.proofs.bytes.run_length.Tie as tie

@@ -3,7 +3,7 @@ use mathlib.Core.Path.{sym, _∙_}
 use native.Mathlib.Omega.{arith}
 use borrow.Author.Needs.{needs}
 use Rattle.lexing.specs.Bytes.{identifierChar}
-use Rattle.lexing.proofs.Steps.{run-after-one, identifier-empty, identifier-run, identifier-none}
+use Rattle.lexing.proofs.Returns.{run-after-one, identifier-empty, identifier-run, identifier-none}
 use Rattle.lexing.proofs.token.identifier_length.Statement.{statement}
 use Rattle.lexing.proofs.token.identifier_length.Tie as tie
 

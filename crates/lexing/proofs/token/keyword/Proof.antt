@@ -4,7 +4,7 @@ use native.Mathlib.Omega.{arith}
 use lib.Seq.{length-take-le}
 use borrow.Author.Needs.{needs}
 use Rattle.lexing.specs.TokenLaws.{identifier-inside}
-use Rattle.lexing.proofs.Steps.{keyword-found, keyword-missing}
+use Rattle.lexing.proofs.Returns.{keyword-found, keyword-missing}
 use Rattle.lexing.proofs.token.keyword.Statement.{statement}
 use Rattle.lexing.proofs.token.keyword.Tie as tie
 

@@ -1,7 +1,7 @@
 -- `token::lexeme` meets its contract, by that of `blanks` on the rest of the text (Steps: `lexeme-past`, `lexeme-is`).
 use native.Mathlib.Omega.{arith}
 use borrow.Author.Needs.{needs}
-use Rattle.lexing.proofs.Steps.{lexeme-past, lexeme-inside, lexeme-is}
+use Rattle.lexing.proofs.Returns.{lexeme-past, lexeme-inside, lexeme-is}
 use Rattle.lexing.proofs.token.lexeme.Statement.{statement}
 use Rattle.lexing.proofs.token.lexeme.Tie as tie
 

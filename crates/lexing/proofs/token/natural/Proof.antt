@@ -3,9 +3,9 @@ use mathlib.Core.Path.{sym, _∙_}
 use native.Mathlib.Omega.{arith}
 use lib.Seq.{length-take-le}
 use borrow.Author.Needs.{needs}
-use Rattle.lexing.specs.Laws.{run-inside}
+use Rattle.lexing.specs.RunLaws.{run-inside}
 use Rattle.lexing.specs.Bytes.{isDigit}
-use Rattle.lexing.proofs.Steps.{natural-none, natural-value, natural-large}
+use Rattle.lexing.proofs.Returns.{natural-none, natural-value, natural-large}
 use Rattle.lexing.proofs.token.natural.Statement.{statement}
 use Rattle.lexing.proofs.token.natural.Tie as tie
 

@@ -5,7 +5,7 @@ use mathlib.Core.Path.{sym, _∙_, ap}
 use native.Mathlib.Omega.{arith}
 use Rattle.tree.specs.Check.{within}
 use Rattle.tree.specs.Rows.{kindOf, asTurn}
-use Rattle.tree.proofs.Steps.{step-missing, row-fits, row-misfits}
+use Rattle.tree.proofs.RunSteps.{step-missing, row-fits, row-misfits}
 use Rattle.tree.proofs.walk.next_step.Statement.{statement}
 use Rattle.tree.proofs.walk.next_step.Tie as tie
 

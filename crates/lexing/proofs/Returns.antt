@@ -1,6 +1,6 @@
 -- The ways out of `blank_at_start`, `blanks` and the readers of words, over plain lists.
 use mathlib.Core.Path.{_≡_, refl, sym, ap, _∙_}
-use mathlib.Core.Bool.{Bool, true, false}
+use mathlib.Core.Bool.{Bool, true, false, false≢true}
 use mathlib.Core.List.{List, [], _∷_}
 use Prim.Native.Nat.{ℕ, zero, suc, _+_, _-_, _≤_, _<_}
 use native.Mathlib.Nat.{le-of-eq}
@@ -13,9 +13,10 @@ use Rattle.lexing.specs.Answer.{Answer, ok, refused, largeNatural, pick}
 use Rattle.lexing.specs.Bytes.{isSpace, sameBytes, notNewline, run, startsWith, isDigit, canStartIdentifierChar, identifierChar}
 use Rattle.lexing.specs.Blanks.{passed, unclosed, further, blank, blanksFrom, W, positionAfterEndOfLongComment}
 use Rattle.lexing.specs.Tokens.{identifierLength, keyword, lexeme, closed, decimal, natural, mostNatural}
-use Rattle.lexing.specs.Code.{reachOf, numberOf, Position}
+use Rattle.lexing.specs.CodeAnswers.{reachOf, numberOf, Position}
 use Rattle.lexing.specs.TokenLaws.{unlessEmpty-none, unlessEmpty-some}
-use Rattle.lexing.specs.Laws.{run-inside, W-blank, W-none, W-unclosed, further-zero, further-further, blank-inside, reach, W-inside}
+use Rattle.lexing.specs.RunLaws.{run-inside}
+use Rattle.lexing.specs.BlankLaws.{W-blank, W-none, W-unclosed, further-zero, further-further, blank-inside, reach, W-inside}
 use Rattle.lexing.specs.declared.blank.Reach.{Reach}
 use Rattle.lexing.specs.declared.blank.Reach.the-variants.{Passed, Unclosed}
 use Rattle.lexing.specs.declared.token.Number.{Number}
@@ -81,11 +82,11 @@ module _ {s : List ℕ} {at : ℕ} (r : Reach) (o : Reached s at) (e : reachOf r
       sym (o .says ∙ ap (further at) (W-none (drop at s) h) ∙ ap passed q)
 
   pub reached-more : {n : ℕ} → r ≡ Passed n → (n ≡ 0 → ⊥) → Reached s (at + n)
-  reached-more {n} p z = record { inside = reached-inside p; says = go n (sym reached-here ∙ ap reachOf p) z }
+  reached-more {n} p z = record { inside = reached-inside p; says = by-count n (sym reached-here ∙ ap reachOf p) z }
     where
-      go : (n : ℕ) → blank (drop at s) ≡ passed n → (n ≡ 0 → ⊥) → W s ≡ further (at + n) (W (drop (at + n) s))
-      go zero e z = absurd (z refl)
-      go (suc k) e z =
+      by-count : (n : ℕ) → blank (drop at s) ≡ passed n → (n ≡ 0 → ⊥) → W s ≡ further (at + n) (W (drop (at + n) s))
+      by-count zero e z = absurd (z refl)
+      by-count (suc k) e z =
           o .says ∙ ap (further at) (W-blank (drop at s) k e) ∙ further-further at (suc k) (W (drop (suc k) (drop at s)))
           ∙ ap (λ t. further (at + suc k) (W t)) (drop-drop (suc k) at s)
 
@@ -143,18 +144,18 @@ module _ (s : List ℕ) (n : ℕ) (r : Reach) (e : reachOf r ≡ W (take (length
 
 -- what `decimal` answers of the number n
 number-value : (n v : ℕ) → Value v ≡ numberOf n → (leb n mostNatural ≡ true) × (v ≡ n)
-number-value n v e = go (leb n mostNatural) refl e
+number-value n v e = by-test (leb n mostNatural) refl e
   where
-    go : (t : Bool) → leb n mostNatural ≡ t → Value v ≡ pick t (Value n) TooLarge → (leb n mostNatural ≡ true) × (v ≡ n)
-    go true p e = (p, cc)
-    go false p e = absurd (let z : _≡_ {A = ℕ} 0 1 = cc in omega arith)
+    by-test : (t : Bool) → leb n mostNatural ≡ t → Value v ≡ pick t (Value n) TooLarge → (leb n mostNatural ≡ true) × (v ≡ n)
+    by-test true p e = (p, cc)
+    by-test false p e = absurd (false≢true cc)
 
 number-large : (n : ℕ) → TooLarge ≡ numberOf n → leb n mostNatural ≡ false
-number-large n e = go (leb n mostNatural) refl e
+number-large n e = by-test (leb n mostNatural) refl e
   where
-    go : (t : Bool) → leb n mostNatural ≡ t → TooLarge ≡ pick t (Value n) TooLarge → leb n mostNatural ≡ false
-    go true p e = absurd (let z : _≡_ {A = ℕ} 0 1 = cc in omega arith)
-    go false p e = p
+    by-test : (t : Bool) → leb n mostNatural ≡ t → TooLarge ≡ pick t (Value n) TooLarge → leb n mostNatural ≡ false
+    by-test true p e = absurd (false≢true cc)
+    by-test false p e = p
 
 -- a natural, by the number of its digits and what `decimal` answered for them
 module _ (s : List ℕ) {n : ℕ} (d : n ≡ run isDigit s) where

@@ -28,12 +28,12 @@ module _ (len : ℕ) (ws : List ℕ) (at : ℕ) where
   -- a word's turn is what `run` does at it
   step-turn : (k : Kind) (ks : List Kind) → at < length ws → run (within len) (k ∷ ks) at (drop at ws) ≡ after ks (turn (within len) k (getD ws at 0))
   unfolding run
-  step-turn k ks h = ap (run (within len) (k ∷ ks) at) (one-at ws at h) ∙ go (turn (within len) k (getD ws at 0))
+  step-turn k ks h = ap (run (within len) (k ∷ ks) at) (one-at ws at h) ∙ by-turn (turn (within len) k (getD ws at 0))
     where
-      go : (u : Turn)
+      by-turn : (u : Turn)
           → elim u [ fits fs ↦ run (within len) (fs ++ ks) (suc at) (drop (at + 1) ws) | misfit b ↦ Misfit (at - b) ] ≡ after ks u
-      go (fits fs) = rw add-one
-      go (misfit b) = refl
+      by-turn (fits fs) = rw add-one
+      by-turn (misfit b) = refl
 
   pub step-fits : (k : Kind) (fs : List Kind) → at < length ws → turn (within len) k (getD ws at 0) ≡ fits fs
       → (ks : List Kind) → run (within len) (k ∷ ks) at (drop at ws) ≡ run (within len) (fs ++ ks) (at + 1) (drop (at + 1) ws)

@@ -1,61 +1,18 @@
--- Laws of blanks, words and signs that the crates above cite: what is kept lies inside the text, tokens make progress, nothing blank stands
--- after blanks, runs are maximal.
+-- Laws of blanks: they lie inside the text, one follows another, and none stands after them; upstream's equations of a long comment's end.
 use mathlib.Core.Path.{_≡_, refl, sym, ap, _∙_}
-use mathlib.Core.Bool.{Bool, true, false, _&&_}
+use mathlib.Core.Bool.{Bool, true, false, _&&_, false≢true}
 use mathlib.Core.List.{List, [], _∷_}
 use mathlib.Core.Option.{Option, none, some}
-use Prim.Native.Nat.{ℕ, zero, suc, _+_, _≤_, _<_, zero-le, suc-le-suc}
+use Prim.Native.Nat.{ℕ, zero, suc, _+_, _≤_, zero-le, suc-le-suc}
 use native.Mathlib.Omega.{arith}
 use native.Mathlib.Nat.{le-refl}
 use native.Mathlib.Numerals.{one-add}
-use lib.ListN.{length, drop, getD, length-drop}
+use lib.ListN.{length, drop, length-drop}
 use lib.Dec.{eqb}
 use lib.Seq.{drop-length}
-use Rattle.lexing.specs.Answer.{pick}
-use Rattle.lexing.specs.Bytes.{run, startsWith, isSpace, notNewline}
+use Rattle.lexing.specs.Bytes.{startsWith, isSpace, notNewline}
+use Rattle.lexing.specs.RunLaws.{pick-case, run-inside}
 use Rattle.lexing.specs.Blanks.{Blanks, passed, unclosed, further, Mark, closing, opening, neither, mark, plus, atMark, longComment, orElse, positionAfterEndOfLongComment, blank, onward, blanksFrom, W}
-
--- ---- tests
-
-pub pick-case : {X : Type 0} (P : X → Type 0) (t : Bool) {a b : X} → (t ≡ true → P a) → (t ≡ false → P b) → P (pick t a b)
-pick-case P true f g = f refl
-pick-case P false f g = g refl
-
--- ---- runs
-
-pub run-case : (P : ℕ → Type 0) (p : ℕ → Bool) (b : ℕ) (s : List ℕ) → (p b ≡ true → P (suc (run p s))) → (p b ≡ false → P 0) → P (run p (b ∷ s))
-unfolding run
-run-case P p b s f g = go (p b) refl
-  where
-    go : (t : Bool) → p b ≡ t → P (elim t [ true ↦ suc (run p s) | false ↦ 0 ])
-    go true e = f e
-    go false e = g e
-
-pub run-inside : (p : ℕ → Bool) (s : List ℕ) → run p s ≤ length s
-unfolding run
-run-inside p [] = zero-le
-run-inside p (b ∷ s) = run-case (λ n. n ≤ suc (length s)) p b s (λ _. suc-le-suc (run-inside p s)) (λ _. zero-le)
-
--- every byte of a run satisfies the test
-pub run-all : (p : ℕ → Bool) (s : List ℕ) (i : ℕ) → i < run p s → p (getD s i 0) ≡ true
-unfolding run
-run-all p [] i h = absurd (omega arith)
-run-all p (b ∷ s) zero h = run-case (λ n. 0 < n → p b ≡ true) p b s (λ e _. e) (λ _ h. absurd (omega arith)) h
-run-all p (b ∷ s) (suc i) h =
-    run-case (λ n. suc i < n → p (getD s i 0) ≡ true) p b s (λ _ h. run-all p s i (omega arith)) (λ _ h. absurd (omega arith)) h
-
--- and the byte after it does not: a run is maximal
-pub run-maximal : (p : ℕ → Bool) (s : List ℕ) → run p s < length s → p (getD s (run p s) 0) ≡ false
-unfolding run
-run-maximal p [] h = absurd (omega arith)
-run-maximal p (b ∷ s) h =
-    run-case (λ n. n < suc (length s) → p (getD (b ∷ s) n 0) ≡ false) p b s (λ _ h. run-maximal p s (omega arith)) (λ e _. e) h
-
--- the same with no bound, of a test that the 0 past the end fails
-pub run-ends : (p : ℕ → Bool) → p 0 ≡ false → (s : List ℕ) → p (getD s (run p s) 0) ≡ false
-unfolding run
-run-ends p z [] = z
-run-ends p z (b ∷ s) = run-case (λ n. p (getD (b ∷ s) n 0) ≡ false) p b s (λ _. run-ends p z s) (λ e. e)
 
 -- ---- blanks
 
@@ -69,32 +26,32 @@ reach-further k (passed n) = refl
 reach-further k (unclosed n) = refl
 
 pub plus-some : (k : ℕ) (r : Option ℕ) {n : ℕ} → plus k r ≡ some n → (m : ℕ) × (r ≡ some m) × (k + m ≡ n)
-plus-some k none {n} e = absurd (let z : _≡_ {A = ℕ} 0 1 = cc in omega arith)
+plus-some k none {n} e = absurd (false≢true cc)
 plus-some k (some m) {n} e = (m, refl, cc)
 
 -- a long comment that is closed ends inside the text
 pub longComment-inside : (d : ℕ) (s : List ℕ) {n : ℕ} → longComment d s ≡ some n → n ≤ length s
 unfolding longComment
-longComment-inside d [] {n} e = absurd (let z : _≡_ {A = ℕ} 0 1 = cc in omega arith)
-longComment-inside d (a ∷ []) {n} e = absurd (let z : _≡_ {A = ℕ} 0 1 = cc in omega arith)
-longComment-inside d (a ∷ (b ∷ s)) {n} e = go (mark a b) d e (λ k m. longComment-inside k s {n = m}) (λ k m. longComment-inside k (b ∷ s) {n = m})
+longComment-inside d [] {n} e = absurd (false≢true cc)
+longComment-inside d (a ∷ []) {n} e = absurd (false≢true cc)
+longComment-inside d (a ∷ (b ∷ s)) {n} e = by-mark (mark a b) d e (λ k m. longComment-inside k s {n = m}) (λ k m. longComment-inside k (b ∷ s) {n = m})
   where
-    go : (t : Mark) (d : ℕ) → atMark t d (λ k. longComment k s) (λ k. longComment k (b ∷ s)) ≡ some n
+    by-mark : (t : Mark) (d : ℕ) → atMark t d (λ k. longComment k s) (λ k. longComment k (b ∷ s)) ≡ some n
         → ((k m : ℕ) → longComment k s ≡ some m → m ≤ length s)
         → ((k m : ℕ) → longComment k (b ∷ s) ≡ some m → m ≤ suc (length s)) → n ≤ suc (suc (length s))
-    go closing zero e over on = let h : 2 ≡ n = cc in omega arith
-    go closing (suc d) e over on = let (m, p, q) = plus-some 2 (longComment d s) e in omega (arith, over d m p)
-    go opening d e over on = let (m, p, q) = plus-some 2 (longComment (suc d) s) e in omega (arith, over (suc d) m p)
-    go neither d e over on = let (m, p, q) = plus-some 1 (longComment d (b ∷ s)) e in omega (arith, on d m p)
+    by-mark closing zero e over on = let h : 2 ≡ n = cc in omega arith
+    by-mark closing (suc d) e over on = let (m, p, q) = plus-some 2 (longComment d s) e in omega (arith, over d m p)
+    by-mark opening d e over on = let (m, p, q) = plus-some 2 (longComment (suc d) s) e in omega (arith, over (suc d) m p)
+    by-mark neither d e over on = let (m, p, q) = plus-some 1 (longComment d (b ∷ s)) e in omega (arith, on d m p)
 
 -- upstream's `start <= len <= end`, its `start` being 0 here
 pub position-inside : (s : List ℕ) → positionAfterEndOfLongComment s ≤ length s
 unfolding positionAfterEndOfLongComment
-position-inside s = go (longComment 0 s) refl
+position-inside s = by-end (longComment 0 s) refl
   where
-    go : (r : Option ℕ) → longComment 0 s ≡ r → orElse (length s) r ≤ length s
-    go none e = le-refl _
-    go (some n) e = longComment-inside 0 s e
+    by-end : (r : Option ℕ) → longComment 0 s ≡ r → orElse (length s) r ≤ length s
+    by-end none e = le-refl _
+    by-end (some n) e = longComment-inside 0 s e
 
 pub blank-inside : (s : List ℕ) → reach (blank s) ≤ length s
 unfolding blank startsWith
@@ -105,11 +62,11 @@ blank-inside (a ∷ s) =
     (λ _. pick-case (λ r. reach r ≤ suc (length s)) (startsWith (47 ∷ 42 ∷ []) (a ∷ s)) (λ e. long s e) (λ _. zero-le)))
   where
     long : (s : List ℕ) → startsWith (47 ∷ 42 ∷ []) (a ∷ s) ≡ true → 2 + positionAfterEndOfLongComment (drop 1 s) ≤ suc (length s)
-    long [] e = absurd (go (eqb 47 a) e)
+    long [] e = absurd (by-test (eqb 47 a) e)
       where
-        go : (t : Bool) → (t && false) ≡ true → ⊥
-        go true e = let z : _≡_ {A = ℕ} 0 1 = cc in omega arith
-        go false e = let z : _≡_ {A = ℕ} 0 1 = cc in omega arith
+        by-test : (t : Bool) → (t && false) ≡ true → ⊥
+        by-test true e = false≢true cc
+        by-test false e = false≢true cc
     long (b ∷ s) e = omega (arith, position-inside s)
 
 -- one blank after the other: `onward` by cases on the blank at the start
@@ -165,7 +122,7 @@ W-unclosed (a ∷ s) n e = ap (λ r. onward r (λ j. blanksFrom j s)) e
 
 further-passed : (k : ℕ) (r : Blanks) {n : ℕ} → further k r ≡ passed n → (m : ℕ) × (r ≡ passed m) × (k + m ≡ n)
 further-passed k (passed m) {n} e = (m, refl, cc)
-further-passed k (unclosed m) {n} e = absurd (let z : _≡_ {A = ℕ} 0 1 = cc in omega arith)
+further-passed k (unclosed m) {n} e = absurd (false≢true cc)
 
 -- after k bytes of a blank and the blanks behind them no blank stands
 Stops : List ℕ → ℕ → Type 0
@@ -178,12 +135,12 @@ stops-later a s k n f e = let (m, p, q) = further-passed 1 (blanksFrom k s) e in
 stops : (s : List ℕ) (k : ℕ) → Stops s k
 unfolding Stops blanksFrom blank
 stops [] k n e = let h : 0 ≡ n = cc in rw (← h) refl
-stops (a ∷ s) zero n e = go (blank (a ∷ s)) refl e (λ k. stops s k)
+stops (a ∷ s) zero n e = by-blanks (blank (a ∷ s)) refl e (λ k. stops s k)
   where
-    go : (r : Blanks) → blank (a ∷ s) ≡ r → onward r (λ k. blanksFrom k s) ≡ passed n → ((k : ℕ) → Stops s k) → blank (drop n (a ∷ s)) ≡ passed 0
-    go (passed zero) p e f = let h : 0 ≡ n = cc in rw (← h) p
-    go (passed (suc k)) p e f = stops-later a s k n (f k) e
-    go (unclosed m) p e f = absurd (let z : _≡_ {A = ℕ} 0 1 = cc in omega arith)
+    by-blanks : (r : Blanks) → blank (a ∷ s) ≡ r → onward r (λ k. blanksFrom k s) ≡ passed n → ((k : ℕ) → Stops s k) → blank (drop n (a ∷ s)) ≡ passed 0
+    by-blanks (passed zero) p e f = let h : 0 ≡ n = cc in rw (← h) p
+    by-blanks (passed (suc k)) p e f = stops-later a s k n (f k) e
+    by-blanks (unclosed m) p e f = absurd (false≢true cc)
 stops (a ∷ s) (suc k) n e = stops-later a s k n (stops s k) e
 
 -- nothing blank stands after blanks
@@ -209,12 +166,12 @@ blank-closed (a ∷ s) =
 
 further-closed : (k : ℕ) (r : Blanks) → Passed r → Passed (further k r)
 further-closed k (passed n) e = refl
-further-closed k (unclosed n) e = absurd (let z : _≡_ {A = ℕ} 0 1 = cc in omega arith)
+further-closed k (unclosed n) e = absurd (false≢true cc)
 
 onward-closed : (r : Blanks) (on : ℕ → Blanks) → Passed r → ((k : ℕ) → Passed (on k)) → Passed (onward r on)
 onward-closed (passed zero) on e f = refl
 onward-closed (passed (suc k)) on e f = further-closed 1 (on k) (f k)
-onward-closed (unclosed n) on e f = absurd (let z : _≡_ {A = ℕ} 0 1 = cc in omega arith)
+onward-closed (unclosed n) on e f = absurd (false≢true cc)
 
 blanksFrom-closed : (k : ℕ) (s : List ℕ) → Passed (blanksFrom k s)
 unfolding blanksFrom
@@ -232,12 +189,12 @@ pub position-short : (s : List ℕ) → length s ≤ 2 → positionAfterEndOfLon
 unfolding positionAfterEndOfLongComment longComment
 position-short [] h = refl
 position-short (a ∷ []) h = refl
-position-short (a ∷ (b ∷ [])) h = go (mark a b)
+position-short (a ∷ (b ∷ [])) h = by-mark (mark a b)
   where
-    go : (t : Mark) → orElse 2 (atMark t 0 (λ k. none) (λ k. none)) ≡ 2
-    go closing = refl
-    go opening = refl
-    go neither = refl
+    by-mark : (t : Mark) → orElse 2 (atMark t 0 (λ k. none) (λ k. none)) ≡ 2
+    by-mark closing = refl
+    by-mark opening = refl
+    by-mark neither = refl
 position-short (a ∷ (b ∷ (c ∷ s))) h = absurd (omega arith)
 
 -- one comment after another: `on` is asked at the place after the first
@@ -258,7 +215,7 @@ longComment-nested : (e d j : ℕ) (s : List ℕ) → j ≡ e + d → longCommen
 unfolding longComment
 longComment-nested e d j [] h = refl
 longComment-nested e d j (a ∷ []) h = refl
-longComment-nested e d j (a ∷ (b ∷ s)) h = go (mark a b) e j h (λ e j. longComment-nested e d j s) (λ e j. longComment-nested e d j (b ∷ s))
+longComment-nested e d j (a ∷ (b ∷ s)) h = by-mark (mark a b) e j h (λ e j. longComment-nested e d j s) (λ e j. longComment-nested e d j (b ∷ s))
   where
     Nested : List ℕ → Type 0
     Nested t = (e j : ℕ) → j ≡ e + d → longComment (suc j) t ≡ afterwards (longComment e t) (λ n. longComment d (drop n t))
@@ -272,15 +229,15 @@ longComment-nested e d j (a ∷ (b ∷ s)) h = go (mark a b) e j h (λ e j. long
     one : (n : ℕ) → longComment d (drop (1 + n) (a ∷ (b ∷ s))) ≡ longComment d (drop n (b ∷ s))
     one n = ap (λ k. longComment d (drop k (a ∷ (b ∷ s)))) (one-add n)
 
-    go : (t : Mark) (e j : ℕ) → j ≡ e + d → Nested s → Nested (b ∷ s)
+    by-mark : (t : Mark) (e j : ℕ) → j ≡ e + d → Nested s → Nested (b ∷ s)
         → atMark t (suc j) (λ k. longComment k s) (λ k. longComment k (b ∷ s))
         ≡ afterwards (atMark t e (λ k. longComment k s) (λ k. longComment k (b ∷ s))) (λ n. longComment d (drop n (a ∷ (b ∷ s))))
-    go closing zero j h over on = let q : j ≡ d = omega arith in ap (λ k. plus 2 (longComment k s)) q
-    go closing (suc e) j h over on =
+    by-mark closing zero j h over on = let q : j ≡ d = omega arith in ap (λ k. plus 2 (longComment k s)) q
+    by-mark closing (suc e) j h over on =
         let q : j ≡ suc (e + d) = omega arith in
         ap (λ k. plus 2 (longComment k s)) q ∙ ap (plus 2) (over e (e + d) refl) ∙ sym (afterwards-plus 2 (longComment e s) _ _ two)
-    go opening e j h over on = ap (plus 2) (over (suc e) (suc j) (omega arith)) ∙ sym (afterwards-plus 2 (longComment (suc e) s) _ _ two)
-    go neither e j h over on = ap (plus 1) (on e j h) ∙ sym (afterwards-plus 1 (longComment e (b ∷ s)) _ _ one)
+    by-mark opening e j h over on = ap (plus 2) (over (suc e) (suc j) (omega arith)) ∙ sym (afterwards-plus 2 (longComment (suc e) s) _ _ two)
+    by-mark neither e j h over on = ap (plus 1) (on e j h) ∙ sym (afterwards-plus 1 (longComment e (b ∷ s)) _ _ one)
 
 -- upstream's four cases, of what lies between `start` and `end`, with places counted from `start`. The first is `position-short`
 pub position-closing : (a b : ℕ) (s : List ℕ) → mark a b ≡ closing → positionAfterEndOfLongComment (a ∷ (b ∷ s)) ≡ 2
@@ -308,8 +265,8 @@ position-opening a b s e =
 pub position-neither : (a b : ℕ) (s : List ℕ) → mark a b ≡ neither → positionAfterEndOfLongComment (a ∷ (b ∷ s)) ≡ 1 + positionAfterEndOfLongComment (b ∷ s)
 unfolding positionAfterEndOfLongComment longComment
 position-neither a b s e =
-    ap (λ t. orElse (suc (suc (length s))) (atMark t 0 (λ k. longComment k s) (λ k. longComment k (b ∷ s)))) e ∙ go (longComment 0 (b ∷ s))
+    ap (λ t. orElse (suc (suc (length s))) (atMark t 0 (λ k. longComment k s) (λ k. longComment k (b ∷ s)))) e ∙ by-end (longComment 0 (b ∷ s))
   where
-    go : (r : Option ℕ) → orElse (suc (suc (length s))) (plus 1 r) ≡ 1 + orElse (suc (length s)) r
-    go none = omega arith
-    go (some n) = refl
+    by-end : (r : Option ℕ) → orElse (suc (suc (length s))) (plus 1 r) ≡ 1 + orElse (suc (length s)) r
+    by-end none = omega arith
+    by-end (some n) = refl
