@@ -27,12 +27,12 @@ placeOf : Option Refusal → ℕ
 placeOf none = 0
 placeOf (some r) = r .place
 
-no-refusal : (c : Checked) → (refusal c ≡ none) ↔ (c ≡ Tree)
+pub no-refusal : (c : Checked) → (refusal c ≡ none) ↔ (c ≡ Tree)
 no-refusal Tree = (λ e. refl, λ e. refl)
 no-refusal (Misfit at) = (λ e. cc, λ e. cc)
 no-refusal TooLong = (λ e. cc, λ e. cc)
 
-refusal-7 : (c : Checked) (place : ℕ) → (refusal c ≡ some (record { number = 7; place = place })) ↔ (c ≡ Misfit place)
+pub refusal-7 : (c : Checked) (place : ℕ) → (refusal c ≡ some (record { number = 7; place = place })) ↔ (c ≡ Misfit place)
 unfolding numberOf placeOf
 refusal-7 Tree place = (λ e. cc, λ e. cc)
 refusal-7 (Misfit at) place = (λ e. ap (λ r. Misfit (placeOf r)) e, λ e. ap refusal e)
@@ -60,7 +60,7 @@ run-counts-none inside (k ∷ ks) at (w ∷ ws) e = by-turn (turn inside k w) e 
     by-turn (fits fs) e f = f fs e
     by-turn (misfit back) e f = impossible cc
 
-refusal-6 : (ks : List Kind) (words : List ℕ) (len : ℕ) → (refusal (check ks words len) ≡ some (record { number = 6; place = 0 })) ↔ (mostWords < length words)
+pub refusal-6 : (ks : List Kind) (words : List ℕ) (len : ℕ) → (refusal (check ks words len) ≡ some (record { number = 6; place = 0 })) ↔ (mostWords < length words)
 unfolding numberOf
 refusal-6 ks words len = (λ e. leb-false _ _ (few (leb (length words) mostWords) refl e), λ h. ap (λ b. refusal (cond b (run (within len) ks 0 words) TooLong)) (lt-leb _ _ h))
   where
