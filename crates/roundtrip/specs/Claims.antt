@@ -1,15 +1,15 @@
 -- Demand 3, entire. The contracts of the functions are `Answered` (`read_expression`) and `PrintAnswered` (`print_expression` on one line,
 -- `print_expression_lines` from any start indent).
-use Prim.Native.Nat.{ℕ, _<_}
+use Prim.Native.Nat.{ℕ, _≤_, _<_}
 use mathlib.Core.Path.{_≡_}
 use mathlib.Core.Logic.{_↔_}
-use mathlib.Core.List.{List, []}
+use mathlib.Core.List.{List}
 use lib.ListN.{length, take}
 use Rattle.tree.specs.Ast.{Expr}
-use Rattle.tree.specs.Words.{exprWords}
+use Rattle.tree.specs.Limits.{mostText}
 use Rattle.tree.specs.Check.{NameIn}
 use Rattle.grammar.specs.Grammar.{Tree, Derives}
-use Rattle.grammar.specs.OperatorTrees.{OperatorTree, Faithful, DerivesWithin}
+use Rattle.grammar.specs.OperatorTrees.{OperatorTree, Faithful, DerivesWithin, mostDepth}
 use Rattle.grammar.specs.Claims as Grammar
 use Rattle.reading.specs.TreeRead.{Answered, Leaves}
 use Rattle.reading.specs.Claims as Reader
@@ -17,8 +17,10 @@ use Rattle.reading.specs.declared.entry.Reading.{Reading}
 use Rattle.printing.specs.declared.format.ExprFormatOption.{ExprFormatOption}
 use Rattle.printing.specs.declared.Printed.the-variants.{Written}
 use Rattle.printing.specs.PrintUtil.{Init}
+use Rattle.printing.specs.Entries.{PrintAnswered, Holds}
 use Rattle.roundtrip.specs.Nesting.{nesting}
-use Rattle.roundtrip.specs.ReadBack.{PrintAnswered, treeIn, written-derives, written-read}
+use Rattle.roundtrip.specs.SmallNaturals.{Words32}
+use Rattle.roundtrip.specs.ReadBack.{treeIn, written-derives, written-read, written-read-plainly}
 
 -- First: any two derivations of a text have the same tree, whatever their depths.
 pub derivations-agree : (text : List ℕ) (d d′ : ℕ) (t t′ : Tree) → Derives d text t → Derives d′ text t′ → t ≡ t′
@@ -33,13 +35,22 @@ reading-is-deriving = Reader.read-expression-exact
 -- Third: where the words are those of a faithful operator tree e over the text and a print, in either form and from any start indent, is not
 -- refused, what it writes has a derivation with that same tree: of each depth beyond the nesting of the print's brackets ..
 pub print-is-derived : (text words out out′ : List ℕ) (format : ExprFormatOption) (n : ℕ) (e : Expr (NameIn (length text)))
-    → exprWords (λ n. n .span) e [] ≡ words → Faithful (treeIn text e) → PrintAnswered text words format out (Written n) out′
+    → Holds text words e → Faithful (treeIn text e) → PrintAnswered text words format out (Written n) out′
     → (d : ℕ) → nesting (treeIn text e) Init < d → Derives d (take n out′) (treeIn text e)
 print-is-derived = written-derives
 
 -- .. and where the print keeps the reading limits, `read_expression` reads it back as that tree.
 pub print-is-read-back : (text words out out′ : List ℕ) (format : ExprFormatOption) (n : ℕ) (e : Expr (NameIn (length text)))
-    → exprWords (λ n. n .span) e [] ≡ words → Faithful (treeIn text e) → PrintAnswered text words format out (Written n) out′
+    → Holds text words e → Faithful (treeIn text e) → PrintAnswered text words format out (Written n) out′
     → (m : ℕ) (t : Tree) → DerivesWithin m (take n out′) t → (r : Reading) (table : List ℕ) → Answered (take n out′) m r table
     → Leaves (take n out′) m (treeIn text e) r table
 print-is-read-back = written-read
+
+-- The last claim in plain limits: a print of at most 32,768 bytes whose brackets nest below 200 is read back from a table of as many words as the
+-- printed one, or more.
+pub short-print-is-read-back : (text words out out′ : List ℕ) (format : ExprFormatOption) (n : ℕ) (e : Expr (NameIn (length text)))
+    → Holds text words e → Faithful (treeIn text e) → PrintAnswered text words format out (Written n) out′
+    → Words32 words → n ≤ mostText → nesting (treeIn text e) Init < mostDepth
+    → (m : ℕ) → length words ≤ m → (r : Reading) (table : List ℕ) → Answered (take n out′) m r table
+    → Leaves (take n out′) m (treeIn text e) r table
+short-print-is-read-back = written-read-plainly

@@ -16,7 +16,7 @@ use Rattle.tree.specs.Ast.{LogicalNot, UnaryMinus}
 use Rattle.grammar.specs.Words.{bytes, isIdentifier}
 use Rattle.grammar.specs.Tokens.{Token, name, nat, mark, sign, illegal, cut}
 use Rattle.grammar.specs.Tokens.{'!', '-', '*', '+', '==', '!=', '<', '<=', '&&', '||', '==>', '<==>'}
-use Rattle.grammar.specs.Laws.Steps.{impossible}
+use Rattle.tree.specs.Clash.{impossible}
 use Rattle.grammar.specs.Laws.Looks.{both-true}
 use Rattle.grammar.specs.Laws.Cut.{cut-space}
 use Rattle.grammar.specs.Laws.Pieces.{Ends, lengthens, cut-name, cut-nat, cut-sign}
@@ -87,12 +87,12 @@ cut-operator UnaryMinus s n h = cut-sign '-' s h
 -- a byte of an identifier lengthens no sign
 no-lengthening : (b : ℕ) → identifierChar b ≡ true → lengthens b ≡ false
 unfolding lengthens identifierChar
-no-lengthening b h = go (eqb 61 b) (eqb 62 b) refl refl
+no-lengthening b h = by-tests (eqb 61 b) (eqb 62 b) refl refl
   where
-    go : (x y : Bool) → eqb 61 b ≡ x → eqb 62 b ≡ y → (x || y) ≡ false
-    go true y p q = let e : 61 ≡ b = eqb-true 61 b p in impossible (cc (ap identifierChar e))
-    go false true p q = let e : 62 ≡ b = eqb-true 62 b q in impossible (cc (ap identifierChar e))
-    go false false p q = refl
+    by-tests : (x y : Bool) → eqb 61 b ≡ x → eqb 62 b ≡ y → (x || y) ≡ false
+    by-tests true y p q = let e : 61 ≡ b = eqb-true 61 b p in impossible (cc (ap identifierChar e))
+    by-tests false true p q = let e : 62 ≡ b = eqb-true 62 b q in impossible (cc (ap identifierChar e))
+    by-tests false false p q = refl
 
 -- a text that begins with such a byte lengthens no sign
 starts : (w s : List ℕ) → 0 < length w → identifierChar (getD w 0 0) ≡ true → Ends lengthens (w ++ s)
@@ -105,20 +105,20 @@ start-char b h = rw h refl
 
 digit-char : (b : ℕ) → isDigit b ≡ true → identifierChar b ≡ true
 unfolding identifierChar
-digit-char b h = go (canStartIdentifierChar b)
+digit-char b h = by-letter (canStartIdentifierChar b)
   where
-    go : (x : Bool) → (x || isDigit b || oneOf (95 ∷ 36 ∷ 46 ∷ []) b) ≡ true
-    go true = refl
-    go false = rw h refl
+    by-letter : (x : Bool) → (x || isDigit b || oneOf (95 ∷ 36 ∷ 46 ∷ []) b) ≡ true
+    by-letter true = refl
+    by-letter false = rw h refl
 
 -- what ends a name ends a natural
 pub digits-end : (s : List ℕ) → Ends identifierChar s → Ends isDigit s
 digits-end [] h = tt
-digits-end (b ∷ s) h = go (isDigit b) refl
+digits-end (b ∷ s) h = by-digit (isDigit b) refl
   where
-    go : (x : Bool) → isDigit b ≡ x → isDigit b ≡ false
-    go true e = let i : identifierChar b ≡ true = digit-char b e in impossible (cc)
-    go false e = e
+    by-digit : (x : Bool) → isDigit b ≡ x → isDigit b ≡ false
+    by-digit true e = let i : identifierChar b ≡ true = digit-char b e in impossible (cc)
+    by-digit false e = e
 
 identifier-size : (w : List ℕ) → isIdentifier w ≡ true → (0 < length w) × (0 < identifierLength w)
 unfolding isIdentifier

@@ -14,13 +14,13 @@ use Rattle.printing.specs.Text.{digits}
 run-append : (p : ℕ → Bool) (w v : List ℕ) → run p w ≡ length w → run p (w ++ v) ≡ length w + run p v
 unfolding run
 run-append p [] v e = omega arith
-run-append p (a ∷ w) v e = go (p a) e (λ e. run-append p w v e)
+run-append p (a ∷ w) v e = by-first (p a) e (λ e. run-append p w v e)
   where
-    go : (t : Bool) → _≡_ {A = ℕ} (elim t [ true ↦ suc (run p w) | false ↦ 0 ]) (suc (length w))
+    by-first : (t : Bool) → _≡_ {A = ℕ} (elim t [ true ↦ suc (run p w) | false ↦ 0 ]) (suc (length w))
         → (run p w ≡ length w → run p (w ++ v) ≡ length w + run p v)
         → _≡_ {A = ℕ} (elim t [ true ↦ suc (run p (w ++ v)) | false ↦ 0 ]) (suc (length w) + run p v)
-    go true e ih = let h : run p w ≡ length w = omega arith in omega (arith, ih h)
-    go false e ih = absurd (omega arith)
+    by-first true e ih = let h : run p w ≡ length w = omega arith in omega (arith, ih h)
+    by-first false e ih = absurd (omega arith)
 
 decimal-append : (v : ℕ) (w u : List ℕ) → decimal v (w ++ u) ≡ decimal (decimal v w) u
 unfolding decimal
@@ -71,11 +71,11 @@ digits-more k n rest e = rw (e, digits) refl
 
 pub digits-written : (k n : ℕ) → n < k → Written k n
 digits-written zero n h = absurd (omega arith)
-digits-written (suc k) n h = go (ltb n 10) refl (λ h. digits-written k (n / 10) h)
+digits-written (suc k) n h = by-digit (ltb n 10) refl (λ h. digits-written k (n / 10) h)
   where
-    go : (t : Bool) → ltb n 10 ≡ t → (n / 10 < k → Written k (n / 10)) → Written (suc k) n
-    go true e ih = record { text = (48 + n) ∷ []; stands = write-one n (ltb-true n 10 e); written = λ rest. digits-last k n rest e }
-    go false e ih =
+    by-digit : (t : Bool) → ltb n 10 ≡ t → (n / 10 < k → Written k (n / 10)) → Written (suc k) n
+    by-digit true e ih = record { text = (48 + n) ∷ []; stands = write-one n (ltb-true n 10 e); written = λ rest. digits-last k n rest e }
+    by-digit false e ih =
         let big : 10 ≤ n = ltb-false n 10 e in
         let less : n / 10 < k = omega arith in
         let w = ih less in

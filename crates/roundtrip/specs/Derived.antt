@@ -1,14 +1,14 @@
 -- Every print of a faithful operator tree, in every context and format: by induction on the tree, over all contexts.
 use Prim.Native.Nat.{ℕ, suc, _<_}
-use mathlib.Core.Path.{_≡_, refl, sym, _∙_, subst}
+use mathlib.Core.Path.{_≡_, refl, sym, subst}
 use mathlib.Core.Bool.{Bool, true, false}
 use mathlib.Core.List.{List, [], _∷_, append-nil}
 use Rattle.lexing.specs.Answer.{pick}
 use Rattle.lexing.specs.Bytes.{isDigit, canStartIdentifierChar, identifierChar, run}
 use Rattle.lexing.specs.Blanks.{W, blanksFrom}
 use Rattle.lexing.specs.Tokens.{identifierLength}
-use Rattle.tree.specs.Ast.{Operator, IfThenElse, Equiv, LogicalImp, LogicalAnd, LogicalOr, Eq, Neq, Less, AtMost, Plus, Minus, Times, Div, Mod, ArgumentCount}
-use Rattle.tree.specs.Ast.{LogicalNot, UnaryMinus, BLiteral, ILiteral, IdExpr, OperatorExpr, FunctionCallExpr, Exprs, noExprs, _then_}
+use Rattle.tree.specs.Ast.{Operator, ArgumentCount}
+use Rattle.tree.specs.Ast.{BLiteral, ILiteral, IdExpr, OperatorExpr, FunctionCallExpr, Exprs, noExprs, _then_}
 use Rattle.grammar.specs.Words.{bytes, isIdentifier, isFaithfulName}
 use Rattle.grammar.specs.Tokens.{tokensAfter, cut}
 use Rattle.grammar.specs.Grammar.{Tree, Derives, falsehood, truth, variable}

@@ -8,7 +8,7 @@ use lib.ListN.{drop}
 use borrow.Author.Tests.{not-true}
 use Rattle.lexing.specs.Bytes.{sameBytes}
 use Rattle.grammar.specs.Words.{bytes, oneOf, keywords, isName, isIdentifier, isFaithfulName}
-use Rattle.grammar.specs.Laws.Steps.{impossible}
+use Rattle.tree.specs.Clash.{impossible}
 use Rattle.grammar.specs.Laws.Looks.{both-true}
 
 or-false : (a b : Bool) → (a || b) ≡ false → (a ≡ false) × (b ≡ false)

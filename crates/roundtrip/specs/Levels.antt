@@ -7,7 +7,7 @@ use Rattle.grammar.specs.Tokens.{Token}
 use Rattle.grammar.specs.Grammar.{Tree, Rule, Operand, Left, Right}
 use Rattle.grammar.specs.Grammar.{Once, first, second, bare, UnaryExpr, FactorExpr, TermExpr, JuctExpr, LogicalExpr, ImpExpExpr}
 use Rattle.grammar.specs.Grammar.{EquivExpr, conjunction, disjunction, implication}
-use Rattle.grammar.specs.Laws.Steps.{impossible}
+use Rattle.tree.specs.Clash.{impossible}
 
 -- the rules of the grammar, the two sides of each choice among them
 pub data Level : Type 0 where
@@ -58,43 +58,43 @@ fitsIn l m = within 9 true l m || within 9 false l m
 
 module _ {E : Rule} {ts : List Token} {t : Tree} where
   loosen : (side : Bool) {l : Level} → At l E ts t → At (looser side l) E ts t
-  loosen side {l} x = go side l x
+  loosen side {l} x = by-level side l x
     where
-      go : (side : Bool) (l : Level) → At l E ts t → At (looser side l) E ts t
-      go side operand x = record { derived = bare (x .derived) }
-      go side prefixes x = record { derived = Left.one (x .derived) }
-      go side factor x = record { derived = Left.one (x .derived) }
-      go side term x = record { derived = Once.one (x .derived) }
-      go true juct x = record { derived = Left.one (x .derived) }
-      go false juct x = record { derived = Left.one (x .derived) }
-      go side conjuncts x = record { derived = first (x .derived) }
-      go side disjuncts x = record { derived = second (x .derived) }
-      go side logical x = record { derived = Right.one (x .derived) }
-      go side implications x = record { derived = first (x .derived) }
-      go side impExp x = record { derived = Left.one (x .derived) }
-      go side equiv x = x
+      by-level : (side : Bool) (l : Level) → At l E ts t → At (looser side l) E ts t
+      by-level side operand x = record { derived = bare (x .derived) }
+      by-level side prefixes x = record { derived = Left.one (x .derived) }
+      by-level side factor x = record { derived = Left.one (x .derived) }
+      by-level side term x = record { derived = Once.one (x .derived) }
+      by-level true juct x = record { derived = Left.one (x .derived) }
+      by-level false juct x = record { derived = Left.one (x .derived) }
+      by-level side conjuncts x = record { derived = first (x .derived) }
+      by-level side disjuncts x = record { derived = second (x .derived) }
+      by-level side logical x = record { derived = Right.one (x .derived) }
+      by-level side implications x = record { derived = first (x .derived) }
+      by-level side impExp x = record { derived = Left.one (x .derived) }
+      by-level side equiv x = x
 
   within-fits : (k : ℕ) (side : Bool) {l m : Level} → within k side l m ≡ true → At l E ts t → At m E ts t
   unfolding within
-  within-fits zero side {l} {m} h x = go (Level-discrete l m) h
+  within-fits zero side {l} {m} h x = by-equality (Level-discrete l m) h
     where
-      go : (d : Dec (l ≡ m)) → elim d as (λ z. Bool) [ yes e ↦ true | no n ↦ false ] ≡ true → At m E ts t
-      go (yes e) h = subst (λ n. At n E ts t) e x
-      go (no n) h = impossible (cc)
-  within-fits (suc k) side {l} {m} h x = go (Level-discrete l m) h (λ h. within-fits k side h (loosen side x))
+      by-equality : (d : Dec (l ≡ m)) → elim d as (λ z. Bool) [ yes e ↦ true | no n ↦ false ] ≡ true → At m E ts t
+      by-equality (yes e) h = subst (λ n. At n E ts t) e x
+      by-equality (no n) h = impossible (cc)
+  within-fits (suc k) side {l} {m} h x = by-equality (Level-discrete l m) h (λ h. within-fits k side h (loosen side x))
     where
-      go : (d : Dec (l ≡ m)) → elim d as (λ z. Bool) [ yes e ↦ true | no n ↦ within k side (looser side l) m ] ≡ true
+      by-equality : (d : Dec (l ≡ m)) → elim d as (λ z. Bool) [ yes e ↦ true | no n ↦ within k side (looser side l) m ] ≡ true
           → (within k side (looser side l) m ≡ true → At m E ts t) → At m E ts t
-      go (yes e) h next = subst (λ n. At n E ts t) e x
-      go (no n) h next = next h
+      by-equality (yes e) h next = subst (λ n. At n E ts t) e x
+      by-equality (no n) h next = next h
 
   pub fits-in : {l m : Level} → fitsIn l m ≡ true → At l E ts t → At m E ts t
   unfolding fitsIn
-  fits-in {l} {m} h x = go (within 9 true l m) (within 9 false l m) h (λ h. within-fits 9 true h x) (λ h. within-fits 9 false h x)
+  fits-in {l} {m} h x = by-side (within 9 true l m) (within 9 false l m) h (λ h. within-fits 9 true h x) (λ h. within-fits 9 false h x)
     where
-      go : (a b : Bool) → (a || b) ≡ true → (a ≡ true → At m E ts t) → (b ≡ true → At m E ts t) → At m E ts t
-      go true b h f g = f refl
-      go false b h f g = g h
+      by-side : (a b : Bool) → (a || b) ≡ true → (a ≡ true → At m E ts t) → (b ≡ true → At m E ts t) → At m E ts t
+      by-side true b h f g = f refl
+      by-side false b h f g = g h
 
 -- an operand fits in every level
 pub operand-fits : (l : Level) → fitsIn operand l ≡ true

@@ -18,6 +18,6 @@ pub mod Printed
 pub mod PrintedOperators
 pub mod PrintedCalls
 pub mod Derived
--- names as bytes, and the entry
-pub mod Names
-pub mod Entry
+-- naturals, and names as bytes
+pub mod SmallNaturals
+pub mod PrintedNames

@@ -7,7 +7,7 @@ use Rattle.tree.specs.Ast.{Operator, IfThenElse, Equiv, LogicalImp, LogicalAnd,
 use Rattle.tree.specs.Ast.{LogicalNot, UnaryMinus, OperatorExpr, noExprs, _then_}
 use Rattle.grammar.specs.Tokens.{Token, sign, illegal, '!', '-', '*', '+', '==', '!=', '<', '<=', '&&', '||', '==>', '<==>'}
 use Rattle.grammar.specs.Grammar.{Tree, Rule, single, word, signRole, wordRole, role, unary, binary, Left, Right, Once, prefixed}
-use Rattle.grammar.specs.Laws.Steps.{impossible}
+use Rattle.tree.specs.Clash.{impossible}
 use Rattle.printing.specs.declared.power.Side.{Side}
 use Rattle.printing.specs.declared.power.Side.the-variants.{Left as onLeft, Right as onRight}
 use Rattle.roundtrip.specs.Levels.{Level, operand, prefixes, factor, term, juct, conjuncts, disjuncts, logical, implications, impExp, equiv, At}

@@ -1,32 +1,34 @@
 -- Prints of faithful operator trees are derived and read back: one argument for every format (one line, or broken lines from any start
 -- indent) and every indent step.
 use Prim.Native.Nat.{ℕ, suc, _≤_, _<_}
-use mathlib.Core.Path.{_≡_, sym, subst, _∙_}
-use mathlib.Core.Bool.{true}
-use mathlib.Core.List.{List, []}
+use mathlib.Core.Path.{_≡_, refl, sym, ap, subst, _∙_}
+use mathlib.Core.List.{List, [], _++_}
 use native.Mathlib.Omega.{arith}
-use lib.ListN.{length, take}
+use lib.ListN.{length, take, drop, length-take}
+use lib.Seq.{take-append-seam}
 use Rattle.tree.specs.Ast.{Expr}
-use Rattle.tree.specs.Words.{exprWords}
+use Rattle.tree.specs.Limits.{mostText, mostWords}
 use Rattle.tree.specs.Resolve.{mapExpr}
 use Rattle.tree.specs.Check.{NameIn}
+use Rattle.tree.specs.Claims.{expression-count}
 use Rattle.grammar.specs.Tokens.{cut}
 use Rattle.grammar.specs.Grammar.{Tree, Derives}
-use Rattle.grammar.specs.OperatorTrees.{Faithful, mostBytes, mostDepth, mostWords, smallNaturals, wordCount, DerivesWithin}
+use Rattle.grammar.specs.OperatorTrees.{Faithful, mostDepth, wordCount, DerivesWithin}
 use Rattle.grammar.specs.Claims.{derivations-agree}
 use Rattle.reading.specs.TreeRead.{Answered, Leaves}
 use Rattle.reading.specs.Claims.{read-expression-exact}
 use Rattle.reading.specs.declared.entry.Reading.{Reading}
-use Rattle.printing.specs.declared.Printed.{Printed}
 use Rattle.printing.specs.declared.Printed.the-variants.{Written}
 use Rattle.printing.specs.declared.format.ExprFormatOption.{ExprFormatOption}
 use Rattle.printing.specs.PrintUtil.{Init}
 use Rattle.printing.specs.Printer.{Expression}
-use Rattle.printing.specs.Entries.{nameIn, written, outcomeOf, printOf, printExpression}
+use Rattle.printing.specs.Entries.{nameIn, printOf, PrintAnswered, Holds}
+use Rattle.printing.specs.EntryLaws.{same-tree}
+use Rattle.printing.specs.Claims.{tree-printed, written-tree}
 use Rattle.roundtrip.specs.Nesting.{nesting}
 use Rattle.roundtrip.specs.Derived.{printed-derives}
-use Rattle.roundtrip.specs.Names.{print-named}
-use Rattle.roundtrip.specs.Entry.{written-print}
+use Rattle.roundtrip.specs.PrintedNames.{print-named}
+use Rattle.roundtrip.specs.SmallNaturals.{SmallTree, derived-small, Words32, words-small}
 
 module _ (step : ℕ) (format : ExprFormatOption) where
   -- the print of a tree whose names are bytes
@@ -47,33 +49,35 @@ module _ (step : ℕ) (format : ExprFormatOption) where
   print-within table t t′ x y = subst (DerivesWithin table (print t)) (print-determines t t′ mostDepth x (y .derives)) y
 
   -- What keeps them, said of the tree and the print.
-  pub print-keeps : (table : ℕ) (t : Tree) → Faithful t → length (print t) ≤ mostBytes → nesting t Init < mostDepth
-      → smallNaturals (cut (print t)) ≡ true → wordCount t ≤ table → wordCount t ≤ mostWords → DerivesWithin table (print t) t
-  print-keeps table t x s n k f w =
-      record { short = s; derives = print-derives t mostDepth x n; naturals = k; fits = f; few = w }
-
-  -- The same of print expression: what it writes is the print of the tree that the table holds, with its names as bytes.
-  pub print-written : (text words out out′ : List ℕ) (n : ℕ) (e : Expr (NameIn (length text))) → exprWords (λ n. n .span) e [] ≡ words
-      → printExpression step text words format out ≡ written n out′ → take n out′ ≡ print (mapExpr (nameIn text) e)
-  unfolding printOf print
-  print-written text words out out′ n e holds h =
-      written-print step text words format out out′ n e holds h ∙ print-named (nameIn text) step e Init format []
+  pub print-keeps : (table : ℕ) (t : Tree) → Faithful t → SmallTree t → length (print t) ≤ mostText → nesting t Init < mostDepth → wordCount t ≤ table
+      → wordCount t ≤ mostWords → DerivesWithin table (print t) t
+  print-keeps table t x s l n f w =
+      let d = print-derives t mostDepth x n in
+      record { short = l; derives = d; naturals = derived-small mostDepth (cut (print t)) t d s; fits = f; few = w }
 
 -- ---- what the code answers
-
--- What `print_expression` (one line) and `print_expression_lines` (broken lines from a start indent) ensure of their answer r and of the output
--- after it.
-abbrev pub PrintAnswered : List ℕ → List ℕ → ExprFormatOption → List ℕ → Printed → List ℕ → Type 0
-PrintAnswered text words format out r out′ = outcomeOf r out′ ≡ printExpression 2 text words format out
 
 -- the tree that a table holds over its text, its names as bytes
 abbrev pub treeIn : (text : List ℕ) → Expr (NameIn (length text)) → Tree
 treeIn text e = mapExpr (nameIn text) e
 
-module _ (text words out out′ : List ℕ) (format : ExprFormatOption) (n : ℕ) (e : Expr (NameIn (length text))) (holds : exprWords (λ n. n .span) e [] ≡ words)
+module _ (text words out out′ : List ℕ) (format : ExprFormatOption) (n : ℕ) (e : Expr (NameIn (length text))) (holds : Holds text words e)
     (x : Faithful (treeIn text e)) (a : PrintAnswered text words format out (Written n) out′) where
+  -- what was written is the print of the tree that the table holds, with its names as bytes
   is-print : print 2 format (treeIn text e) ≡ take n out′
-  is-print = sym (print-written 2 format text words out out′ n e holds (sym a))
+  unfolding printOf print
+  is-print =
+      let w = written-tree text words format out (Written n) out′ a n refl in
+      let t : Expr (NameIn (length text)) = w .1 .0 in
+      let p = printOf 2 text format t in
+      let q = tree-printed text words format out (Written n) out′ a t (w .1 .1 .0) (w .0) (w .1 .1 .1) in
+      let k : length p ≡ n = cc (q .0) in
+      let same : t ≡ e = same-tree text words t e (w .1 .1 .0) holds in
+      sym (print-named (nameIn text) 2 e Init format [])
+      ∙ ap (printOf 2 text format) (sym same)
+      ∙ sym (take-append-seam p (drop (length p) out))
+      ∙ ap (λ m. take m (p ++ drop (length p) out)) k
+      ∙ ap (take n) (sym (q .1))
 
   pub written-derives : (d : ℕ) → nesting (treeIn text e) Init < d → Derives d (take n out′) (treeIn text e)
   written-derives d h = subst (λ p. Derives d p (treeIn text e)) is-print (print-derives 2 format (treeIn text e) d x h)
@@ -84,3 +88,22 @@ module _ (text words out out′ : List ℕ) (format : ExprFormatOption) (n : ℕ
       let z : DerivesWithin m (print 2 format (treeIn text e)) t = rw is-print y in
       let w : DerivesWithin m (take n out′) (treeIn text e) = subst (λ p. DerivesWithin m p (treeIn text e)) is-print (print-within 2 format m (treeIn text e) t x z) in
       read-expression-exact (take n out′) m r table (treeIn text e) b .1 w .0
+
+  -- The same from plain limits: those on the print's length and nesting. The tree's words are the table's, so they fit where these fit, and the
+  -- table's naturals are small.
+  module _ (w : Words32 words) (short : n ≤ mostText) (flat : nesting (treeIn text e) Init < mostDepth) where
+    counted : wordCount (treeIn text e) ≡ length words
+    counted = expression-count (nameIn text) _ _ e ∙ ap length holds
+
+    keeps : (m : ℕ) → length words ≤ m → DerivesWithin m (take n out′) (treeIn text e)
+    keeps m h =
+        let t = treeIn text e in
+        let c : wordCount t ≡ length words = counted in
+        let few : length words ≤ mostWords = written-tree text words format out (Written n) out′ a n refl .0 .words-fit in
+        let k : length (print 2 format t) ≤ mostText = rw is-print (omega (arith, length-take n out′)) in
+        subst (λ p. DerivesWithin m p t) is-print
+        (print-keeps 2 format m t x (words-small (nameIn text) e [] (subst Words32 (sym holds) w)) k flat (omega arith) (omega arith))
+
+    pub written-read-plainly : (m : ℕ) → length words ≤ m → (r : Reading) (table : List ℕ) → Answered (take n out′) m r table
+        → Leaves (take n out′) m (treeIn text e) r table
+    written-read-plainly m h = written-read m (treeIn text e) (keeps m h)

@@ -75,25 +75,25 @@ operators =
 
 -- what is tested of every operator holds of each
 each : (f : Operator → Bool) → everyOf operators f ≡ true → (op : Operator) → f op ≡ true
-each f h op = go (every-of operators f h) op
+each f h op = by-operator (every-of operators f h) op
   where
-    go : Every operators f → (op : Operator) → f op ≡ true
-    go h IfThenElse = h .0
-    go h Equiv = h .1 .0
-    go h LogicalImp = h .1 .1 .0
-    go h LogicalAnd = h .1 .1 .1 .0
-    go h LogicalOr = h .1 .1 .1 .1 .0
-    go h Eq = h .1 .1 .1 .1 .1 .0
-    go h Neq = h .1 .1 .1 .1 .1 .1 .0
-    go h Less = h .1 .1 .1 .1 .1 .1 .1 .0
-    go h AtMost = h .1 .1 .1 .1 .1 .1 .1 .1 .0
-    go h Plus = h .1 .1 .1 .1 .1 .1 .1 .1 .1 .0
-    go h Minus = h .1 .1 .1 .1 .1 .1 .1 .1 .1 .1 .0
-    go h Times = h .1 .1 .1 .1 .1 .1 .1 .1 .1 .1 .1 .0
-    go h Div = h .1 .1 .1 .1 .1 .1 .1 .1 .1 .1 .1 .1 .0
-    go h Mod = h .1 .1 .1 .1 .1 .1 .1 .1 .1 .1 .1 .1 .1 .0
-    go h LogicalNot = h .1 .1 .1 .1 .1 .1 .1 .1 .1 .1 .1 .1 .1 .1 .0
-    go h UnaryMinus = h .1 .1 .1 .1 .1 .1 .1 .1 .1 .1 .1 .1 .1 .1 .1 .0
+    by-operator : Every operators f → (op : Operator) → f op ≡ true
+    by-operator h IfThenElse = h .0
+    by-operator h Equiv = h .1 .0
+    by-operator h LogicalImp = h .1 .1 .0
+    by-operator h LogicalAnd = h .1 .1 .1 .0
+    by-operator h LogicalOr = h .1 .1 .1 .1 .0
+    by-operator h Eq = h .1 .1 .1 .1 .1 .0
+    by-operator h Neq = h .1 .1 .1 .1 .1 .1 .0
+    by-operator h Less = h .1 .1 .1 .1 .1 .1 .1 .0
+    by-operator h AtMost = h .1 .1 .1 .1 .1 .1 .1 .1 .0
+    by-operator h Plus = h .1 .1 .1 .1 .1 .1 .1 .1 .1 .0
+    by-operator h Minus = h .1 .1 .1 .1 .1 .1 .1 .1 .1 .1 .0
+    by-operator h Times = h .1 .1 .1 .1 .1 .1 .1 .1 .1 .1 .1 .0
+    by-operator h Div = h .1 .1 .1 .1 .1 .1 .1 .1 .1 .1 .1 .1 .0
+    by-operator h Mod = h .1 .1 .1 .1 .1 .1 .1 .1 .1 .1 .1 .1 .1 .0
+    by-operator h LogicalNot = h .1 .1 .1 .1 .1 .1 .1 .1 .1 .1 .1 .1 .1 .1 .0
+    by-operator h UnaryMinus = h .1 .1 .1 .1 .1 .1 .1 .1 .1 .1 .1 .1 .1 .1 .1 .0
 
 table : (side : Side) (parent op : Operator) → sound parent side op ≡ true
 unfolding fitsIn within notOnTheRight isNoneOf
