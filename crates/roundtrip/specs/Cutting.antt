@@ -128,6 +128,7 @@ identifier-size w h =
     let e : identifierLength w ≡ length w = eqb-true (identifierLength w) (length w) b in
     (n, omega arith)
 
+-- a name and a natural begin with no byte that lengthens a sign
 pub name-starts : (w s : List ℕ) → isIdentifier w ≡ true → Ends lengthens (w ++ s)
 name-starts w s h = let (n, i) = identifier-size w h in starts w s n (start-char (getD w 0 0) (identifier-starts w i))
 
@@ -137,6 +138,7 @@ natural-starts n s =
     let i : 0 < run isDigit (w .text) = omega (arith, w .stands .some, w .stands .all) in
     rw (w .written s) (starts (w .text) s (w .stands .some) (digit-char (getD (w .text) 0 0) (run-all isDigit (w .text) 0 i)))
 
+-- a natural's print is cut as that natural
 pub cut-natural : (n : ℕ) (s : List ℕ) → Ends identifierChar s → cut (decimal n s) ≡ nat n ∷ cut s
 cut-natural n s h =
     let w = digits-written (suc n) n (omega arith) in

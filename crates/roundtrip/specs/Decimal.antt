@@ -69,6 +69,7 @@ digits-more : (k n : ℕ) (rest : List ℕ) → ltb n 10 ≡ false → digits (s
 unfolding digits
 digits-more k n rest e = rw (e, digits) refl
 
+-- `digits` writes such a run
 pub digits-written : (k n : ℕ) → n < k → Written k n
 digits-written zero n h = absurd (omega arith)
 digits-written (suc k) n h = by-digit (ltb n 10) refl (λ h. digits-written k (n / 10) h)

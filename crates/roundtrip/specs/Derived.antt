@@ -117,6 +117,7 @@ module _ (step : ℕ) where
   none-items = no-items
 
   mutual
+    -- every faithful tree, in every context
     pub printed : {t : Tree} → Faithful t → (context : BindingPower) → PrintedIn t context
     printed (Operators.boolean {b}) context = boolean-printed b context
     printed (Operators.natural {n}) context = natural-expression n context

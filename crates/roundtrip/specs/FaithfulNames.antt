@@ -28,6 +28,7 @@ module _ (w : List ℕ) where
   not-at (suc n) [] h = tt
   not-at (suc n) (v ∷ vs) h = not-at n vs (or-false (sameBytes (bytes v) w) (oneOf vs w) h .1)
 
+  -- it is an identifier
   pub faithful-identifier : isFaithfulName w ≡ true → isIdentifier w ≡ true
   unfolding isFaithfulName
   faithful-identifier h = both-true (isIdentifier w) (not (oneOf keywords w)) h .0

@@ -14,6 +14,7 @@ pub data Level : Type 0 where
   operand prefixes factor term juct conjuncts disjuncts logical implications impExp equiv : Level
   deriving Discrete as Level-discrete
 
+-- the rule of a level
 abbrev pub ruleOf : Level → Rule → Rule
 ruleOf operand E = Operand E
 ruleOf prefixes E = UnaryExpr E
@@ -88,6 +89,7 @@ module _ {E : Rule} {ts : List Token} {t : Tree} where
       by-equality (yes e) h next = subst (λ n. At n E ts t) e x
       by-equality (no n) h next = next h
 
+  -- what is derived at a level is derived at each level that it fits in
   pub fits-in : {l m : Level} → fitsIn l m ≡ true → At l E ts t → At m E ts t
   unfolding fitsIn
   fits-in {l} {m} h x = by-side (within 9 true l m) (within 9 false l m) h (λ h. within-fits 9 true h x) (λ h. within-fits 9 false h x)

@@ -23,6 +23,7 @@ ofArguments [] = 0
 ofArguments (a ∷ es) = max (suc (a Init)) (ofArguments es)
 
 unfoldable mutual
+  -- of a tree in a context
   pub nesting : Tree → BindingPower → ℕ
   nesting (BLiteral b) context = 0
   nesting (ILiteral n) context = 0
@@ -36,6 +37,7 @@ unfoldable mutual
   nesting (QuantifierExpr u bs ps t) context = 0
   nesting (ClosureExpr bs w y ps) context = 0
 
+  -- of trees, in the context that each is given
   pub nestings : Exprs (List ℕ) → List (BindingPower → ℕ)
   nestings noExprs = []
   nestings (_then_ t es) = (λ c. nesting t c) ∷ nestings es

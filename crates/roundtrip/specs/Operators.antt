@@ -12,6 +12,7 @@ use Rattle.printing.specs.declared.power.Side.{Side}
 use Rattle.printing.specs.declared.power.Side.the-variants.{Left as onLeft, Right as onRight}
 use Rattle.roundtrip.specs.Levels.{Level, operand, prefixes, factor, term, juct, conjuncts, disjuncts, logical, implications, impExp, equiv, At}
 
+-- an operator's token
 abbrev pub tokenOf : Operator → Token
 tokenOf IfThenElse = illegal
 tokenOf Equiv = sign '<==>'

@@ -37,6 +37,7 @@ whole-printed {l} p (suc d) h = fits-in (fits-whole l) (p .derives d (omega arit
 
 -- ---- operands
 
+-- a word that is an operand
 pub word-printed : (w : List ℕ) {t : Tree} → isIdentifier w ≡ true → ((E : Rule) → Operand E (name w ∷ []) t) → Printed (λ f r. w ++ r) 0 operand t
 word-printed w i x =
     record {
@@ -46,6 +47,7 @@ word-printed w i x =
       derives = λ d h. record { derived = x (Whole d) };
     }
 
+-- a natural
 pub natural-printed : (n : ℕ) → Printed (λ f r. decimal n r) 0 operand (ILiteral n)
 natural-printed n =
     record {
@@ -55,6 +57,7 @@ natural-printed n =
       derives = λ d h. record { derived = natural };
     }
 
+-- a name after `old`
 pub old-printed : (w : List ℕ) → isIdentifier w ≡ true → Printed (λ f r. "old " ▸ w ▹ r) 0 operand (IdExpr w true)
 unfolding isSpace isIdentifier identifierLength canStartIdentifierChar identifierChar run lengthens
 old-printed w i =
@@ -67,6 +70,7 @@ old-printed w i =
 
 -- ---- brackets
 
+-- an expression in brackets
 pub brackets-printed : {text : ExprFormatOption → List ℕ → List ℕ} {n : ℕ} {l : Level} {t : Tree} → Printed text n l t
     → Printed (λ f r. 40 ∷ text f (41 ∷ r)) (suc n) operand t
 unfolding identifierChar lengthens

@@ -32,6 +32,7 @@ pub record PrintedItems (items : List Operand) (n : ℕ) (es : Exprs (List ℕ))
   pub cuts : (r : List ℕ) → Ends identifierChar r → cut (ExpressionList [] items r) ≡ tokens ++ cut r
   pub derives : (d : ℕ) → n ≤ d → Items (Whole d) tokens es
 
+-- no further arguments
 pub no-rest : PrintedRest [] 0 noExprs
 unfolding ExpressionList
 no-rest =
@@ -42,6 +43,7 @@ no-rest =
       derives = λ d h ts t x. rw (append-nil ts) (last x);
     }
 
+-- an argument and those after it
 pub more-rest : (a : Operand) (items : List Operand) {n m : ℕ} {l : Level} {t : Tree} {es : Exprs (List ℕ)} → Printed (a .print Init) n l t
     → PrintedRest items m es → PrintedRest (a ∷ items) (max (suc n) m) (_then_ t es)
 unfolding ExpressionList isSpace identifierChar
@@ -60,10 +62,12 @@ more-rest a items p q =
       derives = λ d h ts t x. also x (q .derives d (omega arith) _ _ (whole-printed p d (omega arith)));
     }
 
+-- no arguments
 pub no-items : PrintedItems [] 0 noExprs
 unfolding ExpressionList
 no-items = record { tokens = []; cuts = λ r h. refl; derives = λ d h. empty }
 
+-- the first argument and the others
 pub more-items : (a : Operand) (items : List Operand) {n m : ℕ} {l : Level} {t : Tree} {es : Exprs (List ℕ)} → Printed (a .print Init) n l t
     → PrintedRest items m es → PrintedItems (a ∷ items) (max (suc n) m) (_then_ t es)
 unfolding ExpressionList
@@ -77,6 +81,7 @@ more-items a items p q =
       derives = λ d h. series (q .derives d (omega arith) _ _ (whole-printed p d (omega arith)));
     }
 
+-- a call
 pub call-printed : (w : List ℕ) (items : List Operand) {n : ℕ} {es : Exprs (List ℕ)} → isIdentifier w ≡ true → isName w ≡ true → PrintedItems items n es
     → Printed (λ f r. w ▹ "(" ▸ ExpressionList [] items (")" ▸ r)) n operand (FunctionCallExpr w es)
 unfolding identifierChar

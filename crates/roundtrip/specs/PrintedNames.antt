@@ -56,6 +56,7 @@ module _ {N : Type 0} (name : N → List ℕ) (step : ℕ) where
   mutual
     unfolding Expression operands patterns closureBindings triggers properties
 
+    -- the print of an expression
     pub print-named : (e : Expr N) (context : BindingPower) (format : ExprFormatOption) (rest : List ℕ)
         → Expression name step e context format rest ≡ Expression same step (mapExpr name e) context format rest
     print-named (BLiteral b) context format rest = refl
@@ -87,6 +88,7 @@ module _ {N : Type 0} (name : N → List ℕ) (step : ℕ) where
         "lift "
         ▸ closure-bindings-named bs [] (" into " ▸ name n ▹ ": " ▸ name t ▹ " by { " ▸ properties-named ps [] (" }" ▸ rest) i) i
 
+    -- the prints of its operands
     pub operands-named : (es : Exprs N) → operands name step es ≡ operands same step (mapExprs name es)
     operands-named noExprs = refl
     operands-named (_then_ e es) =

@@ -31,6 +31,7 @@ sign-begins : (s : List ℕ) (op : Operator) → ArgumentCount op ≡ 1 → Ends
 unfolding lengthens
 sign-begins s = unary-operators (λ op. Ends lengthens (ToString op ▸ s)) refl refl
 
+-- an operator with its operand
 pub unary-printed : (op : Operator) (a : Operand) (context : BindingPower) {n : ℕ} {l : Level} {t : Tree} → ArgumentCount op ≡ 1
     → Printed (a .print (SubexpressionPower (BindingStrength op) Right context)) n l t → fitsIn l (place op Right) ≡ true
     → Printed (unary op a context) n (levelOf op) (single op t)
@@ -58,6 +59,7 @@ right-follows : (o : Token) (breaks : Bool) (b : Operand) (context : BindingPowe
 right-follows o true b context f r = blank-follows o f (b .print context f r)
 right-follows o false b context f r = blank-follows o SingleLine (b .print context SingleLine r)
 
+-- an operator with both operands
 pub binary-printed : (op : Operator) (a b : Operand) (context : BindingPower) {n m : ℕ} {l k : Level} {t u : Tree} → ArgumentCount op ≡ 2
     → Printed (a .print (SubexpressionPower (BindingStrength op) Left context)) n l t → fitsIn l (place op Left) ≡ true
     → Printed (b .print (SubexpressionPower (BindingStrength op) Right context)) m k u → fitsIn k (place op Right) ≡ true

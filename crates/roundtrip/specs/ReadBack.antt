@@ -79,9 +79,11 @@ module _ (text words out out′ : List ℕ) (format : ExprFormatOption) (n : ℕ
       ∙ ap (λ m. take m (p ++ drop (length p) out)) k
       ∙ ap (take n) (sym (q .1))
 
+  -- what was written is derived
   pub written-derives : (d : ℕ) → nesting (treeIn text e) Init < d → Derives d (take n out′) (treeIn text e)
   written-derives d h = subst (λ p. Derives d p (treeIn text e)) is-print (print-derives 2 format (treeIn text e) d x h)
 
+  -- and is read back where it keeps the reading limits
   pub written-read : (m : ℕ) (t : Tree) → DerivesWithin m (take n out′) t → (r : Reading) (table : List ℕ) → Answered (take n out′) m r table
       → Leaves (take n out′) m (treeIn text e) r table
   written-read m t y r table b =

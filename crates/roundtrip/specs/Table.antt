@@ -17,25 +17,21 @@ use Rattle.grammar.specs.Laws.Looks.{both-true}
 use Rattle.printing.specs.declared.power.BindingPower.{BindingPower}
 use Rattle.printing.specs.declared.power.Side.{Side}
 use Rattle.printing.specs.declared.power.Side.the-variants.{Left, Right}
+use Rattle.printing.specs.Code.{pulls, operators}
 use Rattle.printing.specs.PrintUtil.{BreakTieInFavorOfOperator, wins, WinsOver, SubexpressionPower, BindingStrength}
 use Rattle.roundtrip.specs.Levels.{Level, operand, within, fitsIn, operand-fits}
 use Rattle.roundtrip.specs.Operators.{levelOf, place}
 
--- the test of `wins` at one end
-abbrev pull : Bool → ℕ → ℕ → Bool
-pull true context op = leb context op
-pull false context op = ltb context op
-
 -- `op` wins at the end that faces `parent`, whose operand at a side it is
 abbrev winsNear : Bool → BindingPower → Side → BindingPower → Bool
-winsNear tie parent Left op = pull tie (parent .left) (op .right)
-winsNear tie parent Right op = pull tie (parent .right) (op .left)
+winsNear tie parent Left op = pulls tie (op .right) (parent .left)
+winsNear tie parent Right op = pulls tie (op .left) (parent .right)
 
 abbrev tie : BindingPower → BindingPower → Bool
 tie op parent = BreakTieInFavorOfOperator (op .«tie_breaker») (parent .«tie_breaker»)
 
 wins-ends : (t : Bool) (op context : BindingPower) → wins t op context ≡ true
-    → (pull t (context .left) (op .left) ≡ true) × (pull t (context .right) (op .right) ≡ true)
+    → (pulls t (op .left) (context .left) ≡ true) × (pulls t (op .right) (context .right) ≡ true)
 wins-ends true op context h = both-true (leb (context .left) (op .left)) (leb (context .right) (op .right)) h
 wins-ends false op context h = both-true (ltb (context .left) (op .left)) (ltb (context .right) (op .right)) h
 
@@ -68,37 +64,36 @@ every-of : (ops : List Operator) (f : Operator → Bool) → everyOf ops f ≡ t
 every-of [] f h = tt
 every-of (op ∷ ops) f h = let (a, b) = both-true (f op) (everyOf ops f) h in (a, every-of ops f b)
 
-abbrev operators : List Operator
-operators =
-    IfThenElse ∷ Equiv ∷ LogicalImp ∷ LogicalAnd ∷ LogicalOr ∷ Eq ∷ Neq ∷ Less ∷ AtMost ∷ Plus ∷ Minus ∷ Times ∷ Div ∷ Mod ∷ LogicalNot
-    ∷ UnaryMinus ∷ []
+-- all operators; printing's list is by their words, without the last one
+abbrev all : List Operator
+all = UnaryMinus ∷ operators
 
 -- what is tested of every operator holds of each
-each : (f : Operator → Bool) → everyOf operators f ≡ true → (op : Operator) → f op ≡ true
-each f h op = by-operator (every-of operators f h) op
+each : (f : Operator → Bool) → everyOf all f ≡ true → (op : Operator) → f op ≡ true
+each f h op = by-operator (every-of all f h) op
   where
-    by-operator : Every operators f → (op : Operator) → f op ≡ true
-    by-operator h IfThenElse = h .0
-    by-operator h Equiv = h .1 .0
-    by-operator h LogicalImp = h .1 .1 .0
-    by-operator h LogicalAnd = h .1 .1 .1 .0
-    by-operator h LogicalOr = h .1 .1 .1 .1 .0
-    by-operator h Eq = h .1 .1 .1 .1 .1 .0
-    by-operator h Neq = h .1 .1 .1 .1 .1 .1 .0
-    by-operator h Less = h .1 .1 .1 .1 .1 .1 .1 .0
-    by-operator h AtMost = h .1 .1 .1 .1 .1 .1 .1 .1 .0
-    by-operator h Plus = h .1 .1 .1 .1 .1 .1 .1 .1 .1 .0
-    by-operator h Minus = h .1 .1 .1 .1 .1 .1 .1 .1 .1 .1 .0
-    by-operator h Times = h .1 .1 .1 .1 .1 .1 .1 .1 .1 .1 .1 .0
-    by-operator h Div = h .1 .1 .1 .1 .1 .1 .1 .1 .1 .1 .1 .1 .0
-    by-operator h Mod = h .1 .1 .1 .1 .1 .1 .1 .1 .1 .1 .1 .1 .1 .0
-    by-operator h LogicalNot = h .1 .1 .1 .1 .1 .1 .1 .1 .1 .1 .1 .1 .1 .1 .0
-    by-operator h UnaryMinus = h .1 .1 .1 .1 .1 .1 .1 .1 .1 .1 .1 .1 .1 .1 .1 .0
+    by-operator : Every all f → (op : Operator) → f op ≡ true
+    by-operator h IfThenElse = h .1 .0
+    by-operator h Equiv = h .1 .1 .1 .0
+    by-operator h LogicalImp = h .1 .1 .1 .1 .0
+    by-operator h LogicalAnd = h .1 .1 .1 .1 .1 .0
+    by-operator h LogicalOr = h .1 .1 .1 .1 .1 .1 .0
+    by-operator h Eq = h .1 .1 .1 .1 .1 .1 .1 .0
+    by-operator h Neq = h .1 .1 .1 .1 .1 .1 .1 .1 .0
+    by-operator h Less = h .1 .1 .1 .1 .1 .1 .1 .1 .1 .0
+    by-operator h AtMost = h .1 .1 .1 .1 .1 .1 .1 .1 .1 .1 .0
+    by-operator h Plus = h .1 .1 .1 .1 .1 .1 .1 .1 .1 .1 .1 .0
+    by-operator h Minus = h .1 .1 .1 .1 .1 .1 .1 .1 .1 .1 .1 .1 .0
+    by-operator h Times = h .1 .1 .1 .1 .1 .1 .1 .1 .1 .1 .1 .1 .1 .0
+    by-operator h Div = h .1 .1 .1 .1 .1 .1 .1 .1 .1 .1 .1 .1 .1 .1 .0
+    by-operator h Mod = h .1 .1 .1 .1 .1 .1 .1 .1 .1 .1 .1 .1 .1 .1 .1 .0
+    by-operator h LogicalNot = h .1 .1 .1 .1 .1 .1 .1 .1 .1 .1 .1 .1 .1 .1 .1 .1 .0
+    by-operator h UnaryMinus = h .0
 
 table : (side : Side) (parent op : Operator) → sound parent side op ≡ true
 unfolding fitsIn within notOnTheRight isNoneOf
-table Left parent = each (sound parent Left) (each (λ parent. everyOf operators (sound parent Left)) refl parent)
-table Right parent = each (sound parent Right) (each (λ parent. everyOf operators (sound parent Right)) refl parent)
+table Left parent = each (sound parent Left) (each (λ parent. everyOf all (sound parent Left)) refl parent)
+table Right parent = each (sound parent Right) (each (λ parent. everyOf all (sound parent Right)) refl parent)
 
 -- the level of an operand's print in a context: an operator's, or that of a bracketed expression
 abbrev pub levelIn : Tree → BindingPower → Level

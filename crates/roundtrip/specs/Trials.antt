@@ -21,6 +21,7 @@ use Rattle.printing.specs.Entries.{written, stored, printOf, printExpression}
 use Rattle.printing.specs.Entries as Printing
 use Rattle.printing.specs.EntryLaws as Entry
 
+-- a row of the list
 pub data Trial : Type 0 where
   reads : String → ℕ → Reading.Outcome → Trial
   prints : String → List ℕ → String → Printing.Outcome → Trial
@@ -31,6 +32,7 @@ Given [] = Unit {0}
 Given (reads s n o ∷ ts) = (readExpression (bytes s) n ≡ o) × Given ts
 Given (prints s ws out o ∷ ts) = (printExpression 2 (bytes s) ws SingleLine (bytes out) ≡ o) × Given ts
 
+-- the list
 abbrev pub trials : List Trial
 trials =
     reads "a ==> b ==> c" 22 (words 22 (5 ∷ 3 ∷ 1 ∷ 4 ∷ 0 ∷ 1 ∷ 0 ∷ 1 ∷ 5 ∷ 3 ∷ 1 ∷ 4 ∷ 6 ∷ 1 ∷ 0 ∷ 1 ∷ 4 ∷ 12 ∷ 1 ∷ 0 ∷ 0 ∷ 0 ∷ []))  -- P1
@@ -66,6 +68,7 @@ printed : (e : Expr (NameIn 3)) (ws : List ℕ) → exprWords (λ n. n .span) e 
     → printExpression 2 (bytes "abc") ws SingleLine (bytes "~~~~~~~~~~~~~~~~") ≡ stored (printOf 2 (bytes "abc") SingleLine e) (bytes "~~~~~~~~~~~~~~~~")
 printed e ws h l = Entry.prints (bytes "abc") ws e h 2 SingleLine (bytes "~~~~~~~~~~~~~~~~") (lit≤ tt) l (lit≤ tt)
 
+-- the theorem
 pub trials-given : Given trials
 unfolding read-computed print-computed printOf stored part
 trials-given = (
