@@ -91,15 +91,15 @@ module _ {w s : List ℕ} {i : ℕ} (o : Matched w s i) where
   unfolding startsWith
   matched-end h = sym (o .says ∙ rw (drop-of-length-le w h))
 
+and-false : (t u : Bool) → u ≡ false → (t && u) ≡ false
+and-false true u e = e
+and-false false u e = refl
+
 pub startsWith-long : (w s : List ℕ) → length s < length w → startsWith w s ≡ false
 unfolding startsWith
 startsWith-long [] s h = absurd (omega arith)
 startsWith-long (a ∷ w) [] h = refl
-startsWith-long (a ∷ w) (b ∷ s) h = by-test (eqb a b) (startsWith-long w s (omega arith))
-  where
-    by-test : (t : Bool) → startsWith w s ≡ false → (t && startsWith w s) ≡ false
-    by-test true e = e
-    by-test false e = refl
+startsWith-long (a ∷ w) (b ∷ s) h = and-false (eqb a b) (startsWith w s) (startsWith-long w s (omega arith))
 
 -- of the same length, one starts with the other where they are the same
 pub sameBytes-starts : (a b : List ℕ) → length a ≡ length b → startsWith b a ≡ sameBytes a b
@@ -114,11 +114,7 @@ unfolding sameBytes
 sameBytes-lengths [] [] h = absurd (h refl)
 sameBytes-lengths [] (y ∷ b) h = refl
 sameBytes-lengths (x ∷ a) [] h = refl
-sameBytes-lengths (x ∷ a) (y ∷ b) h = by-test (eqb y x) (sameBytes-lengths a b (λ e. h (ap suc e)))
-  where
-    by-test : (t : Bool) → sameBytes a b ≡ false → (t && sameBytes a b) ≡ false
-    by-test true e = e
-    by-test false e = refl
+sameBytes-lengths (x ∷ a) (y ∷ b) h = and-false (eqb y x) (sameBytes a b) (sameBytes-lengths a b (λ e. h (ap suc e)))
 
 decimal-next : (s : List ℕ) (i v : ℕ) → i < length s → decimal v (drop i s) ≡ decimal (v * 10 + (getD s i 0 - 48)) (drop (i + 1) s)
 unfolding decimal

@@ -66,11 +66,11 @@ pub fn identifier_length(text: &[u8]) -> usize
 pub fn parse_id(text: &[u8]) -> Lexed
     ensures { λ r. ⌜ answerOf r ≡ tokens.parseId (now (text .entry)) ⌝ }
 {
-    let n = identifier_length(text);
-    if n == 0 {
+    let size = identifier_length(text);
+    if size == 0 {
         return Lexed::None;
     }
-    lexeme(text, n as u64, n)
+    lexeme(text, size as u64, size)
 }
 
 pub fn parse_custom_literal(text: &[u8]) -> Lexed

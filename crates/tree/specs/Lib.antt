@@ -10,6 +10,7 @@ pub mod Check
 pub mod Refused
 pub mod Claims
 mod Examples
+mod WordExamples
 -- the code's numbers for kinds
 pub mod Rows
 -- a contradiction's consequence; the trees of each kind, the laws of a walk over a table, and the theorems' proofs

@@ -1,4 +1,4 @@
--- A table that is not too long is walked, with a stack of one entry more than its words.
+-- `check` meets its contract: a table that is not too long is walked, with a stack of one entry more than its words.
 use borrow.Author.Needs.{needs}
 use Prim.Native.Nat.{ℕ, _≤_}
 use mathlib.Core.Path.{_≡_, sym, _∙_}

@@ -1,4 +1,4 @@
--- The row EXPR is the kind `expr`, by computation.
+-- `check_expression` meets its contract: the row EXPR is the kind `expr`, by computation.
 use borrow.Author.Needs.{needs}
 use mathlib.Core.Path.{ap}
 use Rattle.tree.specs.Check.{checkExpression, expressionRefusal, refusal}

@@ -1,4 +1,4 @@
--- The row PROGRAM is the kinds of a program's fields, by computation.
+-- `check_program` meets its contract: the row PROGRAM is the kinds of a program's fields, by computation.
 use borrow.Author.Needs.{needs}
 use mathlib.Core.Path.{ap}
 use Rattle.tree.specs.Check.{checkProgram, programRefusal, refusal}

@@ -1,4 +1,4 @@
--- Past the end the word is the default of `getD`.
+-- `get` meets its contract: past the end the word is the default of `getD`.
 use borrow.Author.Needs.{needs}
 use mathlib.Core.Path.{sym}
 use lib.ListN.{List·getD-eq-default}

@@ -1,4 +1,4 @@
--- A start past the text, a name that passes its end, and one inside.
+-- `name` meets its contract: a start past the text, a name that passes its end, and one inside.
 use borrow.Author.Needs.{needs}
 use Prim.Native.Nat.{ℕ, _+_, _-_}
 use mathlib.Core.Path.{_≡_, sym, _∙_, ap}

@@ -1,4 +1,4 @@
--- Past the end both words are 0.
+-- `natural` meets its contract: past the end both words are 0.
 use borrow.Author.Needs.{needs}
 use Prim.Native.Nat.{_+_}
 use mathlib.Core.Path.{_≡_}

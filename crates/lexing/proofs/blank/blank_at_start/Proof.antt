@@ -1,4 +1,4 @@
--- `blank::blank_at_start` meets its contract: a law for each way out, by the tests that led there (Steps, `blank-space` to `blank-none`). What upstream
+-- `blank::blank_at_start` meets its contract: a law for each way out, by the tests that led there (Returns, `blank-space` to `blank-none`). What upstream
 -- requires of `PositionAfterEndOfLongComment` holds since the opening mark is there (`startsWith-inside`).
 use mathlib.Core.Path.{sym, _∙_}
 use mathlib.Core.List.{[], _∷_}

@@ -1,4 +1,4 @@
--- `blank::blanks` meets its contract. The loop's invariant is `Reached` (Steps), with a law for each way of a turn; the measure is what is left of the
+-- `blank::blanks` meets its contract. The loop's invariant is `Reached` (Returns), with a law for each way of a turn; the measure is what is left of the
 -- text, and a turn that goes on passes at least one byte.
 use Prim.Native.Nat.{_-_}
 use native.Mathlib.Omega.{arith}

@@ -1,4 +1,4 @@
--- `token::identifier_length` meets its contract: a law for each way out (Steps: `identifier-empty`, `identifier-run`, `identifier-none`).
+-- `token::identifier_length` meets its contract: a law for each way out (Returns: `identifier-empty`, `identifier-run`, `identifier-none`).
 use mathlib.Core.Path.{sym, _∙_}
 use native.Mathlib.Omega.{arith}
 use borrow.Author.Needs.{needs}

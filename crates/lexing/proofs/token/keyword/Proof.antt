@@ -1,4 +1,4 @@
--- `token::keyword` meets its contract, by those of `identifier_length`, `same_bytes` and `lexeme` (Steps: `keyword-found`, `keyword-missing`).
+-- `token::keyword` meets its contract, by those of `identifier_length`, `same_bytes` and `lexeme` (Returns: `keyword-found`, `keyword-missing`).
 use mathlib.Core.Path.{sym, _∙_}
 use native.Mathlib.Omega.{arith}
 use lib.Seq.{length-take-le}

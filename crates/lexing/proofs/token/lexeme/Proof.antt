@@ -1,4 +1,4 @@
--- `token::lexeme` meets its contract, by that of `blanks` on the rest of the text (Steps: `lexeme-past`, `lexeme-is`).
+-- `token::lexeme` meets its contract, by that of `blanks` on the rest of the text (Returns: `lexeme-past`, `lexeme-is`).
 use native.Mathlib.Omega.{arith}
 use borrow.Author.Needs.{needs}
 use Rattle.lexing.proofs.Returns.{lexeme-past, lexeme-inside, lexeme-is}

@@ -1,4 +1,4 @@
--- `token::natural` meets its contract, by those of `run_length`, `decimal` and `lexeme` (Steps: `natural-none`, `natural-value`, `natural-large`).
+-- `token::natural` meets its contract, by those of `run_length`, `decimal` and `lexeme` (Returns: `natural-none`, `natural-value`, `natural-large`).
 use mathlib.Core.Path.{sym, _∙_}
 use native.Mathlib.Omega.{arith}
 use lib.Seq.{length-take-le}

@@ -1,4 +1,4 @@
--- 0, past 1, and 1, where the number of the table is the row after a 1, by computation.
+-- `rows::content_turn` meets its contract: 0, past 1, and 1, where the number of the table is the row after a 1, by computation.
 use Prim.Native.Nat.{_-_}
 use mathlib.Core.Path.{_≡_, sym, _∙_}
 use mathlib.Core.List.{[], _∷_}

@@ -1,4 +1,4 @@
--- Words below the first, one of the `count`, and past them.
+-- `rows::leaf_turn` meets its contract: words below the first, one of the `count`, and past them.
 use mathlib.Core.Path.{sym}
 use mathlib.Core.List.{[]}
 use native.Mathlib.Omega.{arith}

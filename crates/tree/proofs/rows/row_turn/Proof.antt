@@ -1,4 +1,4 @@
--- Words below the first, past the last, and a row's own: the numbers of the table are the rows of `Kind` (`constructors`).
+-- `rows::row_turn` meets its contract: words below the first, past the last, and a row's own: the numbers of the table are the rows of `Kind` (`constructors`).
 use mathlib.Core.Path.{sym}
 use native.Mathlib.Omega.{arith}
 use lib.ListN.{take, drop, length-take}

@@ -1,4 +1,4 @@
--- Each arm's kind is that of its number.
+-- `rows::turn` meets its contract: each arm's kind is that of its number.
 use Prim.Native.Nat.{ℕ, _<_}
 use mathlib.Core.Path.{_≡_, sym, _∙_, ap}
 use mathlib.Core.Bool.{Bool}

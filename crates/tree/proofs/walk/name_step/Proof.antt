@@ -1,4 +1,4 @@
--- The length is missing, the name passes the text's end, or it fits.
+-- `walk::name_step` meets its contract: the length is missing, the name passes the text's end, or it fits.
 use borrow.Author.Needs.{needs}
 use Prim.Native.Nat.{_+_}
 use mathlib.Core.Path.{_≡_, refl}

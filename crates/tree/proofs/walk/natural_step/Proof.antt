@@ -1,4 +1,4 @@
--- The low word is missing, or both fit.
+-- `walk::natural_step` meets its contract: the low word is missing, or both fit.
 use borrow.Author.Needs.{needs}
 use mathlib.Core.Path.{refl}
 use native.Mathlib.Omega.{arith}

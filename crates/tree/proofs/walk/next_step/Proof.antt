@@ -1,4 +1,4 @@
--- No word is left, or a name, a natural, or one word stands there.
+-- `walk::next_step` meets its contract: no word is left, or a name, a natural, or one word stands there.
 use borrow.Author.Needs.{needs}
 use Prim.Native.Nat.{_+_}
 use mathlib.Core.Path.{sym, _∙_, ap}

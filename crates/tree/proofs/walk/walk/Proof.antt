@@ -1,4 +1,4 @@
--- The walk: `Walking` is the loop's invariant, and each turn's end and each answer a law of it.
+-- `walk::walk` meets its contract: `Walking` is the loop's invariant, and each turn's end and each answer a law of it.
 use Prim.Native.Nat.{_+_, _-_, _*_}
 use mathlib.Core.Path.{refl, _∙_}
 use native.Mathlib.Omega.{arith}
