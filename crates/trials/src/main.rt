@@ -1,26 +1,52 @@
-// Runs the readers of `lexing` on the cases of its standard input, one to a line, and prints each case with its answer. A case is a letter
-// for the reader, the reader's words and the text up to the line's end, with a space before each; `case_lines::decode` has the escapes. A
-// line that begins otherwise is printed alone.
+// The executed trials. Each line of standard input is a case, and is printed with its answer after it. Its first byte chooses what is tried; a
+// space and the arguments follow, with a space between them:
+//   b i l n TEXT                 `lexing`: blanks, an identifier, a custom literal's text, a natural
+//   k WORD TEXT                  a keyword
+//   s SIGN TEXT                  a sign
+//   u SIGN LONGER TEXT           a sign unless the longer one stands there
+//   c C LENGTH TABLE             `tree`: the check of an expression's and of a program's table, over a text of so many bytes
+//   w v PLACE TABLE              the word and the natural at a place
+//   x START LENGTH TEXT          the part of the text that a name occupies
+//   r WORDS TEXT                 `reading`: an expression's reading, into a table of so many words
+//   p BYTES TABLE/TEXT           `printing`: an expression's print on one line, into so many bytes
+//   m INDENT BYTES TABLE/TEXT    its print on several lines, from a start indent on
+// A TABLE is given by pieces, from `r` on a TEXT too (`pieces`); before, it is the rest of the line, in the cases of `lexing` with the escapes of
+// `lines`. A line that begins otherwise has no answer.
+//
+// A number at once after `r`, `p` or `m` says how often the entry is run, for measuring; the answer is then only how much the last run gave.
+mod entries;
+mod lines;
+mod numbers;
+mod pieces;
 mod show;
+mod tables;
+mod tokens;
 
-use case_lines::decode;
-use case_lines::print;
-use case_lines::tail;
-use case_lines::until;
-use lexing::blanks;
-use lexing::keyword;
-use lexing::natural;
-use lexing::parse_custom_literal;
-use lexing::parse_id;
-use lexing::sym;
-use lexing::sym_not_prefix;
-use show::print_lexed;
-use show::print_reach;
+use entries::Run;
+use entries::print_case;
+use entries::print_lines_case;
+use entries::read_case;
+use lines::tail;
+use lines::until;
+use numbers::number;
+use show::print;
+use tables::name_case;
+use tables::table_case;
+use tokens::token_case;
+ghost use mathlib.Core.Path.{_≡_};
+ghost use lib.ListN.{length};
 
 fn main() {
-    let mut input = io::large_buffer();
+    let mut input = input_buffer();
     let n = io::read_full(0, &mut input);
     cases(&input[..n]);
+}
+
+// More bytes than the cases have. Callers know its length alone, so no proof computes the array.
+fn input_buffer() -> [u8; 1048576]
+    ensures { λ r. ⌜ 1048576 ≡ length r ⌝ }
+{
+    [0; 1048576]
 }
 
 fn cases(input: &[u8]) {
@@ -35,42 +61,26 @@ fn cases(input: &[u8]) {
 // One line: printed as it stands, and its answer after it.
 fn case(line: &[u8]) {
     print(line);
-    let mut bytes = io::buffer();
-    let n = decode(line, &mut bytes);
-    answer(&bytes[..n]);
+    if 0 < line.len() {
+        answer(line[0], &line[1..]);
+    }
     print(b"\n");
 }
 
-fn answer(case: &[u8]) {
-    if case.len() == 0 {
-        return;
+fn answer(entry: u8, line: &[u8]) {
+    let times = number(line);
+    let rest = tail(line, times.digits);
+    let run = Run {
+        entry,
+        times: times.value,
+        indent: 0,
+    };
+    match entry {
+        b'r' => read_case(run, rest),
+        b'p' => print_case(run, rest),
+        b'm' => print_lines_case(run, rest),
+        b'x' => name_case(rest),
+        b'c' | b'C' | b'w' | b'v' => table_case(entry, rest),
+        _ => token_case(entry, rest),
     }
-    let text = tail(case, 1);
-    match case[0] {
-        b'b' => print_reach(blanks(text)),
-        b'i' => print_lexed(parse_id(text)),
-        b'l' => print_lexed(parse_custom_literal(text)),
-        b'n' => print_lexed(natural(text)),
-        b'k' => with_word(text),
-        b's' => with_sign(text),
-        b'p' => with_two_signs(text),
-        _ => return,
-    }
-}
-
-fn with_word(s: &[u8]) {
-    let n = until(s, b' ');
-    print_lexed(keyword(tail(s, n), &s[..n]));
-}
-
-fn with_sign(s: &[u8]) {
-    let n = until(s, b' ');
-    print_lexed(sym(tail(s, n), &s[..n]));
-}
-
-fn with_two_signs(s: &[u8]) {
-    let n = until(s, b' ');
-    let rest = tail(s, n);
-    let m = until(rest, b' ');
-    print_lexed(sym_not_prefix(tail(rest, m), &s[..n], &rest[..m]));
 }
