@@ -91,10 +91,12 @@ module _ {w s : List ℕ} {i : ℕ} (o : Matched w s i) where
   unfolding startsWith
   matched-end h = sym (o .says ∙ rw (drop-of-length-le w h))
 
+-- a conjunction is false where its second part is
 and-false : (t u : Bool) → u ≡ false → (t && u) ≡ false
 and-false true u e = e
 and-false false u e = refl
 
+-- a text does not start with a longer one
 pub startsWith-long : (w s : List ℕ) → length s < length w → startsWith w s ≡ false
 unfolding startsWith
 startsWith-long [] s h = absurd (omega arith)
@@ -109,6 +111,7 @@ sameBytes-starts [] (y ∷ b) h = absurd (omega arith)
 sameBytes-starts (x ∷ a) [] h = absurd (omega arith)
 sameBytes-starts (x ∷ a) (y ∷ b) h = ap (λ t. eqb y x && t) (sameBytes-starts a b (omega arith))
 
+-- texts of different lengths are not the same
 pub sameBytes-lengths : (a b : List ℕ) → (length a ≡ length b → ⊥) → sameBytes a b ≡ false
 unfolding sameBytes
 sameBytes-lengths [] [] h = absurd (h refl)
@@ -116,10 +119,12 @@ sameBytes-lengths [] (y ∷ b) h = refl
 sameBytes-lengths (x ∷ a) [] h = refl
 sameBytes-lengths (x ∷ a) (y ∷ b) h = and-false (eqb y x) (sameBytes a b) (sameBytes-lengths a b (λ e. h (ap suc e)))
 
+-- the number by its next digit
 decimal-next : (s : List ℕ) (i v : ℕ) → i < length s → decimal v (drop i s) ≡ decimal (v * 10 + (getD s i 0 - 48)) (drop (i + 1) s)
 unfolding decimal
 decimal-next s i v h = rw (rest s i h)
 
+-- no digit is left
 decimal-end : (s : List ℕ) (i v : ℕ) → length s ≤ i → decimal v (drop i s) ≡ v
 unfolding decimal
 decimal-end s i v h = rw (drop-of-length-le s h)
@@ -160,6 +165,7 @@ longComment-two : (d a b : ℕ) (t u : List ℕ) → u ≡ b ∷ t → longComme
 unfolding longComment
 longComment-two d a b t u e = rw e
 
+-- the end of a long comment by the two bytes at a place
 pub longComment-at : (d : ℕ) (s : List ℕ) (i : ℕ) → i + 1 < length s
     → longComment d (drop i s)
     ≡ atMark (mark (getD s i 0) (getD s (i + 1) 0)) d (λ k. longComment k (drop (i + 2) s)) (λ k. longComment k (drop (i + 1) s))
@@ -167,6 +173,7 @@ longComment-at d s i h =
     let two : i + 1 + 1 ≡ i + 2 = omega arith in
     ap (longComment d) (rest s i (omega arith)) ∙ longComment-two d _ _ _ _ (rest s (i + 1) h ∙ ap (λ k. getD s (i + 1) 0 ∷ drop k s) two)
 
+-- with fewer than two bytes left it is not closed
 pub longComment-end : (d : ℕ) (s : List ℕ) (i : ℕ) → length s ≤ i + 1 → longComment d (drop i s) ≡ none
 unfolding longComment
 longComment-end d s i h = by-rest (drop i s) (length-drop i s)
@@ -226,9 +233,11 @@ open-never {s} {d} {i} o h = sym (o .says ∙ ap (plus i) (longComment-end d s i
 -- the two ways out of `position_after_end_of_long_comment`
 module _ (input : List ℕ) (start end : ℕ) (r : End) (h : start ≤ end) (k : end ≤ length input)
     (e : endOf r ≡ longComment 0 (take (end - start) (drop start input))) where
+  -- the part between start and end is as long as they say
   part-length : length (take (end - start) (drop start input)) ≡ end - start
   part-length = simp (length-take, length-drop) (omega arith)
 
+  -- the place after a comment that is closed
   pub position-at : {n : ℕ} → r ≡ At n → Position (take (end - start) (drop start input)) start end (start + n)
   unfolding positionAfterEndOfLongComment
   position-at {n} p =
@@ -239,6 +248,7 @@ module _ (input : List ℕ) (start end : ℕ) (r : End) (h : start ≤ end) (k :
         value = ap (λ o. start + orElse (length (take (end - start) (drop start input))) o) q;
       }
 
+  -- the place after one that is not: the end
   pub position-end : r ≡ Never → Position (take (end - start) (drop start input)) start end end
   unfolding positionAfterEndOfLongComment
   position-end p =

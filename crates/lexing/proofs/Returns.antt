@@ -26,6 +26,7 @@ use Rattle.lexing.specs.declared.token.Number.the-variants.{Value, TooLa
 pub suffix : (s : List ℕ) (at : ℕ) → take (length s - at) (drop at s) ≡ drop at s
 suffix s at = take-all (length s - at) (drop at s) (le-of-eq (length-drop at s))
 
+-- no blank stands at the end of the text
 pub blank-empty : (s : List ℕ) → length s ≡ 0 → passed 0 ≡ blank s
 unfolding blank
 blank-empty [] h = refl
@@ -99,6 +100,7 @@ unfolding identifierLength
 identifier-empty [] h = refl
 identifier-empty (a ∷ s) h = absurd (omega arith)
 
+-- an identifier of a text that is not empty, by the test of its first byte
 identifier-by : (s : List ℕ) → 0 < length s → identifierLength s ≡ pick (canStartIdentifierChar (getD s 0 0)) (1 + run identifierChar (drop 1 s)) 0
 unfolding identifierLength
 identifier-by [] h = absurd (omega arith)
@@ -121,6 +123,7 @@ module _ (w s : List ℕ) (n : ℕ) (e : n ≡ identifierLength s) where
   unfolding keyword
   keyword-missing p = rw (← e, p)
 
+-- no blanks stand at the end of the text
 nothing : W [] ≡ passed 0
 unfolding W blanksFrom
 nothing = refl
@@ -150,6 +153,7 @@ number-value n v e = by-test (leb n mostNatural) refl e
     by-test true p e = (p, cc)
     by-test false p e = absurd (false≢true cc)
 
+-- and where it answers that the number is too large
 number-large : (n : ℕ) → TooLarge ≡ numberOf n → leb n mostNatural ≡ false
 number-large n e = by-test (leb n mostNatural) refl e
   where

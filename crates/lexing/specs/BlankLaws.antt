@@ -21,10 +21,12 @@ abbrev pub reach : Blanks → ℕ
 reach (passed n) = n
 reach (unclosed n) = n
 
+-- k bytes further back the reach is k longer
 pub reach-further : (k : ℕ) (r : Blanks) → reach (further k r) ≡ k + reach r
 reach-further k (passed n) = refl
 reach-further k (unclosed n) = refl
 
+-- where a count with k more is n, the count is some m with k + m = n
 pub plus-some : (k : ℕ) (r : Option ℕ) {n : ℕ} → plus k r ≡ some n → (m : ℕ) × (r ≡ some m) × (k + m ≡ n)
 plus-some k none {n} e = absurd (false≢true cc)
 plus-some k (some m) {n} e = (m, refl, cc)
@@ -53,6 +55,7 @@ position-inside s = by-end (longComment 0 s) refl
     by-end none e = le-refl _
     by-end (some n) e = longComment-inside 0 s e
 
+-- the blank at the start lies inside the text
 pub blank-inside : (s : List ℕ) → reach (blank s) ≤ length s
 unfolding blank startsWith
 blank-inside [] = le-refl _
@@ -75,20 +78,24 @@ onward-inside n (passed zero) on h f = zero-le
 onward-inside n (passed (suc k)) on h f = omega (arith, f k, reach-further 1 (on k))
 onward-inside n (unclosed m) on h f = h
 
+-- blanks with k bytes still to pass lie inside the text
 blanksFrom-inside : (k : ℕ) (s : List ℕ) → reach (blanksFrom k s) ≤ length s
 unfolding blanksFrom
 blanksFrom-inside k [] = le-refl _
 blanksFrom-inside zero (a ∷ s) = onward-inside (length s) (blank (a ∷ s)) (λ k. blanksFrom k s) (blank-inside (a ∷ s)) (λ k. blanksFrom-inside k s)
 blanksFrom-inside (suc k) (a ∷ s) = omega (arith, blanksFrom-inside k s, reach-further 1 (blanksFrom k s))
 
+-- blanks lie inside the text
 pub W-inside : (s : List ℕ) → reach (W s) ≤ length s
 unfolding W
 W-inside s = blanksFrom-inside 0 s
 
+-- no byte further back is the same
 pub further-zero : (r : Blanks) → further 0 r ≡ r
 further-zero (passed n) = ap passed (omega arith)
 further-zero (unclosed n) = ap unclosed (omega arith)
 
+-- k bytes and j more are j + k
 pub further-further : (j k : ℕ) (r : Blanks) → further j (further k r) ≡ further (j + k) r
 further-further j k (passed n) = ap passed (omega arith)
 further-further j k (unclosed n) = ap unclosed (omega arith)
@@ -110,16 +117,19 @@ W-blank (a ∷ s) k e =
     ap (λ r. onward r (λ j. blanksFrom j s)) e ∙ ap (further 1) (blanksFrom-passes k s (omega arith)) ∙ further-further 1 k (W (drop k s))
     ∙ ap (λ j. further j (W (drop k s))) (one-add k)
 
+-- where no blank stands, there are no blanks
 pub W-none : (s : List ℕ) → blank s ≡ passed 0 → W s ≡ passed 0
 unfolding W blanksFrom
 W-none [] e = refl
 W-none (a ∷ s) e = ap (λ r. onward r (λ j. blanksFrom j s)) e
 
+-- where the blank at the start is not closed, neither are the blanks
 pub W-unclosed : (s : List ℕ) (n : ℕ) → blank s ≡ unclosed n → W s ≡ unclosed n
 unfolding W blanksFrom blank
 W-unclosed [] n e = e
 W-unclosed (a ∷ s) n e = ap (λ r. onward r (λ j. blanksFrom j s)) e
 
+-- blanks that are passed from k bytes further back are passed from here
 further-passed : (k : ℕ) (r : Blanks) {n : ℕ} → further k r ≡ passed n → (m : ℕ) × (r ≡ passed m) × (k + m ≡ n)
 further-passed k (passed m) {n} e = (m, refl, cc)
 further-passed k (unclosed m) {n} e = absurd (false≢true cc)
@@ -128,10 +138,12 @@ further-passed k (unclosed m) {n} e = absurd (false≢true cc)
 Stops : List ℕ → ℕ → Type 0
 Stops s k = (n : ℕ) → blanksFrom k s ≡ passed n → blank (drop n s) ≡ passed 0
 
+-- the same with one byte more in front
 stops-later : (a : ℕ) (s : List ℕ) (k n : ℕ) → Stops s k → further 1 (blanksFrom k s) ≡ passed n → blank (drop n (a ∷ s)) ≡ passed 0
 unfolding Stops
 stops-later a s k n f e = let (m, p, q) = further-passed 1 (blanksFrom k s) e in rw (← q, one-add) (f m p)
 
+-- that holds of every text
 stops : (s : List ℕ) (k : ℕ) → Stops s k
 unfolding Stops blanksFrom blank
 stops [] k n e = let h : 0 ≡ n = cc in rw (← h) refl
@@ -185,6 +197,7 @@ W-closed s = blanksFrom-closed 0 s
 
 -- ---- upstream's equations of `PositionAfterEndOfLongComment`
 
+-- at most two bytes: the end, whatever they are
 pub position-short : (s : List ℕ) → length s ≤ 2 → positionAfterEndOfLongComment s ≡ length s
 unfolding positionAfterEndOfLongComment longComment
 position-short [] h = refl
@@ -202,10 +215,12 @@ abbrev afterwards : Option ℕ → (ℕ → Option ℕ) → Option ℕ
 afterwards none on = none
 afterwards (some n) on = plus n (on n)
 
+-- k bytes more and j more are j + k more
 pub plus-plus : (j k : ℕ) (r : Option ℕ) → plus j (plus k r) ≡ plus (j + k) r
 plus-plus j k none = refl
 plus-plus j k (some n) = ap some (omega arith)
 
+-- one after another with k bytes in front of the first
 afterwards-plus : (k : ℕ) (r : Option ℕ) (f g : ℕ → Option ℕ) → ((n : ℕ) → f (k + n) ≡ g n) → afterwards (plus k r) f ≡ plus k (afterwards r g)
 afterwards-plus k none f g h = refl
 afterwards-plus k (some n) f g h = ap (plus (k + n)) (h n) ∙ sym (plus-plus k n (g n))
@@ -244,6 +259,7 @@ pub position-closing : (a b : ℕ) (s : List ℕ) → mark a b ≡ closing → p
 unfolding positionAfterEndOfLongComment longComment
 position-closing a b s e = ap (λ t. orElse (suc (suc (length s))) (atMark t 0 (λ k. longComment k s) (λ k. longComment k (b ∷ s)))) e
 
+-- an opening mark: the inner comment's end, and the outer's after it
 pub position-opening : (a b : ℕ) (s : List ℕ) → mark a b ≡ opening → positionAfterEndOfLongComment (a ∷ (b ∷ s))
     ≡ 2 + (positionAfterEndOfLongComment s + positionAfterEndOfLongComment (drop (positionAfterEndOfLongComment s) s))
 unfolding positionAfterEndOfLongComment longComment
@@ -262,6 +278,7 @@ position-opening a b s e =
     inner none p = rw drop-length (omega arith)
     inner (some n) p = outer n (longComment 0 (drop n s)) (longComment-inside 0 s p)
 
+-- no mark: one byte on
 pub position-neither : (a b : ℕ) (s : List ℕ) → mark a b ≡ neither → positionAfterEndOfLongComment (a ∷ (b ∷ s)) ≡ 1 + positionAfterEndOfLongComment (b ∷ s)
 unfolding positionAfterEndOfLongComment longComment
 position-neither a b s e =

@@ -15,6 +15,7 @@ pub data Blanks : Type 0 where
   passed : ℕ → Blanks
   unclosed : ℕ → Blanks
 
+-- the same reach from k bytes further back
 abbrev pub further : ℕ → Blanks → Blanks
 further k (passed n) = passed (k + n)
 further k (unclosed n) = unclosed (k + n)
@@ -23,9 +24,11 @@ further k (unclosed n) = unclosed (k + n)
 pub data Mark : Type 0 where
   closing opening neither : Mark
 
+-- the mark that two bytes are
 unfoldable pub mark : ℕ → ℕ → Mark
 mark a b = pick (eqb a 42 && eqb b 47) closing (pick (eqb a 47 && eqb b 42) opening neither)
 
+-- a count of bytes, if there is one, with k more
 abbrev pub plus : ℕ → Option ℕ → Option ℕ
 plus k none = none
 plus k (some n) = some (k + n)
@@ -43,6 +46,7 @@ longComment d [] = none
 longComment d (a ∷ []) = none
 longComment d (a ∷ (b ∷ s)) = atMark (mark a b) d (λ e. longComment e s) (λ e. longComment e (b ∷ s))
 
+-- a count of bytes, or n where there is none
 abbrev pub orElse : ℕ → Option ℕ → ℕ
 orElse n none = n
 orElse n (some k) = k

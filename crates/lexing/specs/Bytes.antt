@@ -4,6 +4,7 @@ use mathlib.Core.List.{List, [], _∷_}
 use Prim.Native.Nat.{ℕ, suc}
 use lib.Dec.{leb, eqb}
 
+-- from the least byte to the most
 abbrev pub between : ℕ → ℕ → ℕ → Bool
 between least most b = leb least b && leb b most
 
@@ -16,6 +17,7 @@ oneOf (a ∷ w) b = eqb b a || oneOf w b
 unfoldable pub isSpace : ℕ → Bool
 isSpace b = oneOf (32 ∷ 9 ∷ 13 ∷ 10 ∷ []) b
 
+-- `0` to `9`
 unfoldable pub isDigit : ℕ → Bool
 isDigit b = between 48 57 b
 

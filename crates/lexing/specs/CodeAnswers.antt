@@ -22,21 +22,25 @@ use Rattle.lexing.specs.declared.token.Lexed.the-variants.{Ok, None, Ref
 use Rattle.lexing.specs.declared.token.Number.{Number}
 use Rattle.lexing.specs.declared.token.Number.the-variants.{Value, TooLarge}
 
+-- the test of a class of bytes
 abbrev pub classOf : Class → ℕ → Bool
 classOf Digit = isDigit
 classOf IdentifierChar = identifierChar
 classOf CustomLiteralChar = customLiteralChar
 classOf NotNewline = notNewline
 
+-- how far blanks reach
 abbrev pub reachOf : Reach → Blanks
 reachOf (Passed n) = passed n
 reachOf (Unclosed n) = unclosed n
 
+-- the mark that two bytes are
 abbrev pub markOf : Pair → Mark
 markOf Closing = closing
 markOf Opening = opening
 markOf Neither = neither
 
+-- how many bytes a long comment takes after its opening mark, if it is closed
 abbrev pub endOf : End → Option ℕ
 endOf (At n) = some n
 endOf Never = none

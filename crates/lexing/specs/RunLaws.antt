@@ -10,12 +10,14 @@ use Rattle.lexing.specs.Bytes.{run}
 
 -- ---- tests
 
+-- what holds of each of two under its test holds of the one chosen
 pub pick-case : {X : Type 0} (P : X → Type 0) (t : Bool) {a b : X} → (t ≡ true → P a) → (t ≡ false → P b) → P (pick t a b)
 pick-case P true f g = f refl
 pick-case P false f g = g refl
 
 -- ---- runs
 
+-- what holds of a run, by the test of its first byte
 pub run-case : (P : ℕ → Type 0) (p : ℕ → Bool) (b : ℕ) (s : List ℕ) → (p b ≡ true → P (suc (run p s))) → (p b ≡ false → P 0) → P (run p (b ∷ s))
 unfolding run
 run-case P p b s f g = by-test (p b) refl
@@ -24,6 +26,7 @@ run-case P p b s f g = by-test (p b) refl
     by-test true e = f e
     by-test false e = g e
 
+-- a run lies inside the text
 pub run-inside : (p : ℕ → Bool) (s : List ℕ) → run p s ≤ length s
 unfolding run
 run-inside p [] = zero-le

@@ -22,6 +22,7 @@ Within k n (ok v next) = (k ≤ next) × (next ≤ n)
 Within k n none = Unit {0}
 Within k n (refused number place) = place ≤ n
 
+-- a token of n bytes with the blanks after it lies inside the text
 pub lexeme-within : (v k n : ℕ) (s : List ℕ) → k ≤ n → n ≤ length s → Within k (length s) (lexeme v n s)
 unfolding lexeme
 lexeme-within v k n s h l = by-blanks (W (drop n s)) (W-inside (drop n s))
@@ -48,6 +49,7 @@ Stopped s (ok v next) = blank (drop next s) ≡ passed 0
 Stopped s none = Unit {0}
 Stopped s (refused number place) = Unit {0}
 
+-- no blank stands after the blanks after a token
 pub lexeme-stops : (v n : ℕ) (s : List ℕ) → Stopped s (lexeme v n s)
 unfolding lexeme
 lexeme-stops v n s = by-blanks (W (drop n s)) refl
@@ -56,23 +58,28 @@ lexeme-stops v n s = by-blanks (W (drop n s)) refl
     by-blanks (passed k) e = rw (← drop-drop k n s) (W-stops (drop n s) e)
     by-blanks (unclosed k) e = tt
 
+-- so no blank stands after a token
 pub token-stops : {k : ℕ} {s : List ℕ} {r : Answer ℕ} → Token k s r → Stopped s r
 token-stops absent = tt
 token-stops too-large = tt
 token-stops {k} {s} (present v n h l) = lexeme-stops v n s
 
+-- a token of no bytes is none
 pub unlessEmpty-none : (n : ℕ) (r : Answer ℕ) → n ≡ 0 → none ≡ unlessEmpty n r
 unlessEmpty-none zero r h = refl
 unlessEmpty-none (suc n) r h = absurd (omega arith)
 
+-- one of some bytes is read
 pub unlessEmpty-some : (n : ℕ) (r : Answer ℕ) → (n ≡ 0 → ⊥) → r ≡ unlessEmpty n r
 unlessEmpty-some zero r h = absurd (h refl)
 unlessEmpty-some (suc n) r h = refl
 
+-- either way the answer is that of a token
 unlessEmpty-token : (n k : ℕ) (s : List ℕ) (r : Answer ℕ) → (0 < n → Token k s r) → Token k s (unlessEmpty n r)
 unlessEmpty-token zero k s r f = absent
 unlessEmpty-token (suc n) k s r f = f (omega arith)
 
+-- an identifier lies inside the text
 pub identifier-inside : (s : List ℕ) → identifierLength s ≤ length s
 unfolding identifierLength
 identifier-inside [] = le-refl _
@@ -84,6 +91,7 @@ unfolding identifierLength
 identifier-starts [] h = absurd (omega arith)
 identifier-starts (a ∷ s) h = pick-case (λ n. 0 < n → canStartIdentifierChar a ≡ true) (canStartIdentifierChar a) (λ e _. e) (λ _ h. absurd (omega arith)) h
 
+-- the byte after an identifier cannot continue it
 pub identifier-maximal : (s : List ℕ) → 0 < identifierLength s → identifierChar (getD s (identifierLength s) 0) ≡ false
 unfolding identifierLength identifierChar
 identifier-maximal [] h = absurd (omega arith)
@@ -91,13 +99,16 @@ identifier-maximal (a ∷ s) h =
     pick-case (λ n. 0 < n → identifierChar (getD (a ∷ s) n 0) ≡ false) (canStartIdentifierChar a) (λ _ _. run-ends identifierChar refl s)
     (λ _ h. absurd (omega arith)) h
 
+-- a name is a token of at least one byte
 pub parseId-token : (s : List ℕ) → Token 1 s (parseId s)
 unfolding parseId
 parseId-token s = unlessEmpty-token (identifierLength s) 1 s _ (λ h. present _ _ h (identifier-inside s))
 
+-- so it lies inside the text
 pub parseId-within : (s : List ℕ) → Within 1 (length s) (parseId s)
 parseId-within s = token-within (parseId-token s)
 
+-- a custom literal's text has at least one byte and lies inside the text
 pub parseCustomLiteral-within : (s : List ℕ) → Within 1 (length s) (parseCustomLiteral s)
 unfolding parseCustomLiteral
 parseCustomLiteral-within s = by-count (run customLiteralChar s) (run-inside customLiteralChar s)
@@ -111,19 +122,23 @@ pub natural-maximal : (s : List ℕ) → isDigit (getD s (run isDigit s) 0) ≡ 
 unfolding isDigit
 natural-maximal s = run-ends isDigit refl s
 
+-- a natural is a token of at least one byte
 pub natural-token : (s : List ℕ) → Token 1 s (natural s)
 unfolding natural
 natural-token s =
     unlessEmpty-token (run isDigit s) 1 s _
     (λ h. pick-case (Token 1 s) (leb (decimal 0 (take (run isDigit s) s)) mostNatural) (λ _. present _ _ h (run-inside isDigit s)) (λ _. too-large))
 
+-- so it lies inside the text
 pub natural-within : (s : List ℕ) → Within 1 (length s) (natural s)
 natural-within s = token-within (natural-token s)
 
+-- a conjunction is true where both are
 and-true : (a b : Bool) → (a && b) ≡ true → (a ≡ true) × (b ≡ true)
 and-true true b e = (refl, e)
 and-true false b e = absurd (false≢true cc)
 
+-- texts that are the same bytes are equal
 pub sameBytes-true : (a b : List ℕ) → sameBytes a b ≡ true → a ≡ b
 unfolding sameBytes
 sameBytes-true [] [] e = refl
@@ -134,6 +149,7 @@ sameBytes-true (x ∷ a) (y ∷ b) e =
     let h : y ≡ x = eqb-true y x p in
     let t : a ≡ b = sameBytes-true a b q in cc
 
+-- and equal texts are the same bytes
 pub sameBytes-refl : (a : List ℕ) → sameBytes a a ≡ true
 unfolding sameBytes
 sameBytes-refl [] = refl
@@ -149,23 +165,28 @@ startsWith-true (a ∷ w) (b ∷ s) e =
     let h : a ≡ b = eqb-true a b p in
     let t : s ≡ w ++ drop (length w) s = startsWith-true w s q in cc
 
+-- what stands at the start is no longer than the text
 pub startsWith-inside : (w s : List ℕ) → startsWith w s ≡ true → length w ≤ length s
 unfolding startsWith
 startsWith-inside [] s e = zero-le
 startsWith-inside (a ∷ w) [] e = absurd (false≢true cc)
 startsWith-inside (a ∷ w) (b ∷ s) e = suc-le-suc (startsWith-inside w s (and-true (eqb a b) (startsWith w s) e .1))
 
+-- a sign is a token of its own bytes
 pub sign-token : (w s : List ℕ) → Token (length w) s (sign w s)
 unfolding sign
 sign-token w s = pick-case (Token (length w) s) (startsWith w s) (λ e. present _ _ (le-refl _) (startsWith-inside w s e)) (λ _. absent)
 
+-- so it lies inside the text
 pub sign-within : (w s : List ℕ) → Within (length w) (length s) (sign w s)
 sign-within w s = token-within (sign-token w s)
 
+-- the same of a sign that is no prefix of a longer one
 pub signNotPrefix-token : (w longer s : List ℕ) → Token (length w) s (signNotPrefix w longer s)
 unfolding signNotPrefix
 signNotPrefix-token w longer s = pick-case (Token (length w) s) (startsWith longer s) (λ _. absent) (λ _. sign-token w s)
 
+-- so it lies inside the text
 pub signNotPrefix-within : (w longer s : List ℕ) → Within (length w) (length s) (signNotPrefix w longer s)
 signNotPrefix-within w longer s = token-within (signNotPrefix-token w longer s)
 
@@ -175,12 +196,14 @@ keyword-is w s e =
     let h : take (identifierLength s) s ≡ w = sameBytes-true _ w e in
     (h, omega (arith, length-take (identifierLength s) s, ap length h, identifier-inside s))
 
+-- a keyword is a token of its own bytes
 pub keyword-token : (w s : List ℕ) → Token (length w) s (keyword w s)
 unfolding keyword
 keyword-token w s =
     pick-case (Token (length w) s) (sameBytes (take (identifierLength s) s) w)
     (λ e. present _ _ (omega (arith, keyword-is w s e .1)) (identifier-inside s)) (λ _. absent)
 
+-- so it lies inside the text
 pub keyword-within : (w s : List ℕ) → Within (length w) (length s) (keyword w s)
 keyword-within w s = token-within (keyword-token w s)
 
@@ -214,6 +237,7 @@ keyword-parseId w s {v} {n} h e = by-test (sameBytes (take (identifierLength s) 
         (rw l (sym (unlessEmpty-some (length w) _ (λ z. omega arith)) ∙ lexeme-value 0 (length w) (length w) s (rw l at e) .1), rw l at p)
     by-test false q e = absurd (false≢true cc)
 
+-- and the identifier with these bytes is the keyword
 pub parseId-keyword : (w s : List ℕ) {n : ℕ} → parseId s ≡ ok (length w) n → take (length w) s ≡ w → keyword w s ≡ ok 0 n
 unfolding keyword
 parseId-keyword w s {n} e p =

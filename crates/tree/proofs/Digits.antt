@@ -9,11 +9,13 @@ use borrow.Author.Tests.{le-leb, lt-leb}
 use Rattle.tree.specs.Kind.{Kind, fits, misfit, rowAt, tagged}
 use Rattle.tree.specs.Rows.{digits, kindsOf}
 
+-- a row of the table by its number
 row-in : (rows : List ℕ) (i : ℕ) → i < length rows → rowAt (map kindsOf rows) i ≡ fits (kindsOf (getD rows i 0))
 row-in [] i h = absurd (not-suc-le-zero h)
 row-in (r ∷ rs) zero h = refl
 row-in (r ∷ rs) (suc i) h = row-in rs i (le-of-suc-le-suc h)
 
+-- past the last there is none
 row-out : (rows : List (List Kind)) (i : ℕ) → length rows ≤ i → rowAt rows i ≡ misfit 0
 row-out [] i h = refl
 row-out (r ∷ rs) zero h = absurd (not-suc-le-zero h)
@@ -26,6 +28,7 @@ row-take (suc n) [] i h = refl
 row-take (suc n) (r ∷ rs) zero h = refl
 row-take (suc n) (r ∷ rs) (suc i) h = row-take n rs i (le-of-suc-le-suc h)
 
+-- rows from a base on
 row-drop : (base : ℕ) (rows : List (List Kind)) (i : ℕ) → rowAt (drop base rows) i ≡ rowAt rows (base + i)
 row-drop zero rows i = ap (rowAt rows) (sym (zero-add i))
 row-drop (suc b) [] i = refl
@@ -45,6 +48,7 @@ tagged-in first count base numbers rows w e h k l =
     sym (simp (le-leb first w h)
     (row-take count (drop base rows) (w - first) k ∙ row-drop base rows (w - first) ∙ rw (← e) (row-in numbers (base + (w - first)) l)))
 
+-- a row of no fields, where all are such
 row-leaf : (count i : ℕ) → i < count → fits (kindsOf 0) ≡ rowAt (replicate count []) i
 unfolding kindsOf digits
 row-leaf zero i h = absurd (not-suc-le-zero h)

@@ -29,6 +29,7 @@ pub record NameIn (len : ℕ) : Type 0 where
   pub span : Span
   pub inside : span .start + span .len ≤ len
 
+-- the table of these kinds
 abbrev pub check : List Kind → List ℕ → ℕ → Checked
 check ks words len = cond (leb (length words) mostWords) (run (within len) ks 0 words) TooLong
 
@@ -44,6 +45,7 @@ pub record Refusal : Type 0 where
   pub number : ℕ
   pub place : ℕ
 
+-- the refusal of an answer, none where it is one tree's words
 abbrev pub refusal : Checked → Option Refusal
 refusal Tree = none
 refusal (Misfit at) = some (record { number = 7; place = at })

@@ -24,17 +24,20 @@ use Rattle.tree.specs.Forms.{makes, rowForm, secondForm, form}
 module _ (I : Names) where
   -- ---- `form` has the fields of `turn`
 
+  -- both misfit, or both have these fields
   abbrev pub Agrees : {R : Type 0} → Turn → Option (Form I R) → Type 0
   Agrees (fits fs) none = ⊥
   Agrees (fits fs) (some f) = fs ≡ f .fields
   Agrees (misfit n) none = Unit {0}
   Agrees (misfit n) (some f) = ⊥
 
+  -- the form of a row's number has the row as its fields
   rows-agree : (R : Type 0) (rs : List (List Kind)) (m : Makes I rs R) (n : ℕ) → Agrees (rowAt rs n) (formAt I rs m n)
   rows-agree R [] m n = tt
   rows-agree R (r ∷ rs) m zero = refl
   rows-agree R (r ∷ rs) m (suc n) = rows-agree R rs (m .1) n
 
+  -- so the form of a word agrees with its turn, of a kind with rows
   row-agrees : (k : Kind) (w : ℕ) → Agrees (byRow k w) (rowForm I k w)
   row-agrees k w = by-test (leb (firstWord k) w)
     where
@@ -45,6 +48,7 @@ module _ (I : Names) where
       by-test true = rows-agree (Tree I k) (rows k) (makes I k) n
       by-test false = tt
 
+  -- and of a second word, by its test
   second-agrees : (test : ℕ → Bool) (l back : ℕ) (b : Bool) (e : test l ≡ b) → Agrees (second b back) (secondForm I test l b e)
   second-agrees test l back true e = refl
   second-agrees test l back false e = tt
@@ -65,14 +69,17 @@ module _ (I : Names) where
 
   -- ---- what a form makes has that word first, and then the fields' words
 
+  -- the words of what a form makes
   abbrev pub Spells : (k : Kind) → ℕ → Option (Form I (Tree I k)) → Type 0
   Spells k w none = Unit {0}
   Spells k w (some f) = (ts : Trees I (f .fields)) (rest : List ℕ) → words I k (apply I (f .fields) (f .make) ts) rest ≡ w ∷ allWords I (f .fields) ts rest
 
+  -- the words of what each row makes, the words counted from the first
   abbrev RowsSpell : (k : Kind) → ℕ → (rs : List (List Kind)) → Makes I rs (Tree I k) → Type 0
   RowsSpell k first [] m = Unit {0}
   RowsSpell k first (r ∷ rs) m = Spells k first (some (record { fields = r; make = m .0 })) × RowsSpell k (suc first) rs (m .1)
 
+  -- the row with a number has its word
   rows-spell : (k : Kind) (first : ℕ) (rs : List (List Kind)) (m : Makes I rs (Tree I k)) → RowsSpell k first rs m
       → (n w : ℕ) → first + n ≡ w → Spells k w (formAt I rs m n)
   rows-spell k first [] m h n w e = tt
@@ -121,6 +128,7 @@ module _ (I : Names) where
   constructors-spell (seq ofPParameter) = (λ ts rest. refl) ▸ (λ ts rest. refl) ▸ tt
   constructors-spell (seq ofProcedure) = (λ ts rest. refl) ▸ (λ ts rest. refl) ▸ tt
 
+  -- what the form of a word makes has that word first, of a kind with rows
   row-spells : (k : Kind) (w : ℕ) → Spells k w (rowForm I k w)
   row-spells k w = by-test (leb (firstWord k) w) refl
     where
@@ -133,16 +141,19 @@ module _ (I : Names) where
           rows-spell k (firstWord k) (rows k) (makes I k) (constructors-spell k) n w (omega arith)
       by-test false e = tt
 
+  -- the two words of a natural made of two words
   natural-spells : (h l : ℕ) → l < 2 ^ 32 → (rest : List ℕ) → (h * 2 ^ 32 + l) / 2 ^ 32 ∷ (h * 2 ^ 32 + l) % 2 ^ 32 ∷ rest ≡ h ∷ l ∷ rest
   natural-spells h l b rest =
       let high : (h * 2 ^ 32 + l) / 2 ^ 32 ≡ h = omega arith in
       let down : (h * 2 ^ 32 + l) % 2 ^ 32 ≡ l = omega arith in
       cc
 
+  -- the same of a natural's second word
   low-spells : (w : ℕ) (b : Bool) (e : below w ≡ b) → Spells low w (secondForm I below w b e)
   low-spells w true e = λ ts rest. refl
   low-spells w false e = tt
 
+  -- and of a name's
   length-spells : (s w : ℕ) (b : Bool) (e : I .inside s w ≡ b) → Spells (lengthFrom s) w (secondForm I (I .inside s) w b e)
   length-spells s w true e = λ ts rest. refl
   length-spells s w false e = tt
@@ -163,10 +174,12 @@ module _ (I : Names) where
 
   -- ---- every tree is made by a form
 
+  -- the tree is what the form makes of some fields
   abbrev pub MadeBy : {R : Type 0} → Option (Form I R) → R → Type 0
   MadeBy none t = ⊥
   MadeBy (some f) t = (ts : Trees I (f .fields)) × (apply I (f .fields) (f .make) ts ≡ t)
 
+  -- of the form of some word
   abbrev pub Made : (k : Kind) → Tree I k → Type 0
   Made k t = (w : ℕ) × MadeBy (form I k w) t
 

@@ -44,6 +44,7 @@ fields ofAxiom = seq ofName ∷ expr ∷ []
 fields ofPParameter = name ∷ mode ∷ name ∷ option anExpr ∷ []
 fields ofProcedure = name ∷ seq ofPParameter ∷ seq ofAExpr ∷ seq ofAExpr ∷ option aStmt ∷ []
 
+-- the fields of an option's content
 abbrev pub contents : Content → List Kind
 contents aName = name ∷ []
 contents anExpr = expr ∷ []
@@ -144,6 +145,7 @@ rowAt (r ∷ rs) (suc n) = rowAt rs n
 abbrev pub tagged : ℕ → List (List Kind) → ℕ → Turn
 tagged first rs w = cond (leb first w) (rowAt rs (w - first)) (misfit 0)
 
+-- the row of a word of that kind
 abbrev pub byRow : Kind → ℕ → Turn
 byRow k w = tagged (firstWord k) (rows k) w
 

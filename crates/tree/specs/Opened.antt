@@ -15,6 +15,7 @@ module _ (I : Names) where
   Opened none t rest ws = ⊥
   Opened (some f) t rest ws = (ts : Trees I (f .fields)) × (apply I (f .fields) (f .make) ts ≡ t) × (allWords I (f .fields) ts rest ≡ ws)
 
+  -- the first word is that of the form which made the tree
   open-form : (k : Kind) (t : Tree I k) (rest : List ℕ) (v w : ℕ) (ws : List ℕ) (o : Option (Form I (Tree I k)))
       → Spells I k v o → MadeBy I o t → words I k t rest ≡ w ∷ ws → (v ≡ w) × Opened o t rest ws
   open-form k t rest v w ws none s m e = absurd m
@@ -23,6 +24,7 @@ module _ (I : Names) where
       let b : v ∷ allWords I (f .fields) (m .0) rest ≡ w ∷ ws = sym a ∙ ap (λ (u : Tree I k). words I k u rest) (m .1) ∙ e in
       (cc, (m .0, m .1, cc))
 
+  -- the first word has a form, and the tree is made of it
   pub opened : (k : Kind) (t : Tree I k) (rest : List ℕ) (w : ℕ) (ws : List ℕ) → words I k t rest ≡ w ∷ ws → Opened (form I k w) t rest ws
   opened k t rest w ws e = by-maker (made I k t)
     where
@@ -44,6 +46,7 @@ module _ (I : Names) where
 
   -- ---- trees of two lists of kinds as trees of one
 
+  -- the trees of two lists of kinds as those of one, and each part of them
   abbrev pub join : (fs ks : List Kind) → Trees I fs → Trees I ks → Trees I (fs ++ ks)
   join [] ks ts us = us
   join (f ∷ fs) ks ts us = (ts .0, join fs ks (ts .1) us)
@@ -56,16 +59,19 @@ module _ (I : Names) where
   back [] ks ts = ts
   back (f ∷ fs) ks ts = back fs ks (ts .1)
 
+  -- the words of both are those of one after the other
   pub join-words : (fs ks : List Kind) (ts : Trees I fs) (us : Trees I ks) (rest : List ℕ)
       → allWords I (fs ++ ks) (join fs ks ts us) rest ≡ allWords I fs ts (allWords I ks us rest)
   join-words [] ks ts us rest = refl
   join-words (f ∷ fs) ks ts us rest = ap (words I f (ts .0)) (join-words fs ks (ts .1) us rest)
 
+  -- and of the parts likewise
   pub split-words : (fs ks : List Kind) (ts : Trees I (fs ++ ks)) (rest : List ℕ)
       → allWords I (fs ++ ks) ts rest ≡ allWords I fs (front fs ks ts) (allWords I ks (back fs ks ts) rest)
   split-words [] ks ts rest = refl
   split-words (f ∷ fs) ks ts rest = ap (words I f (ts .0)) (split-words fs ks (ts .1) rest)
 
+  -- equal trees have equal parts
   pub join-same : (fs ks : List Kind) (ts ts′ : Trees I fs) (us us′ : Trees I ks) → join fs ks ts us ≡ join fs ks ts′ us′ → (ts ≡ ts′) × (us ≡ us′)
   join-same [] ks ts ts′ us us′ e = (refl, e)
   join-same (f ∷ fs) ks ts ts′ us us′ e =

@@ -19,6 +19,7 @@ use Rattle.tree.specs.Tables as tables
 use Rattle.tree.specs.declared.Checked.{Checked}
 use Rattle.tree.specs.declared.Checked.the-variants.{Tree, Misfit, TooLong}
 
+-- the parts of a refusal, 0 where there is none
 numberOf : Option Refusal → ℕ
 numberOf none = 0
 numberOf (some r) = r .number
@@ -27,11 +28,13 @@ placeOf : Option Refusal → ℕ
 placeOf none = 0
 placeOf (some r) = r .place
 
+-- one tree's words, and no other answer, have no refusal
 pub no-refusal : (c : Checked) → (refusal c ≡ none) ↔ (c ≡ Tree)
 no-refusal Tree = (λ e. refl, λ e. refl)
 no-refusal (Misfit at) = (λ e. cc, λ e. cc)
 no-refusal TooLong = (λ e. cc, λ e. cc)
 
+-- a misfit, and no other answer, has refusal 7, at its place
 pub refusal-7 : (c : Checked) (place : ℕ) → (refusal c ≡ some (record { number = 7; place = place })) ↔ (c ≡ Misfit place)
 unfolding numberOf placeOf
 refusal-7 Tree place = (λ e. cc, λ e. cc)
@@ -60,6 +63,7 @@ run-counts-none inside (k ∷ ks) at (w ∷ ws) e = by-turn (turn inside k w) e 
     by-turn (fits fs) e f = f fs e
     by-turn (misfit back) e f = impossible cc
 
+-- more words than the limit, and no other table, have refusal 6
 pub refusal-6 : (ks : List Kind) (words : List ℕ) (len : ℕ) → (refusal (check ks words len) ≡ some (record { number = 6; place = 0 })) ↔ (mostWords < length words)
 unfolding numberOf
 refusal-6 ks words len = (λ e. leb-false _ _ (few (leb (length words) mostWords) refl e), λ h. ap (λ b. refusal (cond b (run (within len) ks 0 words) TooLong)) (lt-leb _ _ h))

@@ -27,6 +27,7 @@ contentKinds =
 abbrev pub kinds : List Kind
 kinds = (bool ∷ bool ∷ operator ∷ mode ∷ expr ∷ stmt ∷ aexpr ∷ []) ++ (contentKinds ++ (name ∷ natural ∷ []))
 
+-- the kind with that number
 unfoldable pub kindOf : ℕ → Kind
 kindOf n = getD kinds n bool
 
@@ -35,6 +36,7 @@ unfoldable pub digits : ℕ → ℕ → List Kind
 digits zero row = []
 digits (suc n) row = cond (eqb row 0) [] (kindOf (row % 29) ∷ digits n (row / 29))
 
+-- the kinds of a row that the code holds
 unfoldable pub kindsOf : ℕ → List Kind
 kindsOf row = digits 7 row
 
@@ -42,6 +44,7 @@ kindsOf row = digits 7 row
 abbrev pub constructorRows : List (List Kind)
 constructorRows = exprRows ++ (stmtRows ++ aexprRows)
 
+-- what the code's answer says of a word
 abbrev pub asTurn : Fit → Turn
 asTurn (Row row) = fits (kindsOf row)
 asTurn NoFit = misfit 0

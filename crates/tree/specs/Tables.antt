@@ -19,6 +19,7 @@ use Rattle.tree.specs.Accepted.{sound, complete, unique}
 use Rattle.tree.specs.declared.Checked.{Checked}
 use Rattle.tree.specs.declared.Checked.the-variants.{Tree, Misfit, TooLong}
 
+-- one tree of each kind in turn, and no more words than the limit
 accepted : (ks : List Kind) (words : List ℕ) (len : ℕ)
     → (check ks words len ≡ Tree) ↔ ((length words ≤ mostWords) × ((ts : Trees (namesIn len) ks) × (allWords (namesIn len) ks ts [] ≡ words)))
 accepted ks words len = (to (leb (length words) mostWords) refl, λ h. from (leb (length words) mostWords) (le-leb _ _ (h .0)) (h .1))
@@ -82,6 +83,7 @@ run-place inside (k ∷ ks) at (w ∷ ws) p e = by-turn (turn inside k w) e (λ 
     by-turn (fits fs) h ih = let q = ih fs h in omega arith
     by-turn (misfit b) h ih = let q : at - b ≡ p = cc in omega arith
 
+-- a table's misfit has a place of at most the word count, and the words are within the limit
 place : (ks : List Kind) (words : List ℕ) (len p : ℕ) → check ks words len ≡ Misfit p → (p ≤ length words) × (length words ≤ mostWords)
 place ks words len p = by-test (leb (length words) mostWords) refl
   where

@@ -20,6 +20,7 @@ use Rattle.tree.specs.Opened.{Opened, opened, some-word, join, join-word
 
 -- ---- the word at a place
 
+-- a word at a place: the place lies in the table, and the rest starts one further on
 pub head-at : (table : List ℕ) (at w : ℕ) (ws : List ℕ) → drop at table ≡ w ∷ ws
     → (at < length table) × (getD table at 0 ≡ w) × (drop (at + 1) table ≡ ws)
 head-at [] zero w ws e = impossible cc
@@ -30,6 +31,7 @@ head-at (v ∷ table) (suc at) w ws e =
     let n : suc at + 1 ≡ suc (at + 1) = omega arith in
     (omega arith, h .1, rw n (h .2))
 
+-- two words at a place
 pub pair-at : (table : List ℕ) (at v w : ℕ) (ws : List ℕ) → drop at table ≡ v ∷ w ∷ ws
     → (getD table at 0 ≡ v) × (getD table (at + 1) 0 ≡ w) × (drop (at + 2) table ≡ ws)
 pair-at table at v w ws e =
@@ -41,6 +43,7 @@ pair-at table at v w ws e =
 module _ (I : Names) where
   -- ---- a tree at a place
 
+  -- the word at its place has a form of which the tree is made
   pub tree-at : (table : List ℕ) (at : ℕ) (k : Kind) (t : Tree I k) (rest : List ℕ) → drop at table ≡ words I k t rest
       → (at < length table) × Opened I (form I k (getD table at 0)) t rest (drop (at + 1) table)
   tree-at table at k t rest e = by-words (words I k t rest) refl
@@ -57,11 +60,13 @@ module _ (I : Names) where
   tree-at-word table at k t rest w e f =
       subst (λ (v : ℕ). Opened I (form I k v) t rest (drop (at + 1) table)) f (tree-at table at k t rest e .1)
 
+  -- a row that makes a tree has a number below the count of rows
   rows-range : (R : Type 0) (rs : List (List Kind)) (m : Makes I rs R) (n : ℕ) (t : R) (rest ws : List ℕ) → Opened I (formAt I rs m n) t rest ws → n < length rs
   rows-range R [] m n t rest ws o = absurd o
   rows-range R (r ∷ rs) m zero t rest ws o = omega arith
   rows-range R (r ∷ rs) m (suc n) t rest ws o = let h = rows-range R rs (m .1) n t rest ws o in omega arith
 
+  -- so its word is one of its kind's
   row-range : (k : Kind) (w : ℕ) (t : Tree I k) (rest ws : List ℕ) → Opened I (rowForm I k w) t rest ws → (firstWord k ≤ w) × (w < firstWord k + length (rows k))
   row-range k w t rest ws = by-test (leb (firstWord k) w) refl
     where
@@ -91,6 +96,7 @@ module _ (I : Names) where
   Range (option c) w = w < 2
   Range (seq i) w = w < 2
 
+  -- a word with a form is one that its kind's trees begin with
   range : (k : Kind) (w : ℕ) (t : Tree I k) (rest ws : List ℕ) → Opened I (form I k w) t rest ws → Range k w
   range bool w t rest ws o = row-range bool w t rest ws o .1
   range operator w t rest ws o = row-range operator w t rest ws o
@@ -105,6 +111,7 @@ module _ (I : Names) where
   range (option c) w t rest ws o = row-range (option c) w t rest ws o .1
   range (seq i) w t rest ws o = row-range (seq i) w t rest ws o .1
 
+  -- the word at a tree's place is one that its kind begins with
   pub word-range : (table : List ℕ) (at : ℕ) (k : Kind) (t : Tree I k) (rest : List ℕ) → drop at table ≡ words I k t rest → Range k (getD table at 0)
   word-range table at k t rest e = range k (getD table at 0) t rest (drop (at + 1) table) (tree-at table at k t rest e .1)
 
@@ -117,6 +124,7 @@ module _ (I : Names) where
 
   -- ---- words and what follows them
 
+  -- the words of trees before a rest are their words and then the rest
   follow : (ks : List Kind) (ws : List ℕ) (ts : Trees I ks) (rest : List ℕ) → allWords I ks ts [] ≡ ws → allWords I ks ts rest ≡ ws ++ rest
   follow [] [] ts rest e = refl
   follow [] (w ∷ ws) ts rest e = impossible cc
@@ -135,5 +143,6 @@ module _ (I : Names) where
           (sym (join-words I (f .fields) ks (o .0) (ts .1) rest)
           ∙ ih (f .fields) (join I (f .fields) ks (o .0) (ts .1)) (join-words I (f .fields) ks (o .0) (ts .1) [] ∙ o .2))
 
+  -- the same of one tree
   pub words-append : (k : Kind) (t : Tree I k) (rest : List ℕ) → words I k t rest ≡ words I k t [] ++ rest
   words-append k t rest = follow (k ∷ []) (words I k t []) (t, tt) rest refl

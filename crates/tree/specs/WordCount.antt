@@ -16,6 +16,7 @@ use Rattle.tree.specs.MapWords.{expr-map}
 abbrev AsMany : (List ℕ → List ℕ) → (List ℕ → List ℕ) → Type 0
 AsMany p q = (r s : List ℕ) → length r ≡ length s → length (p r) ≡ length (q s)
 
+-- one word, and two, before as many
 one : {m n : ℕ} → m ≡ n → suc m ≡ suc n
 one e = ap suc e
 
@@ -23,6 +24,7 @@ two : {m n : ℕ} → m ≡ n → suc (suc m) ≡ suc (suc n)
 two e = ap (λ n. suc (suc n)) e
 
 module _ {N : Type 0} (f g : N → Span) where
+  -- an option of a name, and bindings
   option-count : (t : Option N) → AsMany (optionWords (nameWords f) t) (optionWords (nameWords g) t)
   option-count none r s h = one h
   option-count (some n) r s h = one (two h)
@@ -60,6 +62,7 @@ module _ {N : Type 0} (f g : N → Span) where
     closureProperties-count noClosureProperties r s h = one h
     closureProperties-count (closureProperty ts e ps) r s h = one (patterns-count ts _ _ (expr-count e _ _ (closureProperties-count ps r s h)))
 
+-- so mapping the names keeps the count
 pub map-count : {N M : Type 0} (f : N → M) (g : M → Span) (h : N → Span) (t : Expr N) → length (exprWords g (mapExpr f t) []) ≡ length (exprWords h t [])
 map-count f g h t =
     ap (λ (w : List ℕ → List ℕ). length (w [])) (sym (expr-map g f t)) ∙ expr-count (λ n. g (f n)) h t [] [] refl

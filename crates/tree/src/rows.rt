@@ -14,7 +14,7 @@ const OPERATOR: u32 = 2;
 
 const MODE: u32 = 3;
 
-pub const EXPR: u32 = 4;
+pub(crate) const EXPR: u32 = 4;
 
 const STMT: u32 = 5;
 
@@ -60,11 +60,11 @@ const PPARAMETERS: u32 = 25;
 
 const PROCEDURES: u32 = 26;
 
-pub const NAME: u32 = 27;
+pub(crate) const NAME: u32 = 27;
 
-pub const NATURAL: u32 = 28;
+pub(crate) const NATURAL: u32 = 28;
 
-pub const BASE: u32 = 29;
+pub(crate) const BASE: u32 = 29;
 
 const B1: u32 = 29;
 
@@ -77,7 +77,11 @@ const B4: u32 = 29 * B3;
 const B5: u32 = 29 * B4;
 
 // The row of a program's five sequences.
-pub const PROGRAM: u32 = NAMES + TAGGERS * B1 + FUNCTIONS * B2 + AXIOMS * B3 + PROCEDURES * B4;
+pub(crate) const PROGRAM: u32 = NAMES
+    + TAGGERS * B1
+    + FUNCTIONS * B2
+    + AXIOMS * B3
+    + PROCEDURES * B4;
 
 // The rows of the constructors: of Expr from 0 on, of Stmt from 10, of AExpr from 28.
 const ROWS: [u32; 30] = [
