@@ -14,7 +14,8 @@ use Rattle.tree.specs.Kind.{Kind, bool, operator, mode, natural, low, na
 use Rattle.tree.specs.Kind.{Item, ofName, ofExpr, ofBinding, ofPattern, ofClosureBinding, ofClosureProperty, ofStmt, ofCallArgument, ofCase, ofAExpr, ofTagger, ofFParameter, ofFunction, ofAxiom, ofPParameter, ofProcedure}
 use Rattle.tree.specs.Kind.{Content, aName, anExpr, aStmt, aDefinition}
 use Rattle.tree.specs.Check.{NameIn, within}
-use Rattle.tree.specs.Words.{boolWord, operatorWord, modeWord, naturalWords, nameWords, optionWords, seqWords, bindingWords, exprWords, exprsWords, patternsWords, closureBindingsWords, closurePropertiesWords, callArgumentWords, stmtWords, stmtsWords, casesWords, aExprWords, aExprsWords, taggerWords, fParameterWords, functionDefinitionWords, functionWords, axiomWords, pParameterWords, procedureWords}
+use Rattle.tree.specs.Words.{boolWord, operatorWord, modeWord, naturalWords, nameWords, optionWords, seqWords, bindingWords, exprWords, exprsWords, patternsWords, closureBindingsWords, closurePropertiesWords}
+use Rattle.tree.specs.Words.{callArgumentWords, stmtWords, stmtsWords, casesWords, aExprWords, aExprsWords, taggerWords, fParameterWords, functionDefinitionWords, functionWords, axiomWords, pParameterWords, procedureWords}
 
 -- Names that stand for the spans which pass a test
 pub record Names : Type 1 where
