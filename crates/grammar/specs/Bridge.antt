@@ -8,9 +8,9 @@ pub mod Trees
 pub mod Tails
 pub mod NoOperand
 pub mod Series
-pub mod Names
+pub mod AfterName
 pub mod WordOperand
 pub mod Operand
-pub mod Whole
-pub mod Entry
+pub mod ExprLevels
+pub mod WholeText
 pub mod Limits

@@ -1,24 +1,26 @@
 -- What is proved of the operator grammar (document 01, "The operator grammar"), from the definitions in Words, Tokens, Grammar and Parser, and of
 -- the reading rules, from those in Steps, Rules and Reading.
 use Prim.Native.Nat.{ℕ, _≤_, _<_}
-use lib.ListN.{length}
+use lib.ListN.{length, take}
 use mathlib.Core.Path.{_≡_}
 use mathlib.Core.Logic.{_↔_}
 use mathlib.Core.Bool.{true}
 use mathlib.Core.List.{List, []}
 use mathlib.Core.Option.{none, some}
 use Rattle.lexing.specs.Answer.{ok}
-use Rattle.tree.specs.Ast.{Span, Expr}
-use Rattle.tree.specs.Resolve.{bytes, resolveExpr}
+use Rattle.tree.specs.Ast.{Span, Expr, Program}
+use Rattle.tree.specs.Resolve.{bytes, mapExpr, mapProgram, resolveExpr}
 use Rattle.tree.specs.Words.{exprWords}
 use Rattle.tree.specs.Claims.{expression-count}
+use Rattle.tree.specs.Check.{NameIn, expressionRefusal, programRefusal}
 use Rattle.grammar.specs.Tokens.{Token, cut}
 use Rattle.grammar.specs.Grammar.{Tree, Whole, Derives}
 use Rattle.grammar.specs.OperatorTrees.{OperatorTree, smallNaturals, wordCount, DerivesWithin}
 use Rattle.grammar.specs.Parser.{parse, whole, parseExpr}
-use Rattle.grammar.specs.Reading.{words, readTree, readExpression}
+use Rattle.grammar.specs.Reading.{words, readTree, readExpression, readTreeOfProgram, readProgram}
 use Rattle.grammar.specs.TreeRead.{GivesTree}
 use Rattle.grammar.specs.Bridge.Limits.{read-derives, gives-derives, derives-gives, derives-operators, gives-same}
+use Rattle.grammar.specs.Inside.Accepted.{expression-inside, program-inside, expression-passes, program-passes}
 use Rattle.grammar.specs.Laws.Exact.{parse-sound, parse-complete, no-parse, deeper, unambiguous}
 use Rattle.grammar.specs.Laws.Every.{allLegal, legal, derived-operators}
 use Rattle.grammar.specs.Laws.Limited.{limited, parse-limited}
@@ -64,7 +66,7 @@ words-counted text t = expression-count (bytes text) _ _ t
 pub reader-exact : (text : List ℕ) (n : ℕ) (t : Tree) → (GivesTree text n t × OperatorTree t) ↔ DerivesWithin n text t
 reader-exact text n t = (λ r. gives-derives text n (r .0) (r .1), λ d. (derives-gives text n d, derives-operators d))
 
--- The tree of a derivation that keeps the limits is what is read: the form that the read-back of prints cites.
+-- The tree of a derivation that keeps the limits is what is read.
 pub derivation-is-read : (text : List ℕ) (n : ℕ) (t : Tree) → DerivesWithin n text t → GivesTree text n t
 derivation-is-read text n t = derives-gives text n
 
@@ -76,3 +78,21 @@ reading-is-derived text n k ws e next = read-derives text n
 -- A text that has a derivation within the limits is read as no other tree.
 pub no-other-tree : (text : List ℕ) (n : ℕ) (t u : Tree) → DerivesWithin n text t → GivesTree text n u → u ≡ t
 no-other-tree text n t u d g = gives-same text n g (derives-gives text n d)
+
+-- Every name of a tree that is read lies inside the text: it is the tree of spans of one over such names.
+pub read-expression-inside : (text : List ℕ) (e : Expr Span) (next : ℕ) → readTree text ≡ ok e next
+    → (t : Expr (NameIn (length text))) × (mapExpr (λ n. n .span) t ≡ e)
+read-expression-inside text e next = expression-inside text
+
+pub read-program-inside : (text : List ℕ) (p : Program Span) (next : ℕ) → readTreeOfProgram text ≡ ok p next
+    → (t : Program (NameIn (length text))) × (mapProgram (λ n. n .span) t ≡ p)
+read-program-inside text p next = program-inside text
+
+-- The words that are read are a table that the check accepts over the same text.
+pub read-expression-accepted : (text : List ℕ) (n k : ℕ) (table : List ℕ) → readExpression text n ≡ words k table
+    → expressionRefusal (take k table) (length text) ≡ none
+read-expression-accepted text n k table = expression-passes text n
+
+pub read-program-accepted : (text : List ℕ) (n k : ℕ) (table : List ℕ) → readProgram text n ≡ words k table
+    → programRefusal (take k table) (length text) ≡ none
+read-program-accepted text n k table = program-passes text n

@@ -10,7 +10,7 @@ use lib.ListN.{length}
 use Rattle.lexing.specs.Bytes.{isSpace, isDigit, canStartIdentifierChar, identifierChar, notNewline, run, startsWith, sameBytes}
 use Rattle.lexing.specs.Blanks.{mark as commentMark, longComment, positionAfterEndOfLongComment, blank, blanksFrom, W}
 use Rattle.lexing.specs.Tokens.{identifierLength, decimal}
-use Rattle.tree.specs.Ast.{BLiteral, ILiteral, IdExpr, OperatorExpr, FunctionCallExpr, noExprs, _then_, ArgumentCount}
+use Rattle.tree.specs.Ast.{BLiteral, ILiteral, IdExpr, OperatorExpr, FunctionCallExpr, noExprs, _then_}
 use Rattle.tree.specs.Ast.{Operator, Equiv, LogicalImp, LogicalAnd, LogicalOr, Eq, Neq, Less, AtMost, Plus, Minus, Times, Div, Mod, LogicalNot}
 use Rattle.tree.specs.Ast.{UnaryMinus}
 use Rattle.grammar.specs.Words.{bytes, oneOf, isName, isIdentifier, isFaithfulName, excludedWords, keywords}
@@ -20,7 +20,7 @@ use Rattle.grammar.specs.OperatorTrees.{Operators, Faithful, notOnTheRig
 use Rattle.grammar.specs.Parser.{after, see, isNat, isWord, isMark, inClass, parseSeries, parseItems, parseNamed, parseExcluded}
 use Rattle.grammar.specs.Parser.{parseBracketed, parseOperand, parseUnary}
 use Rattle.grammar.specs.Parser.{leftTail, rightTail, onceTail, eitherTail, continued, parseExpr, parse}
-use Rattle.grammar.specs.Laws.Steps.{impossible}
+use Rattle.tree.specs.Clash.{impossible}
 
 infixl 70 _gives_
 -- the tree that the token parser gives for a text, at a depth

@@ -7,10 +7,15 @@ pub mod Parser
 pub mod Laws
 -- The reading rules of expressions, and how they agree with the grammar.
 pub mod Steps
+pub mod StepLaws
 pub mod Rules
+pub mod Statements
+pub mod Declarations
 pub mod Reading
 pub mod TreeRead
 pub mod Bridge
+pub mod Inside
 pub mod Claims
 pub mod Examples
 pub mod ReadingExamples
+pub mod ProgramExamples

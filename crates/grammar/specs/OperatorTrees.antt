@@ -11,6 +11,7 @@ use Rattle.tree.specs.Ast.{ClosureExpr}
 use Rattle.tree.specs.Ast.{Exprs, noExprs, _then_}
 use Rattle.tree.specs.Ast.{Operator, IfThenElse, Equiv, LogicalImp, LogicalAnd, LogicalOr, Eq, Neq, Less, AtMost, Plus, Minus, Times, Div, Mod}
 use Rattle.tree.specs.Ast.{LogicalNot, UnaryMinus}
+pub use Rattle.tree.specs.Limits.{mostText, mostWords}
 use Rattle.tree.specs.Words.{operatorWord, exprWords}
 use Rattle.grammar.specs.Words.{isFaithfulName}
 use Rattle.grammar.specs.Tokens.{Token, name, nat, mark, sign, illegal, cut}
@@ -75,14 +76,13 @@ fitsRight op (ClosureExpr bs w y ps) = true
 abbrev pub Faithful : Tree → Type 0
 Faithful = Operators isFaithfulName fitsRight
 
+-- the limit on texts, under the name that printing uses
 abbrev pub mostBytes : ℕ
-mostBytes = 32768
+mostBytes = mostText
 
+-- document 01's depth limit
 abbrev pub mostDepth : ℕ
 mostDepth = 200
-
-abbrev pub mostWords : ℕ
-mostWords = 16384
 
 -- each natural is at most 18446744073709551615
 unfoldable pub smallNaturals : List Token → Bool
@@ -100,7 +100,7 @@ wordCount t = length (exprWords (λ w. record { start = 0; len = 0 }) t [])
 -- The text has a derivation with the tree t that keeps the limits: text length, depth, naturals, and the tree's words against a table of so
 -- many words and 16,384.
 pub record DerivesWithin (table : ℕ) (text : List ℕ) (t : Tree) : Type 0 where
-  pub short : length text ≤ mostBytes
+  pub short : length text ≤ mostText
   pub derives : Derives mostDepth text t
   pub naturals : smallNaturals (cut text) ≡ true
   pub fits : wordCount t ≤ table

@@ -1,16 +1,19 @@
--- Read expression (document 01, "The entries"): refusals 1 to 5, and the table afterwards.
-use Prim.Native.Nat.{ℕ, zero, suc, _+_, _-_}
-use mathlib.Core.Bool.{Bool, true, false, _&&_}
-use mathlib.Core.List.{List, [], _∷_, _++_}
-use lib.ListN.{drop, length, replicate}
+-- Read expression and read program (document 01, "The entries"): refusals 1 to 5, and the table afterwards.
+use Prim.Native.Nat.{ℕ, suc, _-_}
+use mathlib.Core.Bool.{_&&_}
+use mathlib.Core.List.{List, [], _++_}
+use lib.ListN.{length, replicate}
 use lib.Dec.{leb, eqb}
-use Rattle.lexing.specs.Answer.{Answer, ok, refused, pick}
+use Rattle.lexing.specs.Answer.{Answer, ok, refused, unclosedComment, pick}
 use Rattle.lexing.specs.Blanks.{Blanks, passed, unclosed, W}
-use Rattle.tree.specs.Ast.{Span, Expr}
-use Rattle.tree.specs.Words.{exprWords}
-use Rattle.grammar.specs.OperatorTrees.{mostBytes, mostDepth, mostWords}
-use Rattle.grammar.specs.Steps.{after, need}
+use Rattle.tree.specs.Ast.{Span, Expr, Program}
+use Rattle.tree.specs.Limits.{mostText, mostWords}
+use Rattle.tree.specs.Words.{exprWords, programWords}
+use Rattle.grammar.specs.OperatorTrees.{mostDepth}
+use Rattle.grammar.specs.Steps.{Reader, after, need}
 use Rattle.grammar.specs.Rules.{parseExpr}
+use Rattle.grammar.specs.Statements.{gallery}
+use Rattle.grammar.specs.Declarations.{TopLevel}
 
 -- the words of a tree whose names are spans, followed by others
 abbrev pub treeWords : Expr Span → List ℕ → List ℕ
@@ -19,20 +22,19 @@ treeWords = exprWords (λ s. s)
 -- the place after the blanks at the start of the text
 abbrev pub leading : Blanks → Answer ℕ
 leading (passed n) = ok n n
-leading (unclosed n) = refused 2 n
+leading (unclosed n) = refused unclosedComment n
 
 -- the text ends at this place
-abbrev pub toEnd : List ℕ → Expr Span → ℕ → Answer (Expr Span)
-toEnd text e at = pick (eqb at (length text)) (ok e at) (refused 2 at)
+abbrev pub toEnd : {A : Type 0} → List ℕ → A → ℕ → Answer A
+toEnd text a at = pick (eqb at (length text)) (ok a at) (refused 2 at)
 
--- the tree that a text of at most 32,768 bytes holds
-unfoldable pub parseText : List ℕ → Answer (Expr Span)
-parseText text =
-    after (leading (W text)) Answer.none (λ at _. need at (parseExpr text (suc (length text)) mostDepth at) (toEnd text))
+-- what a rule reads of a whole text, after the blanks at its start
+abbrev pub wholeText : {A : Type 0} → List ℕ → Reader A → Answer A
+wholeText text rule = after (leading (W text)) Answer.none (λ at _. need at (rule at) (toEnd text))
 
-unfoldable pub readTree : List ℕ → Answer (Expr Span)
-unfolding parseText
-readTree text = pick (leb (length text) mostBytes) (parseText text) (refused 1 mostBytes)
+-- a text of at most 32,768 bytes is read
+abbrev pub unlessLong : {A : Type 0} → List ℕ → Answer A → Answer A
+unlessLong text r = pick (leb (length text) mostText) r (refused 1 mostText)
 
 -- what a reading answers and leaves in a table of n words
 pub data Outcome : Type 0 where
@@ -44,12 +46,40 @@ abbrev pub stored : ℕ → List ℕ → Outcome
 stored n ws =
     pick (leb (length ws) n && leb (length ws) mostWords) (words (length ws) (ws ++ replicate (n - length ws) 0)) (refusal 5 0 (replicate n 0))
 
-abbrev pub outcome : ℕ → Answer (Expr Span) → Outcome
-outcome n (ok e at) = stored n (treeWords e [])
-outcome n Answer.none = refusal 2 0 (replicate n 0)
-outcome n (refused number place) = refusal number place (replicate n 0)
+-- the outcome of an answer, by the words of what was read
+abbrev pub outcomeBy : {A : Type 0} → (A → List ℕ) → ℕ → Answer A → Outcome
+outcomeBy wordsOf n (ok a at) = stored n (wordsOf a)
+outcomeBy wordsOf n Answer.none = refusal 2 0 (replicate n 0)
+outcomeBy wordsOf n (refused number place) = refusal number place (replicate n 0)
 
--- read expression: a text and a table of n words
+-- ---- read expression
+
+-- the tree that a text of at most 32,768 bytes holds
+unfoldable pub parseText : List ℕ → Answer (Expr Span)
+parseText text = wholeText text (parseExpr text (suc (length text)) mostDepth)
+
+unfoldable pub readTree : List ℕ → Answer (Expr Span)
+unfolding parseText
+readTree text = unlessLong text (parseText text)
+
+abbrev pub outcome : ℕ → Answer (Expr Span) → Outcome
+outcome = outcomeBy (λ e. treeWords e [])
+
+-- a text and a table of n words
 unfoldable pub readExpression : List ℕ → ℕ → Outcome
 unfolding readTree
 readExpression text n = outcome n (readTree text)
+
+-- ---- read program
+
+unfoldable pub parseProgram : List ℕ → Answer (Program Span)
+parseProgram text = wholeText text (TopLevel text (suc (length text)) (gallery text (suc (length text)) mostDepth))
+
+unfoldable pub readTreeOfProgram : List ℕ → Answer (Program Span)
+unfolding parseProgram
+readTreeOfProgram text = unlessLong text (parseProgram text)
+
+-- a text and a table of n words
+unfoldable pub readProgram : List ℕ → ℕ → Outcome
+unfolding readTreeOfProgram
+readProgram text n = outcomeBy (λ p. programWords (λ s. s) p []) n (readTreeOfProgram text)

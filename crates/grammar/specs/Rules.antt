@@ -1,51 +1,52 @@
 -- The reading rules of expressions, in Parser.dfy's order and under its names, over ok / none / refused. `c` is the rule "expr" one deeper;
--- m bounds the turns of each repetition, and any m above the text's length gives the same.
-use Prim.Native.Nat.{ℕ, zero, suc, _+_}
-use Prim.Native.String.{String}
+-- m bounds the turns of each repetition.
+use Prim.Native.Nat.{ℕ, zero, suc}
 use mathlib.Core.Bool.{Bool, true, false, _&&_, _||_, not}
 use mathlib.Core.List.{List, [], _∷_}
 use mathlib.Core.Option.{Option, none, some}
-use lib.ListN.{drop, getD, length}
+use lib.ListN.{drop, getD}
 use lib.Dec.{ltb, eqb}
 use Rattle.lexing.specs.Answer.{Answer, ok, refused, pick}
-use Rattle.lexing.specs.Bytes.{isDigit, startsWith}
+use Rattle.lexing.specs.Bytes.{isDigit}
 use Rattle.lexing.specs.Tokens.{identifierLength}
 use Rattle.tree.specs.Ast.{Span, Binding, binding, Expr, BLiteral, ILiteral, CustomLiteral, IdExpr, OperatorExpr, FunctionCallExpr, LabeledExpr, LetExpr, QuantifierExpr, ClosureExpr}
 use Rattle.tree.specs.Ast.{Exprs, noExprs, _then_, Patterns, noPatterns, pattern, ClosureBindings, noClosureBindings, closureBinding, ClosureProperties, noClosureProperties, closureProperty}
 use Rattle.tree.specs.Ast.{Operator, IfThenElse, Equiv, LogicalImp, LogicalAnd, LogicalOr, Eq, Neq, Less, AtMost, Plus, Minus, Times, Div, Mod, LogicalNot, UnaryMinus}
 use Rattle.grammar.specs.Words.{bytes}
 use Rattle.grammar.specs.Grammar.{Build, straight, swapped, single, build}
+use Rattle.grammar.specs.Grammar.{Class, product, sum, comparison, conjunction, disjunction, implication, explication, equivalence}
 use Rattle.grammar.specs.Steps.{Reader, after, need, _or_, mapped, T, Sym, SymNotPrefix, keywordAt, signAt, parseName, parseType, parseLiteralText, parseNat}
 
--- ---- sequences that commas part
+-- ---- sequences
 
-pub data Sequence : Type 0 where
-  exprs bindings closures properties : Sequence
+-- a sequence of items A is an L
+pub record Sequence (A L : Type 0) : Type 0 where
+  pub nil : L
+  pub cons : A → L → L
 
--- an item of a sequence: a closure binding is name, parameters and expression, a closure property is triggers and expression
-abbrev pub ItemOf : Sequence → Type 0
-ItemOf exprs = Expr Span
-ItemOf bindings = Binding Span
-ItemOf closures = Span × List (Binding Span) × Expr Span
-ItemOf properties = Patterns Span × Expr Span
+abbrev pub exprs : Sequence (Expr Span) (Exprs Span)
+exprs = record { nil = noExprs; cons = _then_ }
 
-abbrev pub ListOf : Sequence → Type 0
-ListOf exprs = Exprs Span
-ListOf bindings = List (Binding Span)
-ListOf closures = ClosureBindings Span
-ListOf properties = ClosureProperties Span
+abbrev pub bindings : Sequence (Binding Span) (List (Binding Span))
+bindings = record { nil = []; cons = _∷_ }
 
-abbrev pub nil : (q : Sequence) → ListOf q
-nil exprs = noExprs
-nil bindings = []
-nil closures = noClosureBindings
-nil properties = noClosureProperties
+-- a pattern's or a trigger's expressions
+abbrev pub patterns : Sequence (Exprs Span) (Patterns Span)
+patterns = record { nil = noPatterns; cons = pattern }
 
-abbrev pub cons : (q : Sequence) → ItemOf q → ListOf q → ListOf q
-cons exprs e l = _then_ e l
-cons bindings b l = b ∷ l
-cons closures c l = closureBinding (c .0) (c .1) (c .2) l
-cons properties p l = closureProperty (p .0) (p .1) l
+-- a closure binding: name, parameters and expression
+abbrev pub ClosureItem : Type 0
+ClosureItem = Span × List (Binding Span) × Expr Span
+
+abbrev pub closures : Sequence ClosureItem (ClosureBindings Span)
+closures = record { nil = noClosureBindings; cons = λ c l. closureBinding (c .0) (c .1) (c .2) l }
+
+-- a closure property: triggers and expression
+abbrev pub PropertyItem : Type 0
+PropertyItem = Patterns Span × Expr Span
+
+abbrev pub properties : Sequence PropertyItem (ClosureProperties Span)
+properties = record { nil = noClosureProperties; cons = λ p l. closureProperty (p .0) (p .1) l }
 
 -- an expression that begins with no word has these first two bytes
 unfoldable pub opensAt : ℕ → ℕ → Bool
@@ -57,44 +58,56 @@ unfoldable pub opensExpr : List ℕ → Bool
 unfolding opensAt
 opensExpr s = ltb 0 (identifierLength s) || opensAt (getD s 0 0) (getD s 1 0)
 
-module _ (text : List ℕ) (m : ℕ) where
-  abbrev E : Type 0
-  E = Expr Span
+abbrev pub E : Type 0
+E = Expr Span
 
-  -- ---- repetition
+-- ---- repetition
 
-  -- `parser.I_I(operator.e_I(parser).Rep())`, folded to the left: what stands after the operand e
-  unfoldable pub leftTail : ℕ → Reader Build → Reader E → E → Reader E
-  leftTail zero operator p e at = ok e at
-  leftTail (suc k) operator p e at =
-      after (operator at) (ok e at) (λ b at₁. need at₁ (p at₁) (λ e₁ at₂. leftTail k operator p (build b e e₁) at₂))
+-- `parser.I_I(operator.e_I(parser).Rep())`, folded to the left: what stands after the operand e
+unfoldable pub leftTail : ℕ → Reader Build → Reader E → E → Reader E
+leftTail zero operator p e at = ok e at
+leftTail (suc k) operator p e at =
+    after (operator at) (ok e at) (λ b at₁. need at₁ (p at₁) (λ e₁ at₂. leftTail k operator p (build b e e₁) at₂))
 
-  -- the same, folded to the right
-  unfoldable pub rightTail : ℕ → Reader Build → Reader E → E → Reader E
-  rightTail zero operator p e at = ok e at
-  rightTail (suc k) operator p e at =
-      after (operator at) (ok e at) (λ b at₁. need at₁ (p at₁) (λ e₁ at₂. mapped (build b e) (rightTail k operator p e₁ at₂)))
+-- the same, folded to the right
+unfoldable pub rightTail : ℕ → Reader Build → Reader E → E → Reader E
+rightTail zero operator p e at = ok e at
+rightTail (suc k) operator p e at =
+    after (operator at) (ok e at) (λ b at₁. need at₁ (p at₁) (λ e₁ at₂. mapped (build b e) (rightTail k operator p e₁ at₂)))
 
-  -- an operator and an operand, or neither
-  unfoldable pub onceTail : Reader Build → Reader E → E → Reader E
-  onceTail operator p e at = after (operator at) (ok e at) (λ b at₁. need at₁ (p at₁) (λ e₁ at₂. ok (build b e e₁) at₂))
+-- an operator and an operand, or neither
+unfoldable pub onceTail : Reader Build → Reader E → E → Reader E
+onceTail operator p e at = after (operator at) (ok e at) (λ b at₁. need at₁ (p at₁) (λ e₁ at₂. ok (build b e e₁) at₂))
 
+-- ---- steps without a text of their own
+
+-- the body of a closure property must follow its triggers, if there are any
+abbrev pub afterTriggers : Patterns Span → ℕ → Answer E → Answer PropertyItem
+afterTriggers noPatterns at r = after r Answer.none (λ body at₁. ok (noPatterns, body) at₁)
+afterTriggers (pattern es ts) at r = need at r (λ body at₁. ok (pattern es ts, body) at₁)
+
+-- after a name and `:`
+unfoldable pub afterColon : Reader E → Span → Reader E
+afterColon c n at = need at (c at) (λ e at₁. ok (LabeledExpr n e) at₁)
+
+module _ (text : List ℕ) where
   -- `Sym(",").e_I(item).Rep()`
-  unfoldable pub commaTail : (q : Sequence) → ℕ → Reader (ItemOf q) → Reader (ListOf q)
-  commaTail q zero item at = ok (nil q) at
+  unfoldable pub commaTail : {A L : Type 0} → Sequence A L → ℕ → Reader A → Reader L
+  commaTail q zero item at = ok (q .nil) at
   commaTail q (suc k) item at =
-      after (Sym text "," at) (ok (nil q) at) (λ _ at₁. need at₁ (item at₁) (λ a at₂. mapped (cons q a) (commaTail q k item at₂)))
+      after (Sym text "," at) (ok (q .nil) at) (λ _ at₁. need at₁ (item at₁) (λ a at₂. mapped (q .cons a) (commaTail q k item at₂)))
 
-  unfoldable pub parseNonemptyCommaDelimitedSeq : (q : Sequence) → Reader (ItemOf q) → Reader (ListOf q)
-  parseNonemptyCommaDelimitedSeq q item at = after (item at) Answer.none (λ a at₁. mapped (cons q a) (commaTail q m item at₁))
+  module _ (m : ℕ) where
+    unfoldable pub parseNonemptyCommaDelimitedSeq : {A L : Type 0} → Sequence A L → Reader A → Reader L
+    parseNonemptyCommaDelimitedSeq q item at = after (item at) Answer.none (λ a at₁. mapped (q .cons a) (commaTail q m item at₁))
 
-  unfoldable pub parseCommaDelimitedSeq : (q : Sequence) → Reader (ItemOf q) → Reader (ListOf q)
-  parseCommaDelimitedSeq q item at = parseNonemptyCommaDelimitedSeq q item at or ok (nil q) at
+    unfoldable pub parseCommaDelimitedSeq : {A L : Type 0} → Sequence A L → Reader A → Reader L
+    parseCommaDelimitedSeq q item at = parseNonemptyCommaDelimitedSeq q item at or ok (q .nil) at
 
-  -- a comma list that may be empty, and the sign that closes it
-  unfoldable pub parseListed : (q : Sequence) → Reader (ItemOf q) → List ℕ → Reader (ListOf q)
-  parseListed q item close at =
-      after (parseCommaDelimitedSeq q item at) Answer.none (λ l at₁. need at₁ (signAt text close at₁) (λ _ at₂. ok l at₂))
+    -- a comma list that may be empty, and the sign that closes it
+    unfoldable pub parseListed : {A L : Type 0} → Sequence A L → Reader A → List ℕ → Reader L
+    parseListed q item close at =
+        need at (parseCommaDelimitedSeq q item at) (λ l at₁. need at₁ (signAt text close at₁) (λ _ at₂. ok l at₂))
 
   -- ---- signs
 
@@ -134,6 +147,17 @@ module _ (text : List ℕ) (m : ℕ) where
   factorOperator at =
       mapped (λ _. straight Times) (Sym text "*" at) or mapped (λ _. straight Div) (T text "div" at) or mapped (λ _. straight Mod) (T text "mod" at)
 
+  -- the operators of a class
+  abbrev pub operatorOf : Class → Reader Build
+  operatorOf product = factorOperator
+  operatorOf sum = termOperator
+  operatorOf comparison = parseComparisonOperator
+  operatorOf conjunction = andOperator
+  operatorOf disjunction = orOperator
+  operatorOf implication = impliesOperator
+  operatorOf explication = expliesOperator
+  operatorOf equivalence = equivOperator
+
   unfoldable pub unaryOperator : Reader Operator
   unaryOperator at = mapped (λ _. LogicalNot) (SymNotPrefix text "!" "!=" at) or mapped (λ _. UnaryMinus) (Sym text "-" at)
 
@@ -152,12 +176,12 @@ module _ (text : List ℕ) (m : ℕ) where
   parseOptionalType at = after (SymNotPrefix text ":" ":=" at) (ok none at) (λ _ at₁. someType at₁)
 
   -- `parseParenthesized(parseCommaDelimitedSeq(parseIdType)).Option()`, none of them where it is missing
-  unfoldable pub parseParameters : Reader (List (Binding Span))
-  parseParameters at = after (Sym text "(" at) (ok [] at) (λ _ at₁. parseListed bindings parseIdType (bytes ")") at₁)
+  unfoldable pub parseParameters : ℕ → Reader (List (Binding Span))
+  parseParameters m at = after (Sym text "(" at) (ok [] at) (λ _ at₁. parseListed m bindings parseIdType (bytes ")") at₁)
+
+  -- ---- parsePrimaryExpr
 
   module _ (c : Reader E) where
-    -- ---- parsePrimaryExpr
-
     unfoldable pub afterIf : Reader E
     afterIf at =
         need at (c at)
@@ -168,82 +192,77 @@ module _ (text : List ℕ) (m : ℕ) where
     unfoldable pub afterVal : Reader E
     afterVal at =
         need at (parseName text at)
-        (λ n at₁. after (parseOptionalType at₁) Answer.none
+        (λ n at₁. need at₁ (parseOptionalType at₁)
         (λ t at₂. need at₂ (Sym text ":=" at₂)
         (λ _ at₃. need at₃ (c at₃) (λ rhs at₄. need at₄ (c at₄) (λ body at₅. ok (LetExpr n t rhs body) at₅)))))
 
+  module _ (m : ℕ) (c : Reader E) where
     -- `parsePattern(c).Rep()` and `parseClosureTrigger(c).Rep()`, by their word
     unfoldable pub parseMarked : ℕ → List ℕ → Reader (Patterns Span)
     parseMarked zero w at = ok noPatterns at
     parseMarked (suc k) w at =
         after (keywordAt text w at) (ok noPatterns at)
-        (λ _ at₁. need at₁ (parseNonemptyCommaDelimitedSeq exprs c at₁) (λ es at₂. mapped (pattern es) (parseMarked k w at₂)))
+        (λ _ at₁. need at₁ (parseNonemptyCommaDelimitedSeq m exprs c at₁) (λ es at₂. mapped (pattern es) (parseMarked k w at₂)))
 
     -- after `forall` or `exists`
     unfoldable pub afterQuantifier : Bool → Reader E
     afterQuantifier universal at =
-        need at (parseNonemptyCommaDelimitedSeq bindings parseIdType at)
-        (λ bs at₁. after (parseMarked m (bytes "pattern") at₁) Answer.none
+        need at (parseNonemptyCommaDelimitedSeq m bindings parseIdType at)
+        (λ bs at₁. need at₁ (parseMarked m (bytes "pattern") at₁)
         (λ ps at₂. need at₂ (c at₂) (λ body at₃. ok (QuantifierExpr universal bs ps body) at₃)))
 
-    unfoldable pub parseClosureBinding : Reader (ItemOf closures)
+    unfoldable pub parseClosureBinding : Reader ClosureItem
     parseClosureBinding at =
         after (parseName text at) Answer.none
-        (λ n at₁. after (parseParameters at₁) Answer.none
+        (λ n at₁. need at₁ (parseParameters m at₁)
         (λ ps at₂. need at₂ (Sym text ":=" at₂) (λ _ at₃. need at₃ (c at₃) (λ rhs at₄. ok (n, ps, rhs) at₄))))
 
-    -- the body of a closure property must follow its triggers, if there are any
-    abbrev pub afterTriggers : Patterns Span → ℕ → Answer E → Answer (ItemOf properties)
-    afterTriggers noPatterns at r = after r Answer.none (λ body at₁. ok (noPatterns, body) at₁)
-    afterTriggers (pattern es ts) at r = need at r (λ body at₁. ok (pattern es ts, body) at₁)
-
-    unfoldable pub parseClosureProperty : Reader (ItemOf properties)
+    unfoldable pub parseClosureProperty : Reader PropertyItem
     parseClosureProperty at = after (parseMarked m (bytes "trigger") at) Answer.none (λ ts at₁. afterTriggers ts at₁ (c at₁))
 
     -- `parseClosure`
     unfoldable pub afterLift : Reader E
     afterLift at =
-        need at (parseNonemptyCommaDelimitedSeq closures parseClosureBinding at)
+        need at (parseNonemptyCommaDelimitedSeq m closures parseClosureBinding at)
         (λ bs at₁. need at₁ (T text "into" at₁)
         (λ _ at₂. need at₂ (parseName text at₂)
         (λ n at₃. need at₃ (Sym text ":" at₃)
         (λ _ at₄. need at₄ (parseType text at₄)
         (λ t at₅. need at₅ (T text "by" at₅)
         (λ _ at₆. need at₆ (Sym text "{" at₆)
-        (λ _ at₇. after (parseListed properties parseClosureProperty (bytes "}") at₇) Answer.none (λ ps at₈. ok (ClosureExpr bs n t ps) at₈))))))))
+        (λ _ at₇. need at₇ (parseListed m properties parseClosureProperty (bytes "}") at₇) (λ ps at₈. ok (ClosureExpr bs n t ps) at₈))))))))
 
-    -- ---- parseAtomicExpr
+  -- ---- parseAtomicExpr
 
-    -- after `|`
-    unfoldable pub afterBar : Reader E
-    afterBar at =
-        need at (parseLiteralText text at)
-        (λ s at₁. need at₁ (Sym text ":" at₁)
-        (λ _ at₂. need at₂ (parseType text at₂) (λ t at₃. need at₃ (Sym text "|" at₃) (λ _ at₄. ok (CustomLiteral s t) at₄))))
+  -- after `|`
+  unfoldable pub afterBar : Reader E
+  afterBar at =
+      need at (parseLiteralText text at)
+      (λ s at₁. need at₁ (Sym text ":" at₁)
+      (λ _ at₂. need at₂ (parseType text at₂) (λ t at₃. need at₃ (Sym text "|" at₃) (λ _ at₄. ok (CustomLiteral s t) at₄))))
 
-    unfoldable pub afterOld : Reader E
-    afterOld at = need at (parseName text at) (λ n at₁. ok (IdExpr n true) at₁)
+  unfoldable pub afterOld : Reader E
+  afterOld at = need at (parseName text at) (λ n at₁. ok (IdExpr n true) at₁)
 
-    -- after a name and `(`
-    unfoldable pub afterCall : Span → Reader E
-    afterCall n at = after (parseListed exprs c (bytes ")") at) Answer.none (λ es at₁. ok (FunctionCallExpr n es) at₁)
-
-    -- after a name and `:`
-    unfoldable pub afterColon : Span → Reader E
-    afterColon n at = need at (c at) (λ e at₁. ok (LabeledExpr n e) at₁)
-
-    -- after a name: a call, a label, or the name alone
+  module _ (c : Reader E) where
+    -- after a name that no `(` follows: a label, or the name alone
     unfoldable pub afterLabel : Span → Reader E
     unfolding afterColon
-    afterLabel n at = after (Sym text ":" at) (ok (IdExpr n false) at) (λ _ at₁. afterColon n at₁)
-
-    unfoldable pub afterName : Span → Reader E
-    unfolding afterLabel afterCall
-    afterName n at = after (Sym text "(" at) (afterLabel n at) (λ _ at₁. afterCall n at₁)
+    afterLabel n at = after (Sym text ":" at) (ok (IdExpr n false) at) (λ _ at₁. afterColon c n at₁)
 
     -- after `(`
     unfoldable pub afterParen : Reader E
     afterParen at = need at (c at) (λ e at₁. need at₁ (Sym text ")" at₁) (λ _ at₂. ok e at₂))
+
+  module _ (m : ℕ) (c : Reader E) where
+    -- after a name and `(`
+    unfoldable pub afterCall : Span → Reader E
+    afterCall n at = need at (parseListed m exprs c (bytes ")") at) (λ es at₁. ok (FunctionCallExpr n es) at₁)
+
+    -- after a name: a call, a label, or the name alone
+    unfoldable pub afterName : Span → Reader E
+    unfolding afterLabel afterCall
+    afterName n at = after (Sym text "(" at) (afterLabel c n at) (λ _ at₁. afterCall n at₁)
 
     unfoldable pub parseAtomicExpr : Reader E
     parseAtomicExpr at =
@@ -253,15 +272,15 @@ module _ (text : List ℕ) (m : ℕ) where
         or after (Sym text "|" at) Answer.none (λ _ at₁. afterBar at₁)
         or after (T text "old" at) Answer.none (λ _ at₁. afterOld at₁)
         or after (parseName text at) Answer.none (λ n at₁. afterName n at₁)
-        or after (Sym text "(" at) Answer.none (λ _ at₁. afterParen at₁)
+        or after (Sym text "(" at) Answer.none (λ _ at₁. afterParen c at₁)
 
     unfoldable pub parsePrimaryExpr : Reader E
     parsePrimaryExpr at =
-        after (T text "if" at) Answer.none (λ _ at₁. afterIf at₁)
-        or after (T text "val" at) Answer.none (λ _ at₁. afterVal at₁)
-        or after (T text "forall" at) Answer.none (λ _ at₁. afterQuantifier true at₁)
-        or after (T text "exists" at) Answer.none (λ _ at₁. afterQuantifier false at₁)
-        or after (T text "lift" at) Answer.none (λ _ at₁. afterLift at₁)
+        after (T text "if" at) Answer.none (λ _ at₁. afterIf c at₁)
+        or after (T text "val" at) Answer.none (λ _ at₁. afterVal c at₁)
+        or after (T text "forall" at) Answer.none (λ _ at₁. afterQuantifier m c true at₁)
+        or after (T text "exists" at) Answer.none (λ _ at₁. afterQuantifier m c false at₁)
+        or after (T text "lift" at) Answer.none (λ _ at₁. afterLift m c at₁)
         or parseAtomicExpr at
 
     -- ---- the levels
@@ -302,6 +321,6 @@ module _ (text : List ℕ) (m : ℕ) where
     parseEquivExpr at = after (parseImpExpExpr at) Answer.none (leftTail m equivOperator parseImpExpExpr)
 
   -- `RecMap(exprGallery, "expr")` with d levels left: refusal 3 where one more would be opened
-  unfoldable pub parseExpr : ℕ → Reader E
-  parseExpr zero at = pick (opensExpr (drop at text)) (refused 3 at) Answer.none
-  parseExpr (suc d) at = parseEquivExpr (parseExpr d) at
+  unfoldable pub parseExpr : ℕ → ℕ → Reader E
+  parseExpr m zero at = pick (opensExpr (drop at text)) (refused 3 at) Answer.none
+  parseExpr m (suc d) at = parseEquivExpr m (parseExpr m d) at

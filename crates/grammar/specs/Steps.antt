@@ -1,13 +1,10 @@
 -- Reading steps at a place of a text: the token readers of `lexing`, and the combinators that the rules are written with (document 01,
 -- "Choice and repetition").
-use Prim.Native.Nat.{ℕ, zero, suc, _+_}
+use Prim.Native.Nat.{ℕ}
 use Prim.Native.String.{String}
-use mathlib.Core.Bool.{Bool, true, false, _&&_, _||_, not}
-use mathlib.Core.List.{List, [], _∷_}
-use mathlib.Core.Option.{Option, none, some}
-use lib.ListN.{drop, getD, length}
-use lib.Dec.{ltb}
-use Rattle.lexing.specs.Answer.{Answer, ok, refused, moved, pick}
+use mathlib.Core.List.{List}
+use lib.ListN.{drop}
+use Rattle.lexing.specs.Answer.{Answer, ok, refused, moved}
 use Rattle.lexing.specs.Tokens.{parseId, parseCustomLiteral, keyword, sign, signNotPrefix, natural}
 use Rattle.tree.specs.Ast.{Span}
 use Rattle.grammar.specs.Words.{bytes}
@@ -26,6 +23,10 @@ after (refused number place) stop go = refused number place
 abbrev pub need : {A B : Type 0} → ℕ → Answer A → (A → ℕ → Answer B) → Answer B
 need at r go = after r (refused 2 at) go
 
+-- the same, and nothing after it
+abbrev pub must : {A : Type 0} → ℕ → Answer A → Answer A
+must at r = need at r (λ a next. ok a next)
+
 -- a branch, and the next one where it kept nothing
 abbrev pub _or_ : {A : Type 0} → Answer A → Answer A → Answer A
 _or_ r q = after r q (λ a next. ok a next)
@@ -33,10 +34,6 @@ _or_ r q = after r q (λ a next. ok a next)
 -- `.M(f)`
 abbrev pub mapped : {A B : Type 0} → (A → B) → Answer A → Answer B
 mapped f r = after r Answer.none (λ a next. ok (f a) next)
-
--- `.Option()`
-abbrev pub optional : {A : Type 0} → ℕ → Answer A → Answer (Option A)
-optional at r = after r (ok none at) (λ a next. ok (some a) next)
 
 infixr 20 _or_
 module _ (text : List ℕ) where

@@ -9,9 +9,9 @@ use denote.Enum.Declared.{tagOf}
 use Rattle.lexing.specs.Answer.{Answer, ok, refused}
 use Rattle.tree.specs.Ast.{Expr, Span}
 use Rattle.grammar.specs.Steps.{Reader, after, need, _or_}
-use Rattle.grammar.specs.Rules.{parseCommaDelimitedSeq, parseListed, afterBar, afterOld, afterCall, afterColon, afterLabel, afterName}
+use Rattle.grammar.specs.Rules.{afterBar, afterOld, afterCall, afterColon, afterLabel, afterName}
 use Rattle.reading.specs.Arena.{Run, Agrees, Builds}
-use Rattle.grammar.specs.Bridge.Relation.{Ends, refuses, reads, ends-after, ends-then}
+use Rattle.grammar.specs.Bridge.Relation.{Ends, refuses, reads, ends-after}
 use Rattle.reading.specs.declared.arena.Built.{Built}
 use Rattle.reading.specs.declared.arena.Built.the-variants.{Ok, None, Refused}
 use Rattle.reading.proofs.arena.Built.{the-type as built-type}
@@ -54,6 +54,13 @@ module _ {A B : Type 0} {s : Answer B} (go : B → ℕ → Answer A) (q : Answer
   unfolding after
   branch-refused e = rw e refl
 
+-- a choice of three
+pub or-assoc : {A : Type 0} (r q p : Answer A) → ((r or q) or p) ≡ (r or (q or p))
+unfolding after
+or-assoc (ok a next) q p = refl
+or-assoc Answer.none q p = refl
+or-assoc (refused number place) q p = refl
+
 -- what a function that builds ensures of a choice, by its branch
 module _ {A : Type 0} {words : A → Run} {text arena later : List ℕ} {at top least credit : ℕ} {r : Built} where
   module _ {B : Type 0} {s : Answer B} (go : B → ℕ → Answer A) (q : Answer A) where
@@ -93,25 +100,18 @@ pub ends-keeps : {A : Type 0} {P : A → Type 0} {r : Answer A} → Ends P r →
 ends-keeps refuses = record { some = refl }
 ends-keeps (reads p) = record { some = refl }
 
-pub afterBar-keeps : (text : List ℕ) (m : ℕ) (c : Reader (Expr Span)) (at : ℕ) → Keeps (afterBar text m c at)
+pub afterBar-keeps : (text : List ℕ) (at : ℕ) → Keeps (afterBar text at)
 unfolding afterBar
-afterBar-keeps text m c at =
+afterBar-keeps text at =
     needed-keeps _ _ _ (λ s at₁. needed-keeps _ _ _ (λ _ at₂. needed-keeps _ _ _ (λ t at₃. needed-keeps _ _ _ (λ _ at₄. record { some = refl }))))
 
-pub afterOld-keeps : (text : List ℕ) (m : ℕ) (c : Reader (Expr Span)) (at : ℕ) → Keeps (afterOld text m c at)
+pub afterOld-keeps : (text : List ℕ) (at : ℕ) → Keeps (afterOld text at)
 unfolding afterOld
-afterOld-keeps text m c at = needed-keeps _ _ _ (λ n at₁. record { some = refl })
+afterOld-keeps text at = needed-keeps _ _ _ (λ n at₁. record { some = refl })
 
-module _ (text : List ℕ) (m : ℕ) (c : Reader (Expr Span)) (n : Span) where
-  call-ends : (at : ℕ) → Ends (λ _. Unit {0}) (afterCall text m c n at)
-  unfolding afterCall parseListed parseCommaDelimitedSeq
-  call-ends at =
-      ends-then {Q = λ _. Unit {0}} _ _
-      (ends-then {Q = λ _. Unit {0}} _ _ (ends-after _ _ _ (reads tt) (λ l next. reads tt)) (λ l at₁. ends-after _ _ _ refuses (λ _ at₂. reads tt)))
-      (λ es at₁. reads tt)
-
-  pub afterName-keeps : (at : ℕ) → Keeps (afterName text m c n at)
-  unfolding afterName afterLabel afterColon
-  afterName-keeps at =
-      ends-keeps {P = λ _. Unit {0}}
-      (ends-after _ _ _ (ends-after _ _ _ (reads tt) (λ _ at₁. ends-after _ _ _ refuses (λ e at₂. reads tt))) (λ _ at₁. call-ends at₁))
+pub afterName-keeps : (text : List ℕ) (m : ℕ) (c : Reader (Expr Span)) (n : Span) (at : ℕ) → Keeps (afterName text m c n at)
+unfolding afterName afterLabel afterColon afterCall
+afterName-keeps text m c n at =
+    ends-keeps {P = λ _. Unit {0}}
+    (ends-after _ _ _ (ends-after _ _ _ (reads tt) (λ _ at₁. ends-after _ _ _ refuses (λ e at₂. reads tt)))
+    (λ _ at₁. ends-after _ _ _ refuses (λ es at₂. reads tt)))

@@ -1,7 +1,7 @@
 -- Closure properties, quantifiers and closures: their rules as the code takes their steps, and their words.
-use Prim.Native.Nat.{ℕ, zero, suc, _≤_}
+use Prim.Native.Nat.{ℕ, zero, suc, _+_, _*_, _≤_}
 use native.Mathlib.Omega.{arith}
-use mathlib.Core.Path.{_≡_, refl, ap, fun-ext}
+use mathlib.Core.Path.{_≡_, refl, sym, ap, fun-ext, _∙_}
 use mathlib.Core.List.{List, [], _∷_}
 use types.Run.{OneOf}
 use denote.Enum.Declared.{tagOf}
@@ -12,59 +12,26 @@ use Rattle.lexing.proofs.token.Lexed.{the-type as lexed-type}
 use Rattle.tree.specs.Ast.{Span, Binding, binding, Expr, ClosureExpr, Exprs, Patterns, noPatterns, pattern}
 use Rattle.tree.specs.Words.{boolWord, bindingWords, nameWords}
 use Rattle.grammar.specs.Words.{bytes}
-use Rattle.grammar.specs.Steps.{Reader, after, need, mapped, T, Sym, parseName, parseType}
-use Rattle.grammar.specs.Rules.{exprs, closures, properties, ItemOf, parseNonemptyCommaDelimitedSeq, parseListed, parseMarked, parseIdType, parseClosureBinding, parseClosureProperty, afterTriggers, afterLift}
-use Rattle.reading.specs.Arena.{Node, Holds}
-use Rattle.reading.specs.Code.{Tells, HasTrigger, NoTrigger, universalOf, same}
+use Rattle.grammar.specs.Steps.{Reader, after, need, T, Sym, keywordAt, parseName, parseType}
+use Rattle.grammar.specs.Rules.{exprs, closures, properties, parseNonemptyCommaDelimitedSeq, parseListed, parseMarked, parseIdType, parseClosureBinding, parseClosureProperty, afterTriggers, afterLift}
+use Rattle.reading.specs.Arena.{Run, Node, Holds, Kept, Found, Builds, Stopped, neededAt}
+use Rattle.reading.proofs.Laws.{after-ok, after-none, after-refused}
+use Rattle.reading.specs.Code.{Tells, neededIf, universalOf, same, turns}
 
 -- ---- closure properties
 
--- patterns of which one at least was read
-module _ (text : List ℕ) (m : ℕ) (c : Reader (Expr Span)) (rest : ℕ → Answer (Patterns Span)) where
-  abbrev body-needed : Patterns Span → ℕ → Answer (ItemOf properties)
-  body-needed ts at = need at (c at) (λ body at₁. ok (ts, body) at₁)
+-- the body of a property that has triggers, or none
+triggers-ok : (ts : Patterns Span) (at : ℕ) {r : Answer (Expr Span)} {body : Expr Span} {next : ℕ} → r ≡ ok body next → afterTriggers ts at r ≡ ok (ts, body) next
+triggers-ok noPatterns at e = after-ok _ _ e
+triggers-ok (pattern es ts) at e = after-ok _ _ e
 
-  pattern-needed : (es : Exprs Span) (r : Answer (Patterns Span))
-      → after (mapped (pattern es) r) Answer.none (λ ts at. afterTriggers text m c ts at (c at)) ≡ after (mapped (pattern es) r) Answer.none body-needed
-  unfolding after
-  pattern-needed es (ok ts at) = refl
-  pattern-needed es Answer.none = refl
-  pattern-needed es (refused number place) = refl
-
-  patterns-needed : (next : ℕ) (r : Answer (Exprs Span))
-      → after (need next r (λ es at. mapped (pattern es) (rest at))) Answer.none (λ ts at. afterTriggers text m c ts at (c at))
-      ≡ after (need next r (λ es at. mapped (pattern es) (rest at))) Answer.none body-needed
-  unfolding after
-  patterns-needed next (ok es at) = pattern-needed es (rest at)
-  patterns-needed next Answer.none = refl
-  patterns-needed next (refused number place) = refl
-
--- `parseClosureProperty`, by whether `trigger` stands
-module _ (text : List ℕ) (m : ℕ) (c : Reader (Expr Span)) (at : ℕ) where
-  pub property-plain : NoTrigger text at
-      → parseClosureProperty text (suc m) c at ≡ after (c at) Answer.none (λ body at₁. ok (noPatterns, body) at₁)
-  unfolding parseClosureProperty parseMarked after
-  property-plain e = rw e refl
-
-  pub property-refused : {number place : ℕ} → T text "trigger" at ≡ refused number place
-      → parseClosureProperty text (suc m) c at ≡ refused number place
-  unfolding parseClosureProperty parseMarked after
-  property-refused e = rw e refl
-
-  -- triggers that stand: the body must follow
-  pub property-triggered : HasTrigger text at
-      → parseClosureProperty text (suc m) c at
-      ≡ after (parseMarked text (suc m) c (suc m) (bytes "trigger") at) Answer.none (λ ts at₁. need at₁ (c at₁) (λ body at₂. ok (ts, body) at₂))
-  unfolding parseClosureProperty parseMarked after
-  property-triggered (v, next, e) =
-      rw e (patterns-needed text (suc m) c (parseMarked text (suc m) c m (bytes "trigger")) next (parseNonemptyCommaDelimitedSeq text (suc m) exprs c next))
-
--- where the code has read `trigger`
-pub has-trigger : (text : List ℕ) (at least : ℕ) (r : Lexed) → OneOf (0 ∷ []) (tagOf lexed-type r)
-    → Tells (λ v. v) text at least (T text "trigger" at) r → HasTrigger text at
-has-trigger text at least (LexedOk v next) k t = (v, next, t .says)
-has-trigger text at least LexedNone k t = absurd (omega arith)
-has-trigger text at least (LexedRefused number place) k t = absurd (omega arith)
+-- patterns by whether their keyword stands
+patterns-none : (text : List ℕ) (m : ℕ) (c : Reader (Expr Span)) (w : List ℕ) (k at : ℕ) {ts : Patterns Span} {next : ℕ} → keywordAt text w at ≡ Answer.none
+    → parseMarked text m c (suc k) w at ≡ ok ts next → (ts ≡ noPatterns) × (next ≡ at)
+unfolding parseMarked
+patterns-none text m c w k at {ts} {next} e s =
+    let h : ok noPatterns at ≡ ok ts next = sym (after-none _ _ e) ∙ s in
+    (cc, cc)
 
 -- ---- quantifiers and closures
 
@@ -108,11 +75,11 @@ module _ (K : Span → Span → ℕ → Answer (Expr Span)) (start : ℕ) where
   name-needed colon typed Answer.none = refl
   name-needed colon typed (refused number place) = refl
 
-  binding-needed : (text : List ℕ) (m : ℕ)
+  binding-needed : (text : List ℕ)
       → need start (parseName text start) (λ n at₁. need at₁ (Sym text ":" at₁) (λ _ at₂. need at₂ (parseType text at₂) (λ t at₃. K n t at₃)))
-      ≡ need start (parseIdType text m start) bound
+      ≡ need start (parseIdType text start) bound
   unfolding parseIdType
-  binding-needed text m = name-needed (Sym text ":") (parseType text) (parseName text start)
+  binding-needed text = name-needed (Sym text ":") (parseType text) (parseName text start)
 
 -- two ways to go on that agree
 after-same : {A B : Type 0} {go go₁ : A → ℕ → Answer B} (r : Answer A) (stop : Answer B) → ((a : A) (next : ℕ) → go a next ≡ go₁ a next)
@@ -124,10 +91,10 @@ pub lift-bound : (text : List ℕ) (m : ℕ) (c : Reader (Expr Span)) (at : ℕ)
     → afterLift text m c at
     ≡ need at (parseNonemptyCommaDelimitedSeq text m closures (parseClosureBinding text m c) at)
     (λ bs at₁. need at₁ (T text "into" at₁)
-    (λ _ at₂. need at₂ (parseIdType text m at₂)
+    (λ _ at₂. need at₂ (parseIdType text at₂)
     (λ b at₃. need at₃ (T text "by" at₃)
     (λ _ at₄. need at₄ (Sym text "{" at₄)
-    (λ _ at₅. after (parseListed text m properties (parseClosureProperty text m c) (bytes "}") at₅) Answer.none
+    (λ _ at₅. need at₅ (parseListed text m properties (parseClosureProperty text m c) (bytes "}") at₅)
     (λ ps at₆. ok (ClosureExpr bs (nameOf b) (typeOf b) ps) at₆))))))
 unfolding afterLift
 lift-bound text m c at =
@@ -136,11 +103,10 @@ lift-bound text m c at =
     (λ _ at₂. binding-needed
     (λ n t at₃. need at₃ (T text "by" at₃)
     (λ _ at₄. need at₄ (Sym text "{" at₄)
-    (λ _ at₅. after (parseListed text m properties (parseClosureProperty text m c) (bytes "}") at₅) Answer.none
+    (λ _ at₅. need at₅ (parseListed text m properties (parseClosureProperty text m c) (bytes "}") at₅)
     (λ ps at₆. ok (ClosureExpr bs n t ps) at₆))))
-    at₂ text m))
+    at₂ text))
 
 -- the words of a binding, name and type
-pub binding-holds : {arena : List ℕ} {n : ℕ} (b : Binding Span) → Holds arena n (bindingWords same b)
-    → Holds arena n (λ r. nameWords same (nameOf b) (nameWords same (typeOf b) r))
-binding-holds (binding n t) h = h
+pub binding-run : (b : Binding Span) → bindingWords same b ≡ (λ r. nameWords same (nameOf b) (nameWords same (typeOf b) r))
+binding-run (binding n t) = refl

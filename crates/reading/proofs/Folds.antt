@@ -5,11 +5,13 @@ use mathlib.Core.Path.{_≡_, refl, ap, subst}
 use mathlib.Core.List.{List, []}
 use lib.ListN.{length, getD}
 use Rattle.tree.specs.Ast.{Expr, Span}
-use Rattle.reading.specs.Arena.{Holds, Kept}
+use Rattle.lexing.specs.Answer.{Answer, ok}
+use Rattle.reading.specs.Arena.{Holds, Kept, Builds}
 use Rattle.reading.specs.Code.{Layer, unaryLayer, binaryLayer, layered, foldLayers, Links, Folds, Foldable, FoldedAt, LayerNoted}
 use Rattle.grammar.specs.Reading.{treeWords}
-use Rattle.reading.specs.declared.arena.Built.the-variants.{Ok}
-use Rattle.reading.proofs.Laws.{kept-refl, kept-next, node-kept, holds-kept}
+use Rattle.reading.specs.declared.arena.Built.{Built}
+use Rattle.reading.specs.declared.arena.Built.the-variants.{Ok, None, Refused}
+use Rattle.reading.proofs.Laws.{kept-refl, kept-next, node-kept, holds-kept, builds-node}
 
 -- the layers that are left, over the operand e, give the whole tree of ls and t
 pub record Rest (arena : List ℕ) (free link e top : ℕ) (ls : List Layer) (t : Expr Span) : Type 0 where
@@ -133,3 +135,14 @@ module _ {start : List ℕ} {free first last : ℕ} {arena : List ℕ} {e link t
       let n : r .layers ≡ [] = links-none (r .links) z in
       let w : r .tree ≡ foldLayers ls t = subst (λ l. foldLayers l (r .tree) ≡ foldLayers ls t) n (r .whole) in
       (rw w at (r .holds), refl, omega (arith, r .count, ap length n), r .node-below)
+
+-- what `fold` gives, for an answer that has all layers over the last operand
+pub folded-builds : {text before arena later : List ℕ} {from free least at top : ℕ} (ls : List Layer) (e : Expr Span) {answer : Answer (Expr Span)} (r : Built)
+    → answer ≡ ok (foldLayers ls e) at → Kept before arena free → Kept arena later top → FoldedAt later top ls e at r → free ≤ top → from + least ≤ at
+    → at ≤ length text → top + 4 * length ls + 8 * from ≤ free + 8 * at → Builds treeWords text before later from free least 0 answer r
+folded-builds ls e (Ok node next later-top) a p q (h, n, t, b) g o i w =
+    rw a
+    (builds-node (ap (λ next. Ok node next later-top) n) (kept-next g p q) h
+    (record { node-below = b; progress = o; next-inside = i; grows = omega (arith, t); within = omega (arith, t) }))
+folded-builds ls e None a p q f g o i w = absurd f
+folded-builds ls e (Refused number place) a p q f g o i w = absurd f

@@ -12,7 +12,7 @@ use Rattle.lexing.specs.Answer.{Answer, ok, refused}
 use Rattle.lexing.specs.declared.token.Lexed.{Lexed}
 use Rattle.lexing.specs.declared.token.Lexed.the-variants.{Ok as LexedOk, None as LexedNone, Refused as LexedRefused}
 use Rattle.lexing.proofs.token.Lexed.{the-type as lexed-type}
-use Rattle.grammar.specs.Steps.{after, need}
+use Rattle.grammar.specs.Steps.{after, need, mapped}
 use Rattle.reading.specs.Arena.{Run, Node, Holds, Kept, Found, Agrees, Builds, Stopped, neededAt}
 use Rattle.reading.specs.Code.{Took, Tells, Stands, Signs, missingAt, untakenAt}
 use Rattle.reading.specs.declared.arena.Built.{Built}
@@ -73,6 +73,32 @@ module _ {A B : Type 0} (stop : Answer B) (go : A → ℕ → Answer B) {r : Ans
   pub after-refused : {number place : ℕ} → r ≡ refused number place → after r stop go ≡ refused number place
   unfolding after
   after-refused e = ap (λ r. after r stop go) e
+
+-- `.M(f)`: of the identity, twice, after a needed step, and of the answers
+pub mapped-same : {A : Type 0} (r : Answer A) → mapped (λ a. a) r ≡ r
+unfolding after
+mapped-same (ok a next) = refl
+mapped-same Answer.none = refl
+mapped-same (refused number place) = refl
+
+pub mapped-twice : {A B C : Type 0} (f : A → B) (g : B → C) (r : Answer A) → mapped g (mapped f r) ≡ mapped (λ a. g (f a)) r
+unfolding after
+mapped-twice f g (ok a next) = refl
+mapped-twice f g Answer.none = refl
+mapped-twice f g (refused number place) = refl
+
+pub mapped-need : {A B C : Type 0} (f : B → C) (at : ℕ) (r : Answer A) (go : A → ℕ → Answer B)
+    → mapped f (need at r go) ≡ need at r (λ a next. mapped f (go a next))
+unfolding after
+mapped-need f at (ok a next) go = refl
+mapped-need f at Answer.none go = refl
+mapped-need f at (refused number place) go = refl
+
+pub mapped-ok : {A B : Type 0} (f : A → B) {r : Answer A} {a : A} {n : ℕ} → r ≡ ok a n → mapped f r ≡ ok (f a) n
+mapped-ok f e = after-ok _ _ e
+
+pub mapped-refused : {A B : Type 0} (f : A → B) {r : Answer A} {number place : ℕ} → r ≡ refused number place → mapped f r ≡ refused number place
+mapped-refused f e = after-refused _ _ e
 
 -- ---- answers of the code that are `Ok`
 
@@ -163,13 +189,16 @@ pub record Absent {A : Type 0} (f : ℕ → A) (text : List ℕ) (at least : ℕ
   pub tells : Tells f text at least answer r
   pub not-ok : OneOf (1 ∷ 2 ∷ []) (tagOf lexed-type r)
 
+pub absent-ok : {A : Type 0} {f : ℕ → A} {text : List ℕ} {at least : ℕ} {answer : Answer A} {v n : ℕ} → Absent f text at least answer (LexedOk v n) → ⊥
+absent-ok a = neither (a .not-ok)
+  where
+    neither : (_≡_ {A = ℕ} 0 1) ⊎ (_≡_ {A = ℕ} 0 2) → ⊥
+    neither (inl e) = omega arith
+    neither (inr e) = omega arith
+
 pub token-stopped : {A : Type 0} {f : ℕ → A} {text : List ℕ} {at least : ℕ} {answer : Answer A} (r : Lexed)
     → Absent f text at least answer r → Stopped answer (untakenAt r)
-token-stopped (LexedOk v n) a = absurd (go (a .not-ok))
-  where
-    go : (_≡_ {A = ℕ} 0 1) ⊎ (_≡_ {A = ℕ} 0 2) → ⊥
-    go (inl e) = omega arith
-    go (inr e) = omega arith
+token-stopped (LexedOk v n) a = absurd (absent-ok a)
 token-stopped LexedNone a = a .tells
 token-stopped (LexedRefused number place) a = a .tells
 

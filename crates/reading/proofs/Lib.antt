@@ -1,16 +1,15 @@
 -- What the proofs of several functions cite.
 pub mod Laws
 pub mod Rooms
-pub mod Nodes
-pub mod Tokens
-pub mod Signs
 pub mod Folds
 pub mod Branches
-pub mod Chains
+pub mod LeftChains
+pub mod RightChains
+pub mod UnaryChains
 pub mod Sequences
 pub mod Closures
 pub mod Identifiers
-pub mod FlatWords
-pub mod FlatFrames
-pub mod FlatWalk
-pub mod EntryAnswers
+pub mod Reached
+pub mod ChainPlaces
+pub mod Closing
+pub mod Properties

@@ -1,16 +1,20 @@
 -- Room for the next step of a rule, and an operand that a chain begins with.
 use Prim.Native.Nat.{ℕ, _+_, _*_, _≤_, _<_}
 use native.Mathlib.Omega.{arith}
-use mathlib.Core.Path.{_≡_, _∙_}
+use mathlib.Core.Path.{_≡_}
 use mathlib.Core.List.{List, _∷_}
 use lib.ListN.{length}
 use Rattle.lexing.specs.Answer.{Answer}
 use Rattle.tree.specs.Ast.{Expr, Span}
 use Rattle.grammar.specs.Steps.{Reader}
-use Rattle.reading.specs.Arena.{Run, Room, Kept, Found, Holds}
+use Rattle.reading.specs.Arena.{Run, Based, Room, Kept, Found, Holds}
 use Rattle.reading.specs.Code.{Begun, Choice, Four}
 use Rattle.grammar.specs.Reading.{treeWords}
-use Rattle.reading.proofs.Laws.{holds-kept}
+use Rattle.reading.proofs.Laws.{node-kept, holds-kept}
+
+-- the first nodes stay
+pub based-kept : {arena later : List ℕ} {top : ℕ} → Kept arena later top → 8 ≤ top → Based arena → Based later
+based-kept k l b = record { empty-run = node-kept k (omega arith) (b .empty-run); end-run = node-kept k l (b .end-run) }
 
 pub room-on : {text arena later : List ℕ} {at top credit at₁ top₁ credit₁ : ℕ} → Room text arena at top credit → Kept arena later top → top ≤ top₁
     → at₁ ≤ length text → top₁ + credit₁ + 8 * at ≤ top + credit + 8 * at₁ → Room text later at₁ top₁ credit₁
@@ -19,9 +23,9 @@ room-on m k g i w =
       short = m .short;
       small = omega (arith, m .small, k .length-kept);
       inside = i;
-      based = omega (arith, m .based);
+      above = omega (arith, m .above);
       room = omega (arith, m .room, k .length-kept);
-      empty-run = k .below 0 (omega (arith, m .based)) ∙ m .empty-run;
+      based = based-kept k (m .above) (m .based);
     }
 
 pub begun : {rule : Reader (Expr Span)} {text arena : List ℕ} {at top least credit node next free : ℕ}

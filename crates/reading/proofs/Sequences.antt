@@ -1,36 +1,37 @@
--- Sequences that commas part and patterns: a list with the sign that closes it, and the loops that gather items.
+-- Sequences that commas part and patterns: a list with the sign that closes it, and the loops of `items` and `marks`.
 use Prim.Native.Nat.{ℕ, zero, suc, _+_, _*_, _≤_, _<_}
-use native.Mathlib.Nat.{le-of-eq}
 use native.Mathlib.Omega.{arith}
 use mathlib.Core.Path.{_≡_, refl, sym, ap, subst, fun-ext, _∙_}
 use mathlib.Core.List.{List, [], _∷_}
 use mathlib.Core.Logic.{_⊎_, inl, inr}
-use lib.ListN.{length, getD}
+use lib.ListN.{length}
 use types.Run.{OneOf}
 use denote.Enum.Declared.{tagOf}
 use Rattle.lexing.specs.Answer.{Answer, ok, refused}
 use Rattle.tree.specs.Ast.{Span, Expr, noPatterns, pattern}
 use Rattle.tree.specs.Words.{exprsWords, patternsWords}
 use Rattle.grammar.specs.Steps.{Reader, after, need, mapped, Sym, signAt, keywordAt}
-use Rattle.grammar.specs.Rules.{Sequence, exprs, bindings, closures, properties, ItemOf, ListOf, nil, cons, commaTail, parseNonemptyCommaDelimitedSeq, parseCommaDelimitedSeq, parseListed, parseMarked}
-use Rattle.reading.specs.Arena.{Run, Node, Holds, Kept, Noted, Found, Builds, neededAt}
-use Rattle.reading.specs.Code.{endCredit, Shuts, listWords, itemWords, same, turns}
+use Rattle.grammar.specs.Rules.{Sequence, exprs, commaTail, parseNonemptyCommaDelimitedSeq, parseCommaDelimitedSeq, parseListed, parseMarked}
+use Rattle.reading.specs.Arena.{Run, Node, Holds, Kept, Noted, Based, Found, Builds, neededAt}
+use Rattle.reading.specs.Code.{ItemOf, ListOf, sequenceOf, Shuts, Ended, Closes, listWords, itemWords, same, turns}
 use Rattle.reading.specs.declared.arena.Built.{Built}
+use Rattle.reading.specs.declared.rules.seq.Kind.{Kind}
+use Rattle.reading.specs.declared.rules.seq.Kind.the-variants.{Exprs as ExprItems, Bindings as BindingItems, Closures as ClosureItems, Properties as PropertyItems}
 use Rattle.reading.specs.declared.arena.Built.the-variants.{Ok, None, Refused}
 use Rattle.reading.proofs.arena.Built.{the-type as built-type}
-use Rattle.reading.proofs.Laws.{Bounds, found, kept-refl, kept-trans, kept-next, holds-kept, after-ok, after-none, after-refused, builds-node, rule-needed}
+use Rattle.reading.proofs.Laws.{kept-refl, kept-trans, kept-next, node-kept, holds-kept, after-ok, after-none, after-refused, mapped-same, mapped-twice, mapped-need, builds-node, rule-needed}
 
 -- ---- a list and the sign that closes it
 
 -- `parseListed`, by the answer of the list without its end
-module _ (text : List ℕ) (m : ℕ) (q : Sequence) (item : Reader (ItemOf q)) (close : List ℕ) (at : ℕ) where
-  pub listed-some : {l : ListOf q} {next : ℕ} → parseNonemptyCommaDelimitedSeq text m q item at ≡ ok l next
+module _ {A L : Type 0} (text : List ℕ) (m : ℕ) (q : Sequence A L) (item : Reader A) (close : List ℕ) (at : ℕ) where
+  pub listed-some : {l : L} {next : ℕ} → parseNonemptyCommaDelimitedSeq text m q item at ≡ ok l next
       → parseListed text m q item close at ≡ need next (signAt text close next) (λ _ at₁. ok l at₁)
   unfolding parseListed parseCommaDelimitedSeq after
   listed-some e = rw e refl
 
   pub listed-none : parseNonemptyCommaDelimitedSeq text m q item at ≡ Answer.none
-      → parseListed text m q item close at ≡ need at (signAt text close at) (λ _ at₁. ok (nil q) at₁)
+      → parseListed text m q item close at ≡ need at (signAt text close at) (λ _ at₁. ok (q .nil) at₁)
   unfolding parseListed parseCommaDelimitedSeq after
   listed-none e = rw e refl
 
@@ -40,14 +41,14 @@ module _ (text : List ℕ) (m : ℕ) (q : Sequence) (item : Reader (ItemOf q)) (
   listed-refused e = rw e refl
 
 -- the words of no items
-nil-words : (q : Sequence) (r : List ℕ) → listWords q (nil q) r ≡ 0 ∷ r
-nil-words exprs r = refl
-nil-words bindings r = refl
-nil-words closures r = refl
-nil-words properties r = refl
+nil-words : (k : Kind) (r : List ℕ) → listWords k (sequenceOf k .nil) r ≡ 0 ∷ r
+nil-words ExprItems r = refl
+nil-words BindingItems r = refl
+nil-words ClosureItems r = refl
+nil-words PropertyItems r = refl
 
-pub nil-holds : (q : Sequence) {arena : List ℕ} {n y z : ℕ} → Node arena n 1 0 y z → Holds arena n (listWords q (nil q))
-nil-holds q {arena} {n} o = subst (Holds arena n) (sym (fun-ext (nil-words q))) (Holds.one o)
+pub nil-holds : (k : Kind) {arena : List ℕ} → Based arena → Holds arena 4 (listWords k (sequenceOf k .nil))
+nil-holds k {arena} b = subst (Holds arena 4) (sym (fun-ext (nil-words k))) (Holds.one (b .end-run))
 
 -- a needed step that is refused, whatever follows it
 need-refused : {A B : Type 0} (at : ℕ) (v : B) (r : Answer A) {number place : ℕ} → need at r (λ x next. ok x next) ≡ refused number place
@@ -90,16 +91,16 @@ pub record Repetition {A L : Type 0} (mark : Reader ℕ) (item : Reader A) (put 
   pub end-words : (r : List ℕ) → words end r ≡ 0 ∷ r
 
 -- the words of an item before others
-cons-words : (q : Sequence) (a : ItemOf q) (l : ListOf q) (r : List ℕ) → listWords q (cons q a l) r ≡ 1 ∷ itemWords q a (listWords q l r)
-cons-words exprs a l r = refl
-cons-words bindings a l r = refl
-cons-words closures a l r = refl
-cons-words properties a l r = refl
+cons-words : (k : Kind) (a : ItemOf k) (l : ListOf k) (r : List ℕ) → listWords k (sequenceOf k .cons a l) r ≡ 1 ∷ itemWords k a (listWords k l r)
+cons-words ExprItems a l r = refl
+cons-words BindingItems a l r = refl
+cons-words ClosureItems a l r = refl
+cons-words PropertyItems a l r = refl
 
-pub comma-repetition : (text : List ℕ) (m : ℕ) (q : Sequence) (item : Reader (ItemOf q))
-    → Repetition (Sym text ",") item (cons q) (nil q) (λ k. commaTail text m q k item) (itemWords q) (listWords q)
+pub comma-repetition : (text : List ℕ) (k : Kind) (item : Reader (ItemOf k))
+    → Repetition (Sym text ",") item (sequenceOf k .cons) (sequenceOf k .nil) (λ n. commaTail text (sequenceOf k) n item) (itemWords k) (listWords k)
 unfolding commaTail
-comma-repetition text m q item = record { step = λ k at. refl; put-words = cons-words q; end-words = nil-words q }
+comma-repetition text k item = record { step = λ n at. refl; put-words = cons-words k; end-words = nil-words k }
 
 pub marked-repetition : (text : List ℕ) (m : ℕ) (c : Reader (Expr Span)) (w : List ℕ)
     → Repetition (keywordAt text w) (parseNonemptyCommaDelimitedSeq text m exprs c) pattern noPatterns (λ k. parseMarked text m c k w) (exprsWords same)
@@ -113,39 +114,21 @@ pub record Gathered {L : Type 0} (words : L → Run) (arena : List ℕ) (list to
   pub more : L → L
   pub holds : Holds arena list run
   pub below : list + 4 ≤ top
+  pub bare : list ≡ 0 → run ≡ (λ r. r)
   pub joins : (l : L) (r : List ℕ) → run (words l r) ≡ words (more l) r
   pub says : whole ≡ mapped more rest
 
--- `.M(f)`: of the identity, twice, and over a needed step
-mapped-same : {A : Type 0} (r : Answer A) → r ≡ mapped (λ a. a) r
-unfolding after
-mapped-same (ok a next) = refl
-mapped-same Answer.none = refl
-mapped-same (refused number place) = refl
-
-mapped-twice : {A : Type 0} (f g : A → A) (r : Answer A) → mapped f (mapped g r) ≡ mapped (λ a. f (g a)) r
-unfolding after
-mapped-twice f g (ok a next) = refl
-mapped-twice f g Answer.none = refl
-mapped-twice f g (refused number place) = refl
-
-mapped-need : {A B : Type 0} (f : B → B) (at : ℕ) (r : Answer A) (go : A → ℕ → Answer B)
-    → mapped f (need at r go) ≡ need at r (λ a next. mapped f (go a next))
-unfolding after
-mapped-need f at (ok a next) go = refl
-mapped-need f at Answer.none go = refl
-mapped-need f at (refused number place) go = refl
-
 -- no item yet: the empty run
-gathered-none : {L : Type 0} {words : L → Run} {arena : List ℕ} {top : ℕ} {whole : Answer L} → getD arena 0 0 ≡ 0 → 4 ≤ top → Gathered words arena 0 top whole whole
+gathered-none : {L : Type 0} {words : L → Run} {arena : List ℕ} {top : ℕ} {whole : Answer L} → Based arena → 8 ≤ top → Gathered words arena 0 top whole whole
 gathered-none {whole} e b =
     record {
       run = λ r. r;
       more = λ l. l;
-      holds = Holds.empty (record { tagged = e; first = refl; second = refl; third = refl });
-      below = b;
+      holds = Holds.empty (e .empty-run);
+      below = omega arith;
+      bare = λ _. refl;
       joins = λ l r. refl;
-      says = mapped-same whole;
+      says = sym (mapped-same whole);
     }
 
 -- one item more
@@ -160,8 +143,9 @@ gathered-item {rest₁} {each} put g p w k t h b o =
           Holds.item (o .node) (omega (arith, g .below)) b (holds-kept (o .kept) (omega (arith, g .below)) (holds-kept k (g .below) (g .holds)))
           (holds-kept (o .kept) b h);
       below = omega arith;
+      bare = λ z. absurd (omega (arith, g .below));
       joins = λ l r. ap (g .run) (sym (w l r)) ∙ g .joins (put l) r;
-      says = g .says ∙ ap (mapped (g .more)) p ∙ mapped-twice (g .more) put rest₁;
+      says = g .says ∙ ap (mapped (g .more)) p ∙ mapped-twice put (g .more) rest₁;
     }
 
 -- where a turn of the loop begins, at `at` and `top`, with more turns left than bytes
@@ -177,13 +161,13 @@ pub record Gathering {L : Type 0} (words : L → Run) (text : List ℕ) (whole :
 module _ {A L : Type 0} {mark : Reader ℕ} {item : Reader A} {put : A → L → L} {end : L} {rest : ℕ → Reader L} {each : A → Run} {words : L → Run}
     (o : Repetition mark item put end rest each words) {text : List ℕ} where
   -- before the first turn: nothing was read
-  pub gathering-none : {arena : List ℕ} {start free : ℕ} (left : ℕ) → getD arena 0 0 ≡ 0 → 4 ≤ free → length text ≤ start + left → start ≤ length text
+  pub gathering-none : {arena : List ℕ} {start free : ℕ} (left : ℕ) → Based arena → 8 ≤ free → length text ≤ start + left → start ≤ length text
       → Gathering words text (rest (suc left) start) rest arena free arena 0 start free
   gathering-none left z b l i =
       record { kept = kept-refl; left = left; enough = l; gathered = gathered-none z b; inside = i; above = omega arith }
 
   -- or one item was
-  pub gathering-one : {whole : Answer L} {arena later last : List ℕ} {from free e top : ℕ} (left : ℕ) (a : A) → getD arena 0 0 ≡ 0 → 4 ≤ free
+  pub gathering-one : {whole : Answer L} {arena later last : List ℕ} {from free e top : ℕ} (left : ℕ) (a : A) → Based arena → 8 ≤ free
       → whole ≡ mapped (put a) (rest (suc left) from) → length text ≤ from + left → from ≤ length text → Kept arena later free → Holds later e (each a)
       → e + 4 ≤ top → free ≤ top → Noted later last top 7 0 0 e → Gathering words text whole rest last free last top from (top + 4)
   gathering-one left a z b e l i k h d t n =
@@ -220,18 +204,42 @@ module _ {A L : Type 0} {mark : Reader ℕ} {item : Reader A} {put : A → L →
             }
 
     -- no mark: the list ends
-    pub gathering-end : {start least credit : ℕ} {before last : List ℕ} {z : ℕ} {b : Built} → mark at ≡ Answer.none → Kept before first free
-        → b ≡ Ok top at (top + 4) → Noted arena last top 9 0 list z → Bounds text start free least credit top at (top + 4)
-        → Builds words text before last start free least credit whole b
-    gathering-end {last} m k e n w =
-        let more = g .gathered .more in
-        let says : whole ≡ ok (more end) at =
-        g .gathered .says ∙ ap (mapped more) (o .step (g .left) at ∙ after-none _ _ m) ∙ after-ok _ _ refl in
-        let same : (λ r. g .gathered .run (0 ∷ r)) ≡ words (more end) =
-        fun-ext (λ r. ap (g .gathered .run) (sym (o .end-words r)) ∙ g .gathered .joins end r) in
-        rw says
-        (builds-node e (kept-trans k (kept-next (g .above) (g .kept) (n .kept)))
-        (subst (Holds last top) same (Holds.closed (n .node) (g .gathered .below) (holds-kept (n .kept) (g .gathered .below) (g .gathered .holds)))) w)
+    gathered-end : mark at ≡ Answer.none → whole ≡ ok (g .gathered .more end) at
+    gathered-end m = g .gathered .says ∙ ap (mapped (g .gathered .more)) (o .step (g .left) at ∙ after-none _ _ m) ∙ after-ok _ _ refl
+
+    end-run : (λ r. g .gathered .run (0 ∷ r)) ≡ words (g .gathered .more end)
+    end-run = fun-ext (λ r. ap (g .gathered .run) (sym (o .end-words r)) ∙ g .gathered .joins end r)
+
+    end-holds : {last : List ℕ} {node n free₁ : ℕ} → Based arena → 8 ≤ top → Ended arena last top list at node n free₁
+        → (Holds last node (words (g .gathered .more end))) × (node + 4 ≤ free₁) × (top ≤ free₁)
+    end-holds {last} {node} {n} {free₁} b l h = by-list list refl
+      where
+        by-list : (k : ℕ) → list ≡ k → (Holds last node (words (g .gathered .more end))) × (node + 4 ≤ free₁) × (top ≤ free₁)
+        by-list zero z =
+            let (x, y) = h .empty z in
+            let same : (λ r. 0 ∷ r) ≡ words (g .gathered .more end) = ap (λ f r. f (0 ∷ r)) (sym (g .gathered .bare z)) ∙ end-run in
+            let stands : Holds last 4 (λ r. 0 ∷ r) = Holds.one (node-kept (h .kept) l (b .end-run)) in
+            (rw x (subst (Holds last 4) same stands), omega arith, omega arith)
+        by-list (suc k) z =
+            let (x, y, q) = h .some (λ e. absurd (omega arith)) in
+            let stands : Holds last top (λ r. g .gathered .run (0 ∷ r)) =
+            Holds.closed q (g .gathered .below) (holds-kept (h .kept) (g .gathered .below) (g .gathered .holds)) in
+            (rw x (subst (Holds last top) end-run stands), omega arith, omega arith)
+
+    pub gathering-end : {start least credit : ℕ} {before last : List ℕ} (b : Built) → mark at ≡ Answer.none → Kept before first free → Based arena
+        → 8 ≤ top → Closes arena last top list at b → start + least ≤ at → (list ≡ 0 → top + 8 * start ≤ free + 8 * at + credit)
+        → ((list ≡ 0 → ⊥) → top + 4 + 8 * start ≤ free + 8 * at + credit) → Builds words text before last start free least credit whole b
+    gathering-end {start} {least} {credit} {before} {last} (Ok node n free₁) m k z l h p e f =
+        let (stands, below, above) = end-holds z l h in
+        rw (gathered-end m)
+        (builds-node (ap (λ n. Ok node n free₁) (h .place)) (kept-trans k (kept-next (g .above) (g .kept) (h .kept))) stands
+        (record { node-below = below; progress = p; next-inside = g .inside; grows = omega (arith, g .above); within = by-list list refl }))
+      where
+        by-list : (i : ℕ) → list ≡ i → free₁ + 8 * start ≤ free + 8 * at + credit
+        by-list zero z = omega (arith, h .empty z .1, e z)
+        by-list (suc i) z = let n : (list ≡ 0 → ⊥) = λ e. absurd (omega arith) in omega (arith, h .some n, f n)
+    gathering-end None m k z l h p e f = absurd h
+    gathering-end (Refused number place) m k z l h p e f = absurd h
 
     pub gathering-refused : {start least credit : ℕ} {before : List ℕ} {number place : ℕ} → mark at ≡ refused number place → Kept before first free
         → Builds words text before arena start free least credit whole (Refused number place)
@@ -250,87 +258,25 @@ module _ {A L : Type 0} {mark : Reader ℕ} {item : Reader A} {put : A → L →
         (g .gathered .says ∙ ap (mapped (g .gathered .more)) (marked-turn m) ∙ mapped-need (g .gathered .more) next (item next) _)
         (rule-needed _ (kept-trans k (kept-next (g .above) (g .kept) (i .kept))) r t next i e)
 
--- a turn of `nonempty`: one item at least was read from `start` on
-pub record Listing (text : List ℕ) (q : Sequence) (item : Reader (ItemOf q)) (start : ℕ) (first : List ℕ) (free : ℕ) (arena : List ℕ) (list at top : ℕ)
+-- a turn of `items`: one item at least was read from `start` on
+pub record Listing (text : List ℕ) (k : Kind) (item : Reader (ItemOf k)) (start : ℕ) (first : List ℕ) (free : ℕ) (arena : List ℕ) (list at top : ℕ)
     : Type 0 where
-  pub gathering : Gathering (listWords q) text (parseNonemptyCommaDelimitedSeq text (turns text) q item start) (λ k. commaTail text (turns text) q k item) first
+  pub gathering : Gathering (listWords k) text (parseNonemptyCommaDelimitedSeq text (turns text) (sequenceOf k) item start) (λ n. commaTail text (sequenceOf k) n item) first
       free arena list at top
   pub forward : start + 1 ≤ at
   pub within : top + 8 * start ≤ free + 8 * at + 8
 
 -- after the first item
-pub nonempty-some : (text : List ℕ) (m : ℕ) (q : Sequence) (item : Reader (ItemOf q)) (at : ℕ) {a : ItemOf q} {next : ℕ} → item at ≡ ok a next
-    → parseNonemptyCommaDelimitedSeq text m q item at ≡ mapped (cons q a) (commaTail text m q m item next)
+pub nonempty-some : {A L : Type 0} (text : List ℕ) (m : ℕ) (q : Sequence A L) (item : Reader A) (at : ℕ) {a : A} {next : ℕ} → item at ≡ ok a next
+    → parseNonemptyCommaDelimitedSeq text m q item at ≡ mapped (q .cons a) (commaTail text q m item next)
 unfolding parseNonemptyCommaDelimitedSeq
 nonempty-some text m q item at e = after-ok _ _ e
 
--- ---- patterns
-
--- fewer words than allowed
-found-credit : {A : Type 0} {words : A → Run} {text arena : List ℕ} {at top least credit credit₁ node next later : ℕ} {answer : Answer A}
-    → credit ≤ credit₁ → Found words text arena at top least credit answer node next later
-    → Found words text arena at top least credit₁ answer node next later
-found-credit l f =
-    record {
-      value = f .value;
-      says = f .says;
-      holds = f .holds;
-      node-below = f .node-below;
-      progress = f .progress;
-      next-inside = f .next-inside;
-      grows = f .grows;
-      within = omega arith;
-    }
-
--- the bounds of `endCredit`
-end-credit-some : {v next : ℕ} (r : Answer ℕ) → r ≡ ok v next → endCredit r ≡ 0
-unfolding endCredit
-end-credit-some r e = rw e refl
-
-end-credit-none : (r : Answer ℕ) → r ≡ Answer.none → endCredit r ≡ 4
-unfolding endCredit
-end-credit-none r e = rw e refl
-
-end-credit : (r : Answer ℕ) → endCredit r ≤ 4
-unfolding endCredit
-end-credit (ok v next) = omega arith
-end-credit Answer.none = omega arith
-end-credit (refused number place) = omega arith
-
--- patterns that were read use four words more at most, and none where their keyword stands
-pub patterns-found : {A : Type 0} {words : A → Run} {text arena later : List ℕ} {at top least : ℕ} {answer : Answer A} {r : Built} {n next free : ℕ}
-    (a : Answer ℕ) → r ≡ Ok n next free → Builds words text arena later at top least (endCredit a) answer r → Found words text later at top least 4 answer n next free
-patterns-found a e b = found-credit (end-credit a) (found e b)
-
-pub patterns-found-some : {A : Type 0} {words : A → Run} {text arena later : List ℕ} {at top least : ℕ} {answer : Answer A} {r : Built} {n next free v m : ℕ}
-    (a : Answer ℕ) → a ≡ ok v m → r ≡ Ok n next free → Builds words text arena later at top least (endCredit a) answer r
-    → Found words text later at top least 0 answer n next free
-patterns-found-some a k e b = found-credit (le-of-eq (end-credit-some a k)) (found e b)
-
--- a turn of `marked`: nothing was read from `start` on, or patterns, which leave room for their end
+-- a turn of `marks`: nothing was read from `start` on, or patterns, which leave room for their end
 pub record Marking (text : List ℕ) (c : Reader (Expr Span)) (w : List ℕ) (start : ℕ) (first : List ℕ) (free : ℕ) (arena : List ℕ) (list at top : ℕ)
     : Type 0 where
   pub gathering : Gathering (patternsWords same) text (parseMarked text (turns text) c (turns text) w start) (λ k. parseMarked text (turns text) c k w) first
       free arena list at top
   pub forward : start ≤ at
   pub within : top + 8 * start ≤ free + 8 * at
-  pub begun : (at ≡ start) ⊎ (top + 4 + 8 * start ≤ free + 8 * at)
-
-pub marking-end : {text : List ℕ} {c : Reader (Expr Span)} {w : List ℕ} {start : ℕ} {first : List ℕ} {free : ℕ} {arena : List ℕ} {list at top : ℕ}
-    → Marking text c w start first free arena list at top → keywordAt text w at ≡ Answer.none
-    → Bounds text start free 0 (endCredit (keywordAt text w start)) top at (top + 4)
-marking-end {text} {w} {start} {free} {at} {top} o e = go (o .begun)
-  where
-    ends : top + 4 + 8 * start ≤ free + 8 * at + endCredit (keywordAt text w start) → Bounds text start free 0 (endCredit (keywordAt text w start)) top at (top + 4)
-    ends l =
-        record {
-          node-below = omega arith;
-          progress = omega (arith, o .forward);
-          next-inside = o .gathering .inside;
-          grows = omega (arith, o .gathering .above);
-          within = omega arith;
-        }
-
-    go : (at ≡ start) ⊎ (top + 4 + 8 * start ≤ free + 8 * at) → Bounds text start free 0 (endCredit (keywordAt text w start)) top at (top + 4)
-    go (inl s) = ends (omega (arith, o .within, s, end-credit-none (keywordAt text w start) (rw s at e)))
-    go (inr l) = ends (omega arith)
+  pub begun : (list ≡ 0 → ⊥) → top + 4 + 8 * start ≤ free + 8 * at

@@ -5,6 +5,7 @@ use mathlib.Core.Path.{_≡_}
 use mathlib.Core.List.{List, [], _∷_}
 use lib.ListN.{length, getD}
 use Rattle.lexing.specs.Answer.{Answer, ok, refused}
+use Rattle.tree.specs.Limits.{mostText}
 use Rattle.reading.specs.declared.arena.Built.{Built}
 use Rattle.reading.specs.declared.arena.Built.the-variants.{Ok, None, Refused}
 
@@ -45,15 +46,19 @@ pub record Noted (arena later : List ℕ) (top tag x y z : ℕ) : Type 0 where
   pub kept : Kept arena later top
   pub node : Node later top tag x y z
 
--- what a rule needs to read from `at` on, with its nodes from `top` on: eight words for each byte that is left and `credit` more, and the
--- empty run at 0
+-- the first nodes: the empty run at 0, and the word 0 at 4, which is an empty sequence
+pub record Based (arena : List ℕ) : Type 0 where
+  pub empty-run : Node arena 0 0 0 0 0
+  pub end-run : Node arena 4 1 0 0 0
+
+-- what a rule needs to read from `at` on, with its nodes from `top` on: eight words for each byte that is left and `credit` more
 pub record Room (text arena : List ℕ) (at top credit : ℕ) : Type 0 where
-  pub short : length text ≤ 32768
+  pub short : length text ≤ mostText
   pub small : length arena ≤ 400000
   pub inside : at ≤ length text
-  pub based : 4 ≤ top
+  pub above : 8 ≤ top
   pub room : top + credit + 8 * length text ≤ length arena + 8 * at
-  pub empty-run : getD arena 0 0 ≡ 0
+  pub based : Based arena
 
 -- a node for the value of an answer. At least `least` bytes were kept, and eight words for each of them and `credit` more were used at most
 pub record Found {A : Type 0} (words : A → Run) (text arena : List ℕ) (at top least credit : ℕ) (answer : Answer A) (node next later : ℕ) : Type 0 where

@@ -9,23 +9,24 @@ use lib.Dec.{eqb}
 use Rattle.lexing.specs.Answer.{Answer, ok, refused}
 use Rattle.lexing.specs.declared.token.Lexed.{Lexed}
 use Rattle.lexing.specs.declared.token.Lexed.the-variants.{Ok as LexedOk, None as LexedNone, Refused as LexedRefused}
-use Rattle.tree.specs.Ast.{Span, Expr, ILiteral, Operator, OperatorExpr, noExprs, _then_, Patterns, Binding}
+use Rattle.tree.specs.Ast.{Span, Expr, BLiteral, ILiteral, Operator, OperatorExpr, noExprs, _then_, Patterns, Binding, Exprs, ClosureBindings, ClosureProperties}
 use Rattle.tree.specs.Words.{operatorWord, exprWords, exprsWords, patternsWords, closureBindingsWords, closurePropertiesWords, nameWords, bindingWords, seqWords, optionWords}
 use Rattle.grammar.specs.Grammar.{Build, straight, swapped, single, Class, product, sum, comparison, conjunction, disjunction, implication, explication, equivalence}
 use Rattle.grammar.specs.Steps.{Reader, after, need, mapped, _or_, Sym, T, signAt, parseName, parseNat}
-use Rattle.grammar.specs.Rules.{Sequence, exprs, bindings, closures, properties, ItemOf, ListOf, leftTail, rightTail, equivOperator, impliesOperator, expliesOperator, andOperator, orOperator, parseComparisonOperator, termOperator, factorOperator, parseIdType, parseClosureBinding, parseClosureProperty, parseUnaryExpr, parseFactorExpr, parseTermExpr, parseJuctExpr, parseLogicalExpr, parseImpExpExpr, parseExpr, afterParen, afterBar}
+use Rattle.grammar.specs.Rules.{Sequence, exprs, bindings, closures, properties, ClosureItem, PropertyItem, leftTail, rightTail, equivOperator, impliesOperator, expliesOperator, andOperator, orOperator, parseComparisonOperator, termOperator, factorOperator, parseIdType, parseClosureBinding, parseClosureProperty, parseUnaryExpr, parseFactorExpr, parseTermExpr, parseJuctExpr, parseLogicalExpr, parseImpExpExpr, parseExpr, afterParen, afterBar, afterOld}
 use Rattle.grammar.specs.Reading.{Outcome, words, refusal, treeWords}
-use Rattle.reading.specs.Arena.{Run, Node, Holds, Kept, Builds}
+use Rattle.reading.specs.Arena.{Run, Node, Holds, Kept, Builds, neededAt}
 use Rattle.reading.specs.declared.arena.Built.{Built}
 use Rattle.reading.specs.declared.arena.Built.the-variants.{Ok, None, Refused}
 use Rattle.reading.specs.declared.sign.Sign.{Sign}
 use Rattle.reading.specs.declared.sign.Sign.the-variants.{Found as SignFound, None as SignNone, Refused as SignRefused}
 use Rattle.reading.specs.declared.sign.Level.{Level}
 use Rattle.reading.specs.declared.sign.Level.the-variants.{Product, Sum, Comparison, Conjunction, Disjunction, Implication, Explication, Equivalence}
+use Rattle.reading.specs.declared.step.Word.{Word}
 use Rattle.reading.specs.declared.entry.Reading.{Reading}
 use Rattle.reading.specs.declared.entry.Reading.the-variants.{Words as ReadWords, Refused as ReadRefused}
-use Rattle.reading.specs.declared.rules.Items.{Items}
-use Rattle.reading.specs.declared.rules.Items.the-variants.{Exprs as ExprItems, Bindings as BindingItems, Closures as ClosureItems, Properties as PropertyItems}
+use Rattle.reading.specs.declared.rules.seq.Kind.{Kind}
+use Rattle.reading.specs.declared.rules.seq.Kind.the-variants.{Exprs as ExprItems, Bindings as BindingItems, Closures as ClosureItems, Properties as PropertyItems}
 
 -- ---- tokens
 
@@ -60,6 +61,12 @@ abbrev pub missingAt : ℕ → Lexed → Built
 missingAt at (LexedOk v next) = Refused 2 at
 missingAt at LexedNone = Refused 2 at
 missingAt at (LexedRefused number place) = Refused number place
+
+-- a rule that must follow where the token before it stands
+abbrev pub neededIf : Lexed → ℕ → Built → Built
+neededIf (LexedOk v next) at r = neededAt at r
+neededIf LexedNone at r = r
+neededIf (LexedRefused number place) at r = r
 
 abbrev pub untakenAt : Lexed → Built
 untakenAt (LexedOk v next) = None
@@ -117,7 +124,20 @@ classOf Implication = implication
 classOf Explication = explication
 classOf Equivalence = equivalence
 
-abbrev pub sequenceOf : Items → Sequence
+-- the items of a kind, and their sequence
+abbrev pub ItemOf : Kind → Type 0
+ItemOf ExprItems = Expr Span
+ItemOf BindingItems = Binding Span
+ItemOf ClosureItems = ClosureItem
+ItemOf PropertyItems = PropertyItem
+
+abbrev pub ListOf : Kind → Type 0
+ListOf ExprItems = Exprs Span
+ListOf BindingItems = List (Binding Span)
+ListOf ClosureItems = ClosureBindings Span
+ListOf PropertyItems = ClosureProperties Span
+
+abbrev pub sequenceOf : (k : Kind) → Sequence (ItemOf k) (ListOf k)
 sequenceOf ExprItems = exprs
 sequenceOf BindingItems = bindings
 sequenceOf ClosureItems = closures
@@ -127,17 +147,23 @@ sequenceOf PropertyItems = properties
 abbrev pub same : Span → Span
 same s = s
 
-abbrev pub itemWords : (q : Sequence) → ItemOf q → Run
-itemWords exprs = exprWords same
-itemWords bindings = bindingWords same
-itemWords closures = λ c r. nameWords same (c .0) (seqWords (bindingWords same) (c .1) (exprWords same (c .2) r))
-itemWords properties = λ p r. patternsWords same (p .0) (exprWords same (p .1) r)
+abbrev pub closureWords : ClosureItem → Run
+closureWords c r = nameWords same (c .0) (seqWords (bindingWords same) (c .1) (exprWords same (c .2) r))
 
-abbrev pub listWords : (q : Sequence) → ListOf q → Run
-listWords exprs = exprsWords same
-listWords bindings = seqWords (bindingWords same)
-listWords closures = closureBindingsWords same
-listWords properties = closurePropertiesWords same
+abbrev pub propertyWords : PropertyItem → Run
+propertyWords p r = patternsWords same (p .0) (exprWords same (p .1) r)
+
+abbrev pub itemWords : (k : Kind) → ItemOf k → Run
+itemWords ExprItems = exprWords same
+itemWords BindingItems = bindingWords same
+itemWords ClosureItems = closureWords
+itemWords PropertyItems = propertyWords
+
+abbrev pub listWords : (k : Kind) → ListOf k → Run
+listWords ExprItems = exprsWords same
+listWords BindingItems = seqWords (bindingWords same)
+listWords ClosureItems = closureBindingsWords same
+listWords PropertyItems = closurePropertiesWords same
 
 -- ---- rules
 
@@ -150,14 +176,14 @@ abbrev pub inner : List ℕ → ℕ → Reader (Expr Span)
 inner text depth = parseExpr text (turns text) depth
 
 abbrev pub operatorOf : Class → List ℕ → Reader Build
-operatorOf product text = factorOperator text (turns text)
-operatorOf sum text = termOperator text (turns text)
-operatorOf comparison text = parseComparisonOperator text (turns text)
-operatorOf conjunction text = andOperator text (turns text)
-operatorOf disjunction text = orOperator text (turns text)
-operatorOf implication text = impliesOperator text (turns text)
-operatorOf explication text = expliesOperator text (turns text)
-operatorOf equivalence text = equivOperator text (turns text)
+operatorOf product text = factorOperator text
+operatorOf sum text = termOperator text
+operatorOf comparison text = parseComparisonOperator text
+operatorOf conjunction text = andOperator text
+operatorOf disjunction text = orOperator text
+operatorOf implication text = impliesOperator text
+operatorOf explication text = expliesOperator text
+operatorOf equivalence text = equivOperator text
 
 -- the rule of a level's operands
 abbrev pub tighterOf : Class → List ℕ → ℕ → Reader (Expr Span)
@@ -173,18 +199,18 @@ tighterOf equivalence text depth = parseImpExpExpr text (turns text) (inner text
 -- a chain from its first operand's place on
 abbrev pub leftChain : Class → List ℕ → ℕ → Reader (Expr Span)
 leftChain k text depth start =
-    after (tighterOf k text depth start) Answer.none (leftTail text (turns text) (turns text) (operatorOf k text) (tighterOf k text depth))
+    after (tighterOf k text depth start) Answer.none (leftTail (turns text) (operatorOf k text) (tighterOf k text depth))
 
 abbrev pub rightChain : List ℕ → ℕ → Reader (Expr Span)
 rightChain text depth start =
     after (tighterOf implication text depth start) Answer.none
-    (rightTail text (turns text) (turns text) (operatorOf implication text) (tighterOf implication text depth))
+    (rightTail (turns text) (operatorOf implication text) (tighterOf implication text depth))
 
-abbrev pub itemRule : (q : Sequence) → List ℕ → ℕ → Reader (ItemOf q)
-itemRule exprs text depth = inner text depth
-itemRule bindings text depth = parseIdType text (turns text)
-itemRule closures text depth = parseClosureBinding text (turns text) (inner text depth)
-itemRule properties text depth = parseClosureProperty text (turns text) (inner text depth)
+abbrev pub itemRule : (k : Kind) → List ℕ → ℕ → Reader (ItemOf k)
+itemRule ExprItems text depth = inner text depth
+itemRule BindingItems text depth = parseIdType text
+itemRule ClosureItems text depth = parseClosureBinding text (turns text) (inner text depth)
+itemRule PropertyItems text depth = parseClosureProperty text (turns text) (inner text depth)
 
 -- a rule of expressions was followed, with `credit` more words
 abbrev pub Follows : (List ℕ → ℕ → Reader (Expr Span) → Reader (Expr Span)) → ℕ → List ℕ → List ℕ → List ℕ → ℕ → ℕ → ℕ → Built → Type 0
@@ -197,36 +223,48 @@ pub record Begun (rule : Reader (Expr Span)) (arena : List ℕ) (start at node t
   pub holds : Holds arena node (treeWords tree)
   pub below : node + 4 ≤ top
 
--- the identifier of n bytes at `at`, with the blanks after it up to `next`
-pub record Worded (text : List ℕ) (at n next : ℕ) : Type 0 where
-  pub said : parseName text at ≡ ok (span at n) next
-  pub past : at + n ≤ next
-  pub inside : next ≤ length text
+-- a name that was read
+pub record Worded (text : List ℕ) (w : Word) : Type 0 where
+  pub said : parseName text (w .at) ≡ ok (span (w .at) (w .len)) (w .next)
+  pub past : w .at + w .len ≤ w .next
+  pub inside : w .next ≤ length text
 
--- operands that begin with no word
-abbrev pub bracketedExpr : List ℕ → ℕ → Reader (Expr Span) → Reader (Expr Span)
-bracketedExpr text m c at = after (Sym text "(" at) Answer.none (λ _ at₁. afterParen text m c at₁)
+-- operands by what they begin with: `|`; a digit or `|`; one of three words; `(`
+abbrev pub customExpr : List ℕ → Reader (Expr Span)
+customExpr text at = after (Sym text "|" at) Answer.none (λ _ at₁. afterBar text at₁)
 
-abbrev pub barredExpr : List ℕ → ℕ → Reader (Expr Span) → Reader (Expr Span)
-barredExpr text m c at = after (Sym text "|" at) Answer.none (λ _ at₁. afterBar text m c at₁) or bracketedExpr text m c at
+abbrev pub literalExpr : List ℕ → Reader (Expr Span)
+literalExpr text at = mapped ILiteral (parseNat text at) or customExpr text at
 
-abbrev pub unwordedExpr : List ℕ → ℕ → Reader (Expr Span) → Reader (Expr Span)
-unwordedExpr text m c at = mapped ILiteral (parseNat text at) or barredExpr text m c at
+abbrev pub constantExpr : List ℕ → Reader (Expr Span)
+constantExpr text at =
+    mapped (λ _. BLiteral false) (T text "false" at)
+    or mapped (λ _. BLiteral true) (T text "true" at)
+    or after (T text "old" at) Answer.none (λ _ at₁. afterOld text at₁)
+
+abbrev pub parenExpr : List ℕ → Reader (Expr Span) → Reader (Expr Span)
+parenExpr text c at = after (Sym text "(" at) Answer.none (λ _ at₁. afterParen text c at₁)
 
 abbrev pub universalOf : ℕ → Bool
 universalOf u = eqb u 1
 
-abbrev pub HasTrigger : List ℕ → ℕ → Type 0
-HasTrigger text at = (v : ℕ) × (next : ℕ) × (T text "trigger" at ≡ ok v next)
+-- a name without `:`, by what was read in the place of `:`
+pub record Alone (arena later : List ℕ) (top : ℕ) (n : Word) (colon : Lexed) (r : Built) : Type 0 where
+  pub kept : Kept arena later top
+  pub unlabelled : colon ≡ LexedNone → (r ≡ Ok top (n .next) (top + 4)) × Node later top 4 (n .at) (n .len) 0
+  pub refusing : (number place : ℕ) → colon ≡ LexedRefused number place → r ≡ Refused number place
 
-abbrev pub NoTrigger : List ℕ → ℕ → Type 0
-NoTrigger text at = T text "trigger" at ≡ Answer.none
+-- a sequence with its end: the empty one is not written
+pub record Ended (arena later : List ℕ) (top list next node n free : ℕ) : Type 0 where
+  pub kept : Kept arena later top
+  pub place : n ≡ next
+  pub empty : list ≡ 0 → (node ≡ 4) × (free ≡ top)
+  pub some : (list ≡ 0 → ⊥) → (node ≡ top) × (free ≡ top + 4) × Node later top 9 0 list 0
 
--- the words that patterns may take beyond eight for each byte, by whether their keyword stands: only the end of none at all takes some
-unfoldable pub endCredit : Answer ℕ → ℕ
-endCredit (ok v next) = 0
-endCredit Answer.none = 4
-endCredit (refused number place) = 4
+abbrev pub Closes : List ℕ → List ℕ → ℕ → ℕ → ℕ → Built → Type 0
+Closes arena later top list next (Ok node n free) = Ended arena later top list next node n free
+Closes arena later top list next None = ⊥
+Closes arena later top list next (Refused number place) = ⊥
 
 -- a sequence's node `es`, where its closing sign stands
 abbrev pub Shuts : List ℕ → List ℕ → ℕ → ℕ → ℕ → Built → Type 0

@@ -107,14 +107,3 @@ pub record Rooted (arena stack table : List ℕ) (root : ℕ) : Type 0 where
 pub record Flattened (words before after : List ℕ) (count : ℕ) : Type 0 where
   pub filled : after ≡ fill (length before) words
   pub counted : count ≡ min (length words) (length before + 1)
-
--- ---- buffers
-
--- what reading a text takes: an arena of eight words for each byte and the empty run at 0, a stack of two words for each byte, and a table of zeros
-pub record Buffers (text arena stack table : List ℕ) : Type 0 where
-  pub short : length text ≤ 32768
-  pub small : length arena ≤ 400000
-  pub arena-room : 4 + 8 * length text ≤ length arena
-  pub stack-room : 1 + 2 * length text ≤ length stack
-  pub empty-run : getD arena 0 0 ≡ 0
-  pub clear : table ≡ replicate (length table) 0

@@ -2,6 +2,7 @@
 pub mod Arena
 pub mod Code
 pub mod Flat
+pub mod Entry
 pub mod TreeRead
 pub mod Answered
 pub mod Claims

@@ -35,6 +35,9 @@ pub(crate) const CLOSED: u32 = 9;
 
 pub(crate) const HEADED: u32 = 10;
 
+// The node of the word 0, the end of a sequence without items.
+pub(crate) const END: u32 = 4;
+
 // Writes a node at `top`.
 pub(crate) fn node(arena: &mut [u32], top: usize, tag: u32, x: u32, y: u32, z: u32)
     requires { ⌜ top + 4 ≤ length (now arena) ⌝ }

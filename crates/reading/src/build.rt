@@ -2,6 +2,7 @@
 use crate::arena::BINARY;
 use crate::arena::Built;
 use crate::arena::CLOSED;
+use crate::arena::END;
 use crate::arena::ITEM;
 use crate::arena::PAIR;
 use crate::arena::TWO;
@@ -14,7 +15,7 @@ ghost use lib.ListN.{length};
 ghost use Rattle.lexing.specs.Answer.{pick};
 ghost use Rattle.tree.specs.Ast.{Expr, Span};
 ghost use Rattle.reading.specs.Arena.{Noted, Kept};
-ghost use Rattle.reading.specs.Code.{Foldable, Folds, FoldedAt, Layer, Four, Choice, LayerNoted};
+ghost use Rattle.reading.specs.Code.{Foldable, Folds, FoldedAt, Layer, Four, Choice, LayerNoted, Closes};
 ghost use Rattle.reading.specs.declared.arena.Built.the-variants.{Ok};
 
 // A node, and the answer that it was built.
@@ -44,6 +45,17 @@ pub(crate) fn combine(arena: &mut [u32], top: usize, op: u32, swap: bool, a: u32
         return;
     }
     node(arena, top, BINARY, op, a, b);
+}
+
+// A sequence with its end: `END` where it has no items.
+pub(crate) fn close(arena: &mut [u32], top: usize, list: u32, next: usize) -> Built
+    requires { ⌜ (((list ≡ 0) → ⊥) → top + 4 ≤ length (now arena)) × (length (now arena) ≤ 400000) ⌝ }
+    ensures { λ r. ⌜ Closes (now (arena .entry)) (now (arena .exit)) top list next r ⌝ }
+{
+    if list == 0 {
+        return Built::Ok(END, next, top);
+    }
+    over(arena, top, CLOSED, 0, list, 0, next)
 }
 
 // Four runs, one after another.

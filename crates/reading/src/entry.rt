@@ -1,17 +1,28 @@
 // Read expression.
 use crate::arena::Built;
+use crate::arena::END;
+use crate::arena::ONE;
+use crate::arena::node;
 use crate::flat::flatten;
 use crate::rules::expr;
 use lexing::Reach;
+use lexing::UNCLOSED_COMMENT;
 use lexing::blanks;
+use tree::MOST_TEXT;
+use tree::MOST_WORDS;
 ghost use mathlib.Core.Path.{_≡_};
 ghost use Prim.Native.Nat.{_≤_, min};
 ghost use mathlib.Core.List.{[]};
 ghost use lib.ListN.{length, replicate};
+ghost use Rattle.lexing.specs.Answer.{Answer};
+ghost use Rattle.tree.specs.Limits.{mostText};
+ghost use Rattle.grammar.specs.Steps.{need};
+ghost use Rattle.grammar.specs.Reading.{outcome, outcomeBy, stored, toEnd, parseText};
 ghost use Rattle.reading.specs.Arena.{Run, Holds};
-ghost use Rattle.reading.specs.Flat.{Rooted, Buffers};
-ghost use Rattle.grammar.specs.Reading.{outcome, stored, parseText, readExpression};
 ghost use Rattle.reading.specs.Code.{outcomeOf};
+ghost use Rattle.reading.specs.Entry.{Buffers, RunAnswer, RunRead};
+ghost use Rattle.reading.specs.Flat.{Rooted};
+ghost use Rattle.reading.specs.TreeRead.{Answered};
 
 // What reading answers: `outcomeOf` in specs/Code.antt gives document 01's number and values of each case.
 pub enum Reading {
@@ -21,10 +32,7 @@ pub enum Reading {
     Refused(u64, usize),
 }
 
-const MOST_TEXT: usize = 32768;
-
-const MOST_WORDS: usize = 16384;
-
+// Document 01's depth limit.
 const MOST_DEPTH: usize = 200;
 
 // All words become 0.
@@ -60,23 +68,43 @@ fn store(arena: &[u32], root: u32, stack: &mut [u32], table: &mut [u32]) -> Read
     Reading::Refused(5, 0)
 }
 
-// Reads a text over an arena of four words and eight for each byte, and a stack of one word and two for each byte.
+// What an entry answers, by what its rule built from `at` on: the node's words in the table, if the rule read the text to its end.
+fn finish(
+    text: &[u8],
+    at: usize,
+    built: Built,
+    arena: &[u32],
+    stack: &mut [u32],
+    table: &mut [u32],
+) -> Reading
+    requires { ⌜ Buffers (now text) (now arena) (now stack) (now table) ⌝ }
+    requires { ⌜ RunRead (now text) (now arena) at built ⌝ }
+    ensures { λ r. ⌜ ((answer : Answer Run) → RunAnswer (now (text .entry)) (now (arena .entry)) at answer built → outcomeOf r (now (table .exit)) ≡ outcomeBy (λ f. f []) (length (now (table .entry))) (need at answer (toEnd (now (text .entry))))) ⌝ }
+{
+    match built {
+        Built::Ok(root, next, _) => {
+            if next == text.len() {
+                return store(arena, root, stack, table);
+            }
+            Reading::Refused(2, next)
+        }
+        Built::None => Reading::Refused(2, at),
+        Built::Refused(number, place) => Reading::Refused(number, place),
+    }
+}
+
+// Reads a text over an arena of eight words and eight for each byte, and a stack of two words and two for each byte.
 fn read_in(text: &[u8], arena: &mut [u32], stack: &mut [u32], table: &mut [u32]) -> Reading
     requires { ⌜ Buffers (now text) (now arena) (now stack) (now table) ⌝ }
     ensures { λ r. ⌜ outcomeOf r (now (table .exit)) ≡ outcome (length (now (table .entry))) (parseText (now (text .entry))) ⌝ }
 {
     match blanks(text) {
-        Reach::Unclosed(at) => Reading::Refused(2, at),
-        Reach::Passed(at) => match expr(text, at, arena, 4, MOST_DEPTH) {
-            Built::Ok(root, next, _) => {
-                if next == text.len() {
-                    return store(arena, root, stack, table);
-                }
-                Reading::Refused(2, next)
-            }
-            Built::None => Reading::Refused(2, at),
-            Built::Refused(number, place) => Reading::Refused(number, place),
-        },
+        Reach::Unclosed(at) => Reading::Refused(UNCLOSED_COMMENT, at),
+        Reach::Passed(at) => {
+            node(arena, END as usize, ONE, 0, 0, 0);
+            let built = expr(text, at, arena, 8, MOST_DEPTH);
+            finish(text, at, built, arena, stack, table)
+        }
     }
 }
 
@@ -85,8 +113,8 @@ fn read_small(text: &[u8], table: &mut [u32]) -> Reading
     requires { ⌜ (length (now text) ≤ 512) × (now table ≡ replicate (length (now table)) 0) ⌝ }
     ensures { λ r. ⌜ outcomeOf r (now (table .exit)) ≡ outcome (length (now (table .entry))) (parseText (now (text .entry))) ⌝ }
 {
-    let mut arena = [0u32; 4100];
-    let mut stack = [0u32; 1025];
+    let mut arena = [0u32; 4104];
+    let mut stack = [0u32; 1026];
     read_in(text, &mut arena, &mut stack, table)
 }
 
@@ -95,8 +123,8 @@ fn read_medium(text: &[u8], table: &mut [u32]) -> Reading
     requires { ⌜ (length (now text) ≤ 4096) × (now table ≡ replicate (length (now table)) 0) ⌝ }
     ensures { λ r. ⌜ outcomeOf r (now (table .exit)) ≡ outcome (length (now (table .entry))) (parseText (now (text .entry))) ⌝ }
 {
-    let mut arena = [0u32; 32772];
-    let mut stack = [0u32; 8193];
+    let mut arena = [0u32; 32776];
+    let mut stack = [0u32; 8194];
     read_in(text, &mut arena, &mut stack, table)
 }
 
@@ -105,25 +133,25 @@ fn read_large(text: &[u8], table: &mut [u32]) -> Reading
     requires { ⌜ (length (now text) ≤ 12288) × (now table ≡ replicate (length (now table)) 0) ⌝ }
     ensures { λ r. ⌜ outcomeOf r (now (table .exit)) ≡ outcome (length (now (table .entry))) (parseText (now (text .entry))) ⌝ }
 {
-    let mut arena = [0u32; 98308];
-    let mut stack = [0u32; 24577];
+    let mut arena = [0u32; 98312];
+    let mut stack = [0u32; 24578];
     read_in(text, &mut arena, &mut stack, table)
 }
 
 // A text of at most 32,768 bytes.
 fn read_longest(text: &[u8], table: &mut [u32]) -> Reading
-    requires { ⌜ (length (now text) ≤ 32768) × (now table ≡ replicate (length (now table)) 0) ⌝ }
+    requires { ⌜ (length (now text) ≤ mostText) × (now table ≡ replicate (length (now table)) 0) ⌝ }
     ensures { λ r. ⌜ outcomeOf r (now (table .exit)) ≡ outcome (length (now (table .entry))) (parseText (now (text .entry))) ⌝ }
 {
-    let mut arena = [0u32; 262148];
-    let mut stack = [0u32; 65537];
+    let mut arena = [0u32; 262152];
+    let mut stack = [0u32; 65538];
     read_in(text, &mut arena, &mut stack, table)
 }
 
 // Reads an expression: the words of its tree in the table, with zeros after them, and how many they are. Refusals 1 to 5 leave the table all
 // zero.
 pub fn read_expression(text: &[u8], table: &mut [u32]) -> Reading
-    ensures { λ r. ⌜ outcomeOf r (now (table .exit)) ≡ readExpression (now (text .entry)) (length (now (table .entry))) ⌝ }
+    ensures { λ r. ⌜ Answered (now (text .entry)) (length (now (table .entry))) r (now (table .exit)) ⌝ }
 {
     clear(table);
     if MOST_TEXT < text.len() {

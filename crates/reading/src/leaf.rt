@@ -1,12 +1,14 @@
 // Rules that open no expression, and what a rule answers where a step is missing.
 use crate::arena::Built;
+use crate::arena::END;
 use crate::arena::IDENT;
-use crate::arena::ONE;
 use crate::arena::PAIR;
 use crate::arena::THREE;
 use crate::arena::TWO;
 use crate::arena::node;
 use crate::build::over;
+use crate::step::Word;
+use crate::step::is_word;
 use crate::step::literal_text;
 use crate::step::name;
 use crate::step::sym;
@@ -15,15 +17,16 @@ use lexing::Lexed;
 use lexing::identifier_length;
 use lexing::natural;
 ghost use mathlib.Core.Path.{_≡_};
-ghost use Prim.Native.Nat.{_≤_};
+ghost use Prim.Native.Nat.{_+_, _≤_};
 ghost use lib.ListN.{length, getD};
 ghost use Rattle.tree.specs.Ast.{ILiteral};
+ghost use Rattle.tree.specs.Limits.{mostText};
 ghost use Rattle.tree.specs.Words.{bindingWords, optionWords, nameWords};
 ghost use Rattle.reading.specs.Arena.{Room, Builds, Stopped, neededAt};
-ghost use Rattle.reading.specs.Code.{missingAt, untakenAt, same, turns, inner, Follows, Shuts};
+ghost use Rattle.reading.specs.Code.{missingAt, untakenAt, neededIf, same, inner, Shuts, Alone, Worded, literalExpr, customExpr, constantExpr};
 ghost use Rattle.grammar.specs.Reading.{treeWords};
 ghost use Rattle.grammar.specs.Steps.{mapped, parseNat};
-ghost use Rattle.grammar.specs.Rules.{opensExpr, opensAt, parseIdType, parseOptionalType, someType, afterBar, afterOld};
+ghost use Rattle.grammar.specs.Rules.{opensExpr, opensAt, parseIdType, parseOptionalType, someType, afterOld};
 
 // A rule that must follow at `at`: refusal 2 there where it keeps nothing.
 pub(crate) fn needed(r: Built, at: usize) -> Built
@@ -58,10 +61,21 @@ pub(crate) fn untaken(r: Lexed) -> Built
     }
 }
 
+// A rule that must follow at `at` where the token `mark` stands.
+pub(crate) fn needed_if(mark: Lexed, r: Built, at: usize) -> Built
+    ensures { λ a. ⌜ a ≡ neededIf mark at r ⌝ }
+{
+    match mark {
+        Lexed::Ok(_, _) => needed(r, at),
+        Lexed::None => r,
+        Lexed::Refused(_, _) => r,
+    }
+}
+
 // `parseIdType`.
 pub(crate) fn id_type(text: &[u8], at: usize, arena: &mut [u32], top: usize) -> Built
     requires { ⌜ Room (now text) (now arena) at top 0 ⌝ }
-    ensures { λ r. ⌜ Builds (bindingWords same) (now (text .entry)) (now (arena .entry)) (now (arena .exit)) at top 1 0 (parseIdType (now (text .entry)) (turns (now (text .entry))) at) r ⌝ }
+    ensures { λ r. ⌜ Builds (bindingWords same) (now (text .entry)) (now (arena .entry)) (now (arena .exit)) at top 1 0 (parseIdType (now (text .entry)) at) r ⌝ }
 {
     let r = name(text, at);
     let Lexed::Ok(len, at1) = r else {
@@ -82,12 +96,12 @@ pub(crate) fn id_type(text: &[u8], at: usize, arena: &mut [u32], top: usize) -> 
 
 // The type of `parseIdOptionalType`.
 pub(crate) fn optional_type(text: &[u8], at: usize, arena: &mut [u32], top: usize) -> Built
-    requires { ⌜ Room (now text) (now arena) at top 4 ⌝ }
-    ensures { λ r. ⌜ Builds (optionWords (nameWords same)) (now (text .entry)) (now (arena .entry)) (now (arena .exit)) at top 0 4 (parseOptionalType (now (text .entry)) (turns (now (text .entry))) at) r ⌝ }
+    requires { ⌜ Room (now text) (now arena) at top 0 ⌝ }
+    ensures { λ r. ⌜ Builds (optionWords (nameWords same)) (now (text .entry)) (now (arena .entry)) (now (arena .exit)) at top 0 0 (parseOptionalType (now (text .entry)) at) r ⌝ }
 {
     match sym_not_prefix(text, at, b":", b":=") {
         Lexed::Ok(_, at1) => typed(text, at1, arena, top),
-        Lexed::None => over(arena, top, ONE, 0, 0, 0, at),
+        Lexed::None => Built::Ok(END, at, top),
         Lexed::Refused(number, place) => Built::Refused(number, place),
     }
 }
@@ -95,7 +109,7 @@ pub(crate) fn optional_type(text: &[u8], at: usize, arena: &mut [u32], top: usiz
 // A type that must follow.
 fn typed(text: &[u8], at: usize, arena: &mut [u32], top: usize) -> Built
     requires { ⌜ Room (now text) (now arena) at top 0 ⌝ }
-    ensures { λ r. ⌜ Builds (optionWords (nameWords same)) (now (text .entry)) (now (arena .entry)) (now (arena .exit)) at top 1 0 (someType (now (text .entry)) (turns (now (text .entry))) at) r ⌝ }
+    ensures { λ r. ⌜ Builds (optionWords (nameWords same)) (now (text .entry)) (now (arena .entry)) (now (arena .exit)) at top 1 0 (someType (now (text .entry)) at) r ⌝ }
 {
     let r = name(text, at);
     let Lexed::Ok(len, at1) = r else {
@@ -104,36 +118,82 @@ fn typed(text: &[u8], at: usize, arena: &mut [u32], top: usize) -> Built
     over(arena, top, THREE, 1, at as u32, len as u32, at1)
 }
 
-// After `|`.
-pub(crate) fn custom(text: &[u8], at: usize, arena: &mut [u32], top: usize, depth: usize) -> Built
+// A natural or a custom literal.
+pub(crate) fn literal(text: &[u8], at: usize, arena: &mut [u32], top: usize) -> Built
     requires { ⌜ Room (now text) (now arena) at top 0 ⌝ }
-    ensures { λ r. ⌜ Follows afterBar 0 (now (text .entry)) (now (arena .entry)) (now (arena .exit)) at top depth r ⌝ }
+    ensures { λ r. ⌜ Builds treeWords (now (text .entry)) (now (arena .entry)) (now (arena .exit)) at top 1 0 (literalExpr (now (text .entry)) at) r ⌝ }
 {
-    let r = literal_text(text, at);
-    let Lexed::Ok(len, at1) = r else {
-        return missing(r, at);
+    let r = number(text, at, arena, top);
+    let Built::None = r else {
+        return r;
     };
-    let r = sym(text, at1, b":");
-    let Lexed::Ok(_, at2) = r else {
+    custom(text, at, arena, top)
+}
+
+// A custom literal.
+fn custom(text: &[u8], at: usize, arena: &mut [u32], top: usize) -> Built
+    requires { ⌜ Room (now text) (now arena) at top 0 ⌝ }
+    ensures { λ r. ⌜ Builds treeWords (now (text .entry)) (now (arena .entry)) (now (arena .exit)) at top 1 0 (customExpr (now (text .entry)) at) r ⌝ }
+{
+    let r = sym(text, at, b"|");
+    let Lexed::Ok(_, at1) = r else {
+        return untaken(r);
+    };
+    let r = literal_text(text, at1);
+    let Lexed::Ok(len, at2) = r else {
         return missing(r, at1);
     };
-    let r = name(text, at2);
-    let Lexed::Ok(len2, at3) = r else {
+    let r = sym(text, at2, b":");
+    let Lexed::Ok(_, at3) = r else {
         return missing(r, at2);
     };
-    let r = sym(text, at3, b"|");
-    let Lexed::Ok(_, at4) = r else {
+    let r = name(text, at3);
+    let Lexed::Ok(len2, at4) = r else {
         return missing(r, at3);
     };
-    node(arena, top, THREE, 3, at as u32, len as u32);
-    node(arena, top + 4, TWO, at2 as u32, len2 as u32, 0);
-    over(arena, top + 8, PAIR, 0, top as u32, (top + 4) as u32, at4)
+    let r = sym(text, at4, b"|");
+    let Lexed::Ok(_, at5) = r else {
+        return missing(r, at4);
+    };
+    node(arena, top, THREE, 3, at1 as u32, len as u32);
+    node(arena, top + 4, TWO, at3 as u32, len2 as u32, 0);
+    over(arena, top + 8, PAIR, 0, top as u32, (top + 4) as u32, at5)
+}
+
+// What begins with the word `w` and opens no expression: `false`, `true` or `old`.
+pub(crate) fn constant(text: &[u8], w: Word, arena: &mut [u32], top: usize) -> Built
+    requires { ⌜ Room (now text) (now arena) (w .at) top 0 ⌝ }
+    requires { ⌜ Worded (now text) w ⌝ }
+    ensures { λ r. ⌜ Builds treeWords (now (text .entry)) (now (arena .entry)) (now (arena .exit)) (w .at) top 1 0 (constantExpr (now (text .entry)) (w .at)) r ⌝ }
+{
+    if is_word(text, w, b"false") {
+        return over(arena, top, TWO, 1, 0, 0, w.next);
+    }
+    if is_word(text, w, b"true") {
+        return over(arena, top, TWO, 1, 1, 0, w.next);
+    }
+    if is_word(text, w, b"old") {
+        return old(text, w.next, arena, top);
+    }
+    Built::None
+}
+
+// The name `n` alone, where `:` does not follow it.
+pub(crate) fn alone(colon: Lexed, n: Word, arena: &mut [u32], top: usize) -> Built
+    requires { ⌜ (top + 4 ≤ length (now arena)) × (length (now arena) ≤ 400000) × (n .at ≤ mostText) × (n .len ≤ mostText) ⌝ }
+    ensures { λ r. ⌜ Alone (now (arena .entry)) (now (arena .exit)) top n colon r ⌝ }
+{
+    match colon {
+        Lexed::Ok(_, _) => Built::None,
+        Lexed::None => over(arena, top, IDENT, n.at as u32, n.len as u32, 0, n.next),
+        Lexed::Refused(number, place) => Built::Refused(number, place),
+    }
 }
 
 // After `old`.
-pub(crate) fn old(text: &[u8], at: usize, arena: &mut [u32], top: usize, depth: usize) -> Built
+fn old(text: &[u8], at: usize, arena: &mut [u32], top: usize) -> Built
     requires { ⌜ Room (now text) (now arena) at top 0 ⌝ }
-    ensures { λ r. ⌜ Follows afterOld 0 (now (text .entry)) (now (arena .entry)) (now (arena .exit)) at top depth r ⌝ }
+    ensures { λ r. ⌜ Builds treeWords (now (text .entry)) (now (arena .entry)) (now (arena .exit)) at top 1 0 (afterOld (now (text .entry)) at) r ⌝ }
 {
     let r = name(text, at);
     let Lexed::Ok(len, at1) = r else {
@@ -155,7 +215,7 @@ pub(crate) fn shut(text: &[u8], at: usize, top: usize, es: u32, close: &[u8]) ->
 }
 
 // A natural.
-pub(crate) fn number(text: &[u8], at: usize, arena: &mut [u32], top: usize) -> Built
+fn number(text: &[u8], at: usize, arena: &mut [u32], top: usize) -> Built
     requires { ⌜ Room (now text) (now arena) at top 0 ⌝ }
     ensures { λ r. ⌜ Builds treeWords (now (text .entry)) (now (arena .entry)) (now (arena .exit)) at top 1 0 (mapped ILiteral (parseNat (now (text .entry)) at)) r ⌝ }
 {

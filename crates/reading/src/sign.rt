@@ -3,7 +3,7 @@ ghost use mathlib.Core.Path.{_≡_};
 ghost use Prim.Native.Nat.{_≤_};
 ghost use lib.ListN.{length};
 ghost use Rattle.tree.specs.Words.{operatorWord};
-ghost use Rattle.reading.specs.Code.{Signs, whereRead, wordOf, swapOf, noSwap, operatorOf, classOf, turns};
+ghost use Rattle.reading.specs.Code.{Signs, whereRead, wordOf, swapOf, noSwap, operatorOf, classOf};
 ghost use Rattle.grammar.specs.Rules.{unaryOperator, equalityOperator, lessOperator, moreOperator, parseComparisonOperator, termOperator, factorOperator};
 use crate::step::keyword;
 use crate::step::sym;
@@ -43,7 +43,7 @@ pub(crate) fn where_read(r: Lexed, op: u32, swap: bool) -> Sign
 
 pub(crate) fn equality(text: &[u8], at: usize) -> Sign
     requires { ⌜ at ≤ length (now text) ⌝ }
-    ensures { λ r. ⌜ Signs wordOf swapOf (now (text .entry)) at (equalityOperator (now (text .entry)) (turns (now (text .entry))) at) r ⌝ }
+    ensures { λ r. ⌜ Signs wordOf swapOf (now (text .entry)) at (equalityOperator (now (text .entry)) at) r ⌝ }
 {
     let r = where_read(sym_not_prefix(text, at, b"==", b"==>"), 6, false);
     let Sign::None = r else {
@@ -54,7 +54,7 @@ pub(crate) fn equality(text: &[u8], at: usize) -> Sign
 
 pub(crate) fn less(text: &[u8], at: usize) -> Sign
     requires { ⌜ at ≤ length (now text) ⌝ }
-    ensures { λ r. ⌜ Signs wordOf swapOf (now (text .entry)) at (lessOperator (now (text .entry)) (turns (now (text .entry))) at) r ⌝ }
+    ensures { λ r. ⌜ Signs wordOf swapOf (now (text .entry)) at (lessOperator (now (text .entry)) at) r ⌝ }
 {
     let r = where_read(sym_not_prefix(text, at, b"<=", b"<=="), 9, false);
     let Sign::None = r else {
@@ -65,7 +65,7 @@ pub(crate) fn less(text: &[u8], at: usize) -> Sign
 
 pub(crate) fn more(text: &[u8], at: usize) -> Sign
     requires { ⌜ at ≤ length (now text) ⌝ }
-    ensures { λ r. ⌜ Signs wordOf swapOf (now (text .entry)) at (moreOperator (now (text .entry)) (turns (now (text .entry))) at) r ⌝ }
+    ensures { λ r. ⌜ Signs wordOf swapOf (now (text .entry)) at (moreOperator (now (text .entry)) at) r ⌝ }
 {
     let r = where_read(sym(text, at, b">="), 9, true);
     let Sign::None = r else {
@@ -76,7 +76,7 @@ pub(crate) fn more(text: &[u8], at: usize) -> Sign
 
 pub(crate) fn comparison(text: &[u8], at: usize) -> Sign
     requires { ⌜ at ≤ length (now text) ⌝ }
-    ensures { λ r. ⌜ Signs wordOf swapOf (now (text .entry)) at (parseComparisonOperator (now (text .entry)) (turns (now (text .entry))) at) r ⌝ }
+    ensures { λ r. ⌜ Signs wordOf swapOf (now (text .entry)) at (parseComparisonOperator (now (text .entry)) at) r ⌝ }
 {
     let r = equality(text, at);
     let Sign::None = r else {
@@ -91,7 +91,7 @@ pub(crate) fn comparison(text: &[u8], at: usize) -> Sign
 
 pub(crate) fn term(text: &[u8], at: usize) -> Sign
     requires { ⌜ at ≤ length (now text) ⌝ }
-    ensures { λ r. ⌜ Signs wordOf swapOf (now (text .entry)) at (termOperator (now (text .entry)) (turns (now (text .entry))) at) r ⌝ }
+    ensures { λ r. ⌜ Signs wordOf swapOf (now (text .entry)) at (termOperator (now (text .entry)) at) r ⌝ }
 {
     let r = where_read(sym(text, at, b"+"), 10, false);
     let Sign::None = r else {
@@ -102,7 +102,7 @@ pub(crate) fn term(text: &[u8], at: usize) -> Sign
 
 pub(crate) fn factor(text: &[u8], at: usize) -> Sign
     requires { ⌜ at ≤ length (now text) ⌝ }
-    ensures { λ r. ⌜ Signs wordOf swapOf (now (text .entry)) at (factorOperator (now (text .entry)) (turns (now (text .entry))) at) r ⌝ }
+    ensures { λ r. ⌜ Signs wordOf swapOf (now (text .entry)) at (factorOperator (now (text .entry)) at) r ⌝ }
 {
     let r = where_read(sym(text, at, b"*"), 12, false);
     let Sign::None = r else {
@@ -134,7 +134,7 @@ pub(crate) fn operator(text: &[u8], at: usize, level: Level) -> Sign
 
 pub(crate) fn unary_operator(text: &[u8], at: usize) -> Sign
     requires { ⌜ at ≤ length (now text) ⌝ }
-    ensures { λ r. ⌜ Signs operatorWord noSwap (now (text .entry)) at (unaryOperator (now (text .entry)) (turns (now (text .entry))) at) r ⌝ }
+    ensures { λ r. ⌜ Signs operatorWord noSwap (now (text .entry)) at (unaryOperator (now (text .entry)) at) r ⌝ }
 {
     let r = where_read(sym_not_prefix(text, at, b"!", b"!="), 15, false);
     let Sign::None = r else {

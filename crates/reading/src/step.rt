@@ -9,6 +9,13 @@ ghost use Rattle.lexing.specs.Tokens.{signNotPrefix};
 ghost use Rattle.grammar.specs.Steps.{keywordAt, signAt, parseName, parseLiteralText};
 ghost use Rattle.reading.specs.Code.{Tells, span, movedOf, placed};
 
+// A word or name at `at`, of `len` bytes, and the place after its blanks.
+pub(crate) struct Word {
+    pub(crate) at: usize,
+    pub(crate) len: usize,
+    pub(crate) next: usize,
+}
+
 // The answer with places counted from the text's start.
 pub(crate) fn moved(at: usize, r: Lexed) -> Lexed
     requires { ⌜ placed at r ⌝ }
@@ -56,10 +63,12 @@ pub(crate) fn literal_text(text: &[u8], at: usize) -> Lexed
     moved(at, lexing::parse_custom_literal(&text[at..]))
 }
 
-// Whether the `n` bytes at `at` are the word's.
-pub(crate) fn is_word(text: &[u8], at: usize, n: usize, word: &[u8]) -> bool
-    requires { ⌜ at + n ≤ length (now text) ⌝ }
-    ensures { λ r. ⌜ r ≡ sameBytes (take n (drop at (now (text .entry)))) (now (word .entry)) ⌝ }
+// Whether the bytes of `w` are the word's.
+pub(crate) fn is_word(text: &[u8], w: Word, word: &[u8]) -> bool
+    requires { ⌜ w .at + w .len ≤ length (now text) ⌝ }
+    ensures { λ r. ⌜ r ≡ sameBytes (take (w .len) (drop (w .at) (now (text .entry)))) (now (word .entry)) ⌝ }
 {
-    lexing::same_bytes(&text[at..at + n], word)
+    let at = w.at;
+    let end = w.at + w.len;
+    lexing::same_bytes(&text[at..end], word)
 }

@@ -9,18 +9,8 @@ use lib.ListN.{length, length-append}
 use borrow.Author.Tests.{ltb-true, ltb-false, le-leb}
 use Rattle.lexing.specs.Bytes.{isDigit, run}
 use Rattle.lexing.specs.Tokens.{decimal}
+use Rattle.grammar.specs.Laws.Pieces.{run-append}
 use Rattle.printing.specs.Text.{digits}
-
-run-append : (p : ℕ → Bool) (w v : List ℕ) → run p w ≡ length w → run p (w ++ v) ≡ length w + run p v
-unfolding run
-run-append p [] v e = omega arith
-run-append p (a ∷ w) v e = by-first (p a) e (λ e. run-append p w v e)
-  where
-    by-first : (t : Bool) → _≡_ {A = ℕ} (elim t [ true ↦ suc (run p w) | false ↦ 0 ]) (suc (length w))
-        → (run p w ≡ length w → run p (w ++ v) ≡ length w + run p v)
-        → _≡_ {A = ℕ} (elim t [ true ↦ suc (run p (w ++ v)) | false ↦ 0 ]) (suc (length w) + run p v)
-    by-first true e ih = let h : run p w ≡ length w = omega arith in omega (arith, ih h)
-    by-first false e ih = absurd (omega arith)
 
 decimal-append : (v : ℕ) (w u : List ℕ) → decimal v (w ++ u) ≡ decimal (decimal v w) u
 unfolding decimal

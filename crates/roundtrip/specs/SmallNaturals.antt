@@ -3,13 +3,12 @@ use Prim.Native.Nat.{ℕ, suc, _/_, _^_, _≤_, _<_}
 use mathlib.Core.Path.{_≡_, refl, subst}
 use mathlib.Core.Bool.{Bool, true, false, _&&_}
 use mathlib.Core.List.{List, [], _∷_, _++_}
-use mathlib.Core.Option.{some}
 use native.Mathlib.Omega.{arith}
 use lib.Dec.{leb}
 use lib.ListN.{getD}
 use borrow.Author.Tests.{le-leb}
 use Rattle.lexing.specs.Tokens.{mostNatural}
-use Rattle.tree.specs.Ast.{Operator, Expr, BLiteral, ILiteral, CustomLiteral, IdExpr, OperatorExpr, FunctionCallExpr, LabeledExpr, LetExpr, QuantifierExpr, ClosureExpr}
+use Rattle.tree.specs.Ast.{Expr, BLiteral, ILiteral, CustomLiteral, IdExpr, OperatorExpr, FunctionCallExpr, LabeledExpr, LetExpr, QuantifierExpr, ClosureExpr}
 use Rattle.tree.specs.Ast.{Exprs, noExprs, _then_}
 use Rattle.tree.specs.Resolve.{mapExpr, mapExprs}
 use Rattle.tree.specs.Words.{exprWords, exprsWords}
@@ -18,10 +17,9 @@ use Rattle.tree.specs.Kind.{expr}
 use Rattle.tree.specs.Trees.{namesIn}
 use Rattle.tree.specs.Walk.{words-append}
 use Rattle.grammar.specs.Tokens.{Token, name, nat, mark, sign, illegal, rparen, comma}
-use Rattle.grammar.specs.Grammar.{Tree, Build, straight, swapped, build, Row, role, unary, binary, Whole}
+use Rattle.grammar.specs.Grammar.{Tree, Build, straight, swapped, build, asUnary, asBinary, unary, binary, Whole}
 use Rattle.grammar.specs.OperatorTrees.{smallNaturals}
-use Rattle.tree.specs.Clash.{impossible}
-use Rattle.grammar.specs.Laws.Every.{Kept, whole-kept}
+use Rattle.grammar.specs.Laws.Every.{Invariant, whole-kept, WordOrSign, word-or-sign}
 
 -- each natural of an operator tree is at most 18446744073709551615; other trees are not looked into
 abbrev mutual
@@ -55,29 +53,21 @@ small-append (sign g ∷ ts) us = small-append ts us
 small-append (illegal ∷ ts) us = small-append ts us
 
 -- an operator is no natural
-small-unary : (o : Token) (ts : List Token) {op : Operator} → unary o ≡ some op → smallNaturals (o ∷ ts) ≡ smallNaturals ts
-unfolding smallNaturals unary role
-small-unary (name w) ts l = refl
-small-unary (nat n) ts l = impossible (cc)
-small-unary (mark k) ts l = refl
-small-unary (sign g) ts l = refl
-small-unary illegal ts l = refl
-
-small-binary : (o : Token) (ts : List Token) {r : Row} → binary o ≡ some r → smallNaturals (o ∷ ts) ≡ smallNaturals ts
-unfolding smallNaturals binary role
-small-binary (name w) ts l = refl
-small-binary (nat n) ts l = impossible (cc)
-small-binary (mark k) ts l = refl
-small-binary (sign g) ts l = refl
-small-binary illegal ts l = refl
+small-operator : (o : Token) (ts : List Token) → WordOrSign o → smallNaturals (o ∷ ts) ≡ smallNaturals ts
+unfolding smallNaturals
+small-operator (name w) ts x = refl
+small-operator (nat n) ts x = absurd x
+small-operator (mark k) ts x = refl
+small-operator (sign g) ts x = refl
+small-operator illegal ts x = refl
 
 -- the operands of an operator, in the order of the text
 operands-small : (b : Build) (t u : Tree) → SmallTree (build b t u) → SmallTree t × SmallTree u
 operands-small (straight op) t u s = (s .0, s .1 .0)
 operands-small (swapped op) t u s = (s .1 .0, s .0)
 
-naturals-kept : Kept (λ ts t. SmallTree t → smallNaturals ts ≡ true) (λ ts es. SmallTrees es → smallNaturals ts ≡ true)
-unfolding smallNaturals
+naturals-kept : Invariant (λ ts t. SmallTree t → smallNaturals ts ≡ true) (λ ts es. SmallTrees es → smallNaturals ts ≡ true)
+unfolding smallNaturals unary binary
 naturals-kept =
     record {
       false-kept = λ s. refl;
@@ -90,9 +80,9 @@ naturals-kept =
       empty-kept = λ s. refl;
       last-kept = λ ts t h s. h (s .0);
       also-kept = λ ts us t es h i s. rw (small-append ts (mark comma ∷ us), h (s .0)) (i (s .1));
-      unary-kept = λ o op ts t l h s. rw (small-unary o ts l) (h (s .0));
+      unary-kept = λ o op ts t l h s. rw (small-operator o ts (word-or-sign asUnary refl o l)) (h (s .0));
       binary-kept = λ o c b ts us t u l h i s.
-          let (x, y) = operands-small b t u s in rw (small-append ts (o ∷ us), h x, small-binary o us l) (i y);
+          let (x, y) = operands-small b t u s in rw (small-append ts (o ∷ us), h x, small-operator o us (word-or-sign asBinary refl o l)) (i y);
     }
 
 pub derived-small : (d : ℕ) (ts : List Token) (t : Tree) → Whole d ts t → SmallTree t → smallNaturals ts ≡ true

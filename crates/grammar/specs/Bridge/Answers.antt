@@ -1,8 +1,7 @@
 -- What the tests of the byte rules answer at a place, as one record, and what they should answer for the token that stands there.
 use Prim.Native.Nat.{ℕ}
 use mathlib.Core.Path.{_≡_, refl, _∙_}
-use mathlib.Core.Bool.{Bool, true, false, _&&_}
-use lib.Dec.{eqb}
+use mathlib.Core.Bool.{Bool, true, false}
 use mathlib.Core.List.{List, [], _∷_, _++_}
 use mathlib.Core.Option.{Option, none, some}
 use lib.ListN.{length, drop, take}
@@ -18,9 +17,9 @@ use Rattle.grammar.specs.Tokens.{Token, name, mark, sign, Mark, lparen, 
 use Rattle.grammar.specs.Grammar.{Class, product, sum, comparison, conjunction, disjunction, implication, explication, equivalence}
 use Rattle.grammar.specs.Grammar.{Build, straight, swapped, signRole, wordRole, role, unary, binary}
 use Rattle.grammar.specs.Parser.{isMark, inClass}
-use Rattle.grammar.specs.Steps.{Reader, after, _or_, mapped, signAt, T}
+use Rattle.grammar.specs.Steps.{after, _or_, mapped, signAt, T}
 use Rattle.grammar.specs.Rules as rules
-use Rattle.grammar.specs.Laws.Steps.{impossible}
+use Rattle.grammar.specs.Rules.{operatorOf}
 use Rattle.grammar.specs.Laws.Views.{spelt, speltMark, Longest, shorter}
 
 -- h of what a test of the parser gives, if it accepts the token
@@ -28,21 +27,11 @@ abbrev pub given : {X A : Type 0} → Option X → (X → Answer A) → Answer A
 given none h = Answer.none
 given (some x) h = h x
 
--- the reader of each class's operators
-abbrev pub operatorOf : List ℕ → ℕ → Class → Reader Build
-operatorOf text m product = rules.factorOperator text m
-operatorOf text m sum = rules.termOperator text m
-operatorOf text m comparison = rules.parseComparisonOperator text m
-operatorOf text m conjunction = rules.andOperator text m
-operatorOf text m disjunction = rules.orOperator text m
-operatorOf text m implication = rules.impliesOperator text m
-operatorOf text m explication = rules.expliesOperator text m
-operatorOf text m equivalence = rules.equivOperator text m
-
 -- a value for each class
 abbrev pub PerClass : Type 0 → Type 0
 PerClass A = A × A × A × A × A × A × A × A
 
+-- the values of a function on classes
 abbrev pub every : {A : Type 0} → (Class → A) → PerClass A
 every f = (f product, f sum, f comparison, f conjunction, f disjunction, f implication, f explication, f equivalence)
 
@@ -56,11 +45,12 @@ pub record Answers : Type 0 where
   pub name : ℕ
   pub digits : ℕ
 
-abbrev pub answersAt : List ℕ → ℕ → ℕ → Answers
-answersAt text m at =
+-- what the tests answer at a place
+abbrev pub answersAt : List ℕ → ℕ → Answers
+answersAt text at =
     record {
-      operators = every (λ c. operatorOf text m c at);
-      prefix = rules.unaryOperator text m at;
+      operators = every (λ c. operatorOf text c at);
+      prefix = rules.unaryOperator text at;
       opening = signAt text (speltMark lparen) at;
       closing = signAt text (speltMark rparen) at;
       separator = signAt text (speltMark comma) at;
@@ -103,15 +93,16 @@ readers = tt
 or-lexeme : {X : Type 0} (x : X) (at n : ℕ) (s : List ℕ) (q : Answer X)
     → after (mapped (λ _. x) (moved at (lexeme 0 n s))) q (λ a next. ok a next) ≡ mapped (λ _. x) (moved at (lexeme 0 n s))
 unfolding after lexeme
-or-lexeme {X} x at n s q = go (W (drop n s))
+or-lexeme {X} x at n s q = by-blanks (W (drop n s))
   where
-    go : (b : Blanks) → after (mapped (λ _. x) (moved at (lexing.closed 0 n b))) q (λ a next. ok a next) ≡ mapped (λ _. x) (moved at (lexing.closed 0 n b))
-    go (passed k) = refl
-    go (unclosed place) = refl
+    by-blanks : (b : Blanks) → after (mapped (λ _. x) (moved at (lexing.closed 0 n b))) q (λ a next. ok a next) ≡ mapped (λ _. x) (moved at (lexing.closed 0 n b))
+    by-blanks (passed k) = refl
+    by-blanks (unclosed place) = refl
 
-module _ (text : List ℕ) (m at : ℕ) where
+module _ (text : List ℕ) (at : ℕ) where
+  -- where a sign stands, the longest there
   pub sign-answers : (g : Sign) (s : List ℕ) → Longest g s → drop at text ≡ spelt g ++ s
-      → answersAt text m at ≡ answersOf (sign g) (moved at (lexeme 0 (length (spelt g)) (drop at text))) 0 0
+      → answersAt text at ≡ answersOf (sign g) (moved at (lexeme 0 (length (spelt g)) (drop at text))) 0 0
   unfolding readers lexing.keyword identifierLength canStartIdentifierChar isDigit run sameBytes isMark inClass unary binary role signRole
   sign-answers '!' s l e = rw (e, l, or-lexeme LogicalNot) refl
   sign-answers '-' s l e = rw e refl
@@ -129,15 +120,16 @@ module _ (text : List ℕ) (m at : ℕ) where
   sign-answers '<==' s l e = rw (e, l) refl
   sign-answers '<==>' s l e = rw e refl
 
+  -- where a bracket or comma stands
   pub mark-answers : (k : Mark) (s : List ℕ) → drop at text ≡ speltMark k ++ s
-      → answersAt text m at ≡ answersOf (mark k) (moved at (lexeme 0 1 (drop at text))) 0 0
+      → answersAt text at ≡ answersOf (mark k) (moved at (lexeme 0 1 (drop at text))) 0 0
   unfolding readers lexing.keyword identifierLength canStartIdentifierChar isDigit run sameBytes isMark inClass unary binary role signRole
   mark-answers lparen s e = rw e refl
   mark-answers rparen s e = rw e refl
   mark-answers comma s e = rw e refl
 
   module _ (noSign : (g : Sign) → startsWith (spelt g) (drop at text) ≡ false) (noMark : (k : Mark) → startsWith (speltMark k) (drop at text) ≡ false) where
-    signless : answersAt text m at
+    signless : answersAt text at
         ≡ onlyWords (mapped (λ _. straight Div) (T text "div" at) or mapped (λ _. straight Mod) (T text "mod" at)) (identifierLength (drop at text))
         (run isDigit (drop at text))
     unfolding readers
@@ -166,13 +158,13 @@ module _ (text : List ℕ) (m at : ℕ) where
 
     -- Where no sign stands, the token is the identifier there, or the empty one; n and d are the lengths of the identifier and of the natural.
     pub word-answers : {n d : ℕ} → identifierLength (drop at text) ≡ n → run isDigit (drop at text) ≡ d
-        → answersAt text m at ≡ answersOf (name (take n (drop at text))) (moved at (lexeme 0 n (drop at text))) n d
+        → answersAt text at ≡ answersOf (name (take n (drop at text))) (moved at (lexeme 0 n (drop at text))) n d
     unfolding after lexing.keyword isMark inClass unary binary role wordRole
-    word-answers {n} {d} i j = signless ∙ go (sameBytes (take n (drop at text)) (bytes "div")) (sameBytes (take n (drop at text)) (bytes "mod")) refl refl
+    word-answers {n} {d} i j = signless ∙ by-word (sameBytes (take n (drop at text)) (bytes "div")) (sameBytes (take n (drop at text)) (bytes "mod")) refl refl
       where
-        go : (x y : Bool) → sameBytes (take n (drop at text)) (bytes "div") ≡ x → sameBytes (take n (drop at text)) (bytes "mod") ≡ y
+        by-word : (x y : Bool) → sameBytes (take n (drop at text)) (bytes "div") ≡ x → sameBytes (take n (drop at text)) (bytes "mod") ≡ y
             → onlyWords (mapped (λ _. straight Div) (T text "div" at) or mapped (λ _. straight Mod) (T text "mod" at)) (identifierLength (drop at text))
             (run isDigit (drop at text)) ≡ answersOf (name (take n (drop at text))) (moved at (lexeme 0 n (drop at text))) n d
-        go true y e f = rw (i, j, e, or-lexeme (straight Div)) refl
-        go false true e f = rw (i, j, e, f) refl
-        go false false e f = rw (i, j, e, f) refl
+        by-word true y e f = rw (i, j, e, or-lexeme (straight Div)) refl
+        by-word false true e f = rw (i, j, e, f) refl
+        by-word false false e f = rw (i, j, e, f) refl

@@ -9,46 +9,48 @@ use lib.Dec.{leb}
 use borrow.Author.Tests.{leb-true, le-leb}
 use Rattle.lexing.specs.Answer.{ok, refused, pick}
 use Rattle.tree.specs.Ast.{Span, Expr}
+use Rattle.tree.specs.Limits.{mostText, mostWords}
 use Rattle.tree.specs.Resolve.{bytes, resolveExpr}
 use Rattle.grammar.specs.Grammar.{Tree}
-use Rattle.grammar.specs.OperatorTrees.{OperatorTree, DerivesWithin, wordCount, mostBytes, mostWords, mostDepth}
+use Rattle.grammar.specs.OperatorTrees.{OperatorTree, DerivesWithin, wordCount, mostDepth}
 use Rattle.grammar.specs.Tokens.{cut}
 use Rattle.grammar.specs.Reading.{words, refusal, treeWords, stored, outcome, parseText, readTree, readExpression}
 use Rattle.grammar.specs.TreeRead.{GivesTree}
-use Rattle.grammar.specs.Laws.Steps.{impossible}
+use Rattle.tree.specs.Clash.{impossible}
 use Rattle.grammar.specs.Laws.Looks.{both-true}
 use Rattle.grammar.specs.Laws.Limited.{parse-limited}
 use Rattle.grammar.specs.Laws.Every.{derived-operators}
 use Rattle.tree.specs.Claims.{expression-count}
-use Rattle.grammar.specs.Bridge.Entry.{text-agrees, agrees-ok, agrees-some}
+use Rattle.grammar.specs.Bridge.WholeText.{text-agrees, agrees-ok, agrees-some}
 
 module _ (text : List ℕ) (n : ℕ) where
   -- reading a text that is not too long
-  read-inv : {e : Expr Span} {next : ℕ} → readTree text ≡ ok e next → (length text ≤ mostBytes) × (parseText text ≡ ok e next)
+  read-inv : {e : Expr Span} {next : ℕ} → readTree text ≡ ok e next → (length text ≤ mostText) × (parseText text ≡ ok e next)
   unfolding readTree
-  read-inv {e} {next} p = go (leb (length text) mostBytes) refl p
+  read-inv {e} {next} p = by-length (leb (length text) mostText) refl p
     where
-      go : (b : Bool) → leb (length text) mostBytes ≡ b → pick b (parseText text) (refused 1 mostBytes) ≡ ok e next
-          → (length text ≤ mostBytes) × (parseText text ≡ ok e next)
-      go true q p = (leb-true (length text) mostBytes q, p)
-      go false q p = impossible (cc)
+      by-length : (b : Bool) → leb (length text) mostText ≡ b → pick b (parseText text) (refused 1 mostText) ≡ ok e next
+          → (length text ≤ mostText) × (parseText text ≡ ok e next)
+      by-length true q p = (leb-true (length text) mostText q, p)
+      by-length false q p = impossible (cc)
 
-  read-short : {e : Expr Span} {next : ℕ} → length text ≤ mostBytes → parseText text ≡ ok e next → readTree text ≡ ok e next
+  read-short : {e : Expr Span} {next : ℕ} → length text ≤ mostText → parseText text ≡ ok e next → readTree text ≡ ok e next
   unfolding readTree
-  read-short h p = rw (le-leb (length text) mostBytes h) p
+  read-short h p = rw (le-leb (length text) mostText h) p
 
   -- the words fit exactly where they are stored
   pub stored-inv : (ws : List ℕ) {k : ℕ} {l : List ℕ} → stored n ws ≡ words k l → (length ws ≤ n) × (length ws ≤ mostWords)
-  stored-inv ws {k} {l} p = go (leb (length ws) n && leb (length ws) mostWords) refl p
+  stored-inv ws {k} {l} p = by-room (leb (length ws) n && leb (length ws) mostWords) refl p
     where
-      go : (b : Bool) → (leb (length ws) n && leb (length ws) mostWords) ≡ b
+      by-room : (b : Bool) → (leb (length ws) n && leb (length ws) mostWords) ≡ b
           → pick b (words (length ws) (ws ++ replicate (n - length ws) 0)) (refusal 5 0 (replicate n 0)) ≡ words k l
           → (length ws ≤ n) × (length ws ≤ mostWords)
-      go true q p =
+      by-room true q p =
           let (a, b) = both-true (leb (length ws) n) (leb (length ws) mostWords) q in
           (leb-true (length ws) n a, leb-true (length ws) mostWords b)
-      go false q p = impossible (cc)
+      by-room false q p = impossible (cc)
 
+  -- words that fit are stored
   pub stored-fits : (ws : List ℕ) → length ws ≤ n → length ws ≤ mostWords → stored n ws ≡ words (length ws) (ws ++ replicate (n - length ws) 0)
   stored-fits ws h i = rw (le-leb (length ws) n h, le-leb (length ws) mostWords i) refl
 
@@ -68,6 +70,7 @@ module _ (text : List ℕ) (n : ℕ) where
       let f = stored-inv (treeWords e []) (sym (stored-read r) ∙ a) in
       record { short = short; derives = d .0; naturals = d .1; fits = rw (← count e) (f .0); few = rw (← count e) (f .1) }
 
+  -- an operator tree that is given has a derivation within the limits
   pub gives-derives : {t : Tree} → GivesTree text n t → OperatorTree t → DerivesWithin n text t
   gives-derives {t} g x = rw (g .named) at (read-derives (g .answered) (g .read) (rw (g .named) x))
 
@@ -85,8 +88,10 @@ module _ (text : List ℕ) (n : ℕ) where
         answered = stored-read r ∙ stored-fits (treeWords e []) (rw c (d .fits)) (rw c (d .few));
       }
 
+  -- a text gives one tree
   pub gives-same : {t u : Tree} → GivesTree text n t → GivesTree text n u → t ≡ u
   gives-same g h = let e : g .tree ≡ h .tree = cc (g .read, h .read) in sym (g .named) ∙ ap (resolveExpr text) e ∙ h .named
 
+-- a derivation's tree is an operator tree
 pub derives-operators : {text : List ℕ} {n : ℕ} {t : Tree} → DerivesWithin n text t → OperatorTree t
 derives-operators {text} {t} d = derived-operators mostDepth (cut text) t (d .derives)

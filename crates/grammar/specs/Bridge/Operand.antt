@@ -5,7 +5,7 @@ use mathlib.Core.Bool.{Bool, true, false}
 use mathlib.Core.List.{List, _∷_}
 use lib.ListN.{length, drop, take}
 use lib.Dec.{leb}
-use Rattle.lexing.specs.Answer.{Answer, ok, refused, moved, pick}
+use Rattle.lexing.specs.Answer.{Answer, ok, refused, largeNatural, moved, pick}
 use Rattle.lexing.specs.Bytes.{isDigit, canStartIdentifierChar, run, startsWith, sameBytes}
 use Rattle.lexing.specs.Blanks.{Blanks, passed, unclosed, W}
 use Rattle.lexing.specs.Tokens as lexing
@@ -26,7 +26,7 @@ use Rattle.grammar.specs.Bridge.Trees.{Bad, bad-single}
 use Rattle.grammar.specs.Bridge.Tests.{Stands, word, digits, other, nowhere, stands, mark-test, prefix-test}
 use Rattle.grammar.specs.Bridge.Tails.{SimExpr, Level}
 use Rattle.grammar.specs.Bridge.NoOperand.{bar-ends}
-use Rattle.grammar.specs.Bridge.Names.{bracketed-sim, bracketed-halts}
+use Rattle.grammar.specs.Bridge.AfterName.{bracketed-sim, bracketed-halts}
 use Rattle.grammar.specs.Bridge.WordOperand.{word-sim}
 
 module _ (text : List ℕ) (m : ℕ) {c : Reader (Expr Span)} {e : Parser} (l : Level text c e) (at : ℕ) where
@@ -35,7 +35,7 @@ module _ (text : List ℕ) (m : ℕ) {c : Reader (Expr Span)} {e : Parser} (l : 
 
   -- a natural of n digits, where no word stands; x says that it keeps the limit
   natural-by : (n v : ℕ) (q : Answer (Expr Span)) (x : Bool) (b : Blanks) → ((k : ℕ) → b ≡ passed k → at + (n + k) ≤ length text)
-      → SimExpr text (after (mapped ILiteral (moved at (pick x (closed v n b) (refused 4 0)))) q (λ a next. ok a next))
+      → SimExpr text (after (mapped ILiteral (moved at (pick x (closed v n b) (refused largeNatural 0)))) q (λ a next. ok a next))
       (parseOperand m e (pick x (nat v) illegal ∷ follow text at n b))
   unfolding after parseOperand see isNat isWord isMark
   natural-by n v q true (passed k) i = agree (ILiteral v) (at + (n + k)) (i k refl)
@@ -46,8 +46,8 @@ module _ (text : List ℕ) (m : ℕ) {c : Reader (Expr Span)} {e : Parser} (l : 
   abbrev number : Answer ℕ → Answer (Expr Span)
   number r =
       after (mapped ILiteral r)
-      (after (after (Sym text "|" at) Answer.none (λ _ at₁. rules.afterBar text m c at₁))
-      (after (signAt text (speltMark lparen) at) Answer.none (λ _ at₁. rules.afterParen text m c at₁)) (λ a next. ok a next)) (λ a next. ok a next)
+      (after (after (Sym text "|" at) Answer.none (λ _ at₁. rules.afterBar text at₁))
+      (after (signAt text (speltMark lparen) at) Answer.none (λ _ at₁. rules.afterParen text c at₁)) (λ a next. ok a next)) (λ a next. ok a next)
 
   wordless : identifierLength (drop at text) ≡ 0 → primary ≡ number (parseNat text at)
   unfolding rules.parsePrimaryExpr rules.parseAtomicExpr after lexing.keyword lexing.parseId sameBytes
@@ -56,7 +56,7 @@ module _ (text : List ℕ) (m : ℕ) {c : Reader (Expr Span)} {e : Parser} (l : 
   natural-here : (n : ℕ) → run isDigit (drop at text) ≡ suc n
       → parseNat text at
       ≡ moved at (pick (leb (decimal 0 (take (suc n) (drop at text))) mostNatural)
-      (closed (decimal 0 (take (suc n) (drop at text))) (suc n) (W (drop (suc n) (drop at text)))) (refused 4 0))
+      (closed (decimal 0 (take (suc n) (drop at text))) (suc n) (W (drop (suc n) (drop at text)))) (refused largeNatural 0))
   unfolding lexing.natural lexeme
   natural-here n d = rw d refl
 
@@ -75,7 +75,7 @@ module _ (text : List ℕ) (m : ℕ) {c : Reader (Expr Span)} {e : Parser} (l : 
   bracket n w = see-misses isNat (tokens text at) _ _ n ∙ see-misses isWord (tokens text at) _ _ w
 
   open-primary : (s : List ℕ) → drop at text ≡ 40 ∷ s
-      → primary ≡ after (signAt text (speltMark lparen) at) Answer.none (λ _ at₁. rules.afterParen text m c at₁)
+      → primary ≡ after (signAt text (speltMark lparen) at) Answer.none (λ _ at₁. rules.afterParen text c at₁)
   unfolding rules.parsePrimaryExpr rules.parseAtomicExpr after lexing.keyword lexing.parseId lexing.natural lexing.sign sameBytes identifierLength canStartIdentifierChar isDigit run startsWith
   open-primary s p = rw p refl
 
@@ -84,25 +84,25 @@ module _ (text : List ℕ) (m : ℕ) {c : Reader (Expr Span)} {e : Parser} (l : 
   unfolding after
   bar-dead q =
       rw q
-      (dead-then Answer.none _ (dead-after (Sym text "|" at) Answer.none _ absent (λ _ at₁. ends (bar-ends text m c at₁))) absent
+      (dead-then Answer.none _ (dead-after (Sym text "|" at) Answer.none _ absent (λ _ at₁. ends (bar-ends text at₁))) absent
       (λ a next p. ends (reads p)))
 
   bracket-sim : Misses isNat (tokens text at) → Misses isWord (tokens text at) → identifierLength (drop at text) ≡ 0 → run isDigit (drop at text) ≡ 0
       → SimExpr text primary (parseOperand m e (tokens text at))
   unfolding lexing.sign lexing.natural
-  bracket-sim n w i d = rw (bracket n w) (go (startsWith (speltMark lparen) (drop at text)) refl)
+  bracket-sim n w i d = rw (bracket n w) (by-bracket (startsWith (speltMark lparen) (drop at text)) refl)
     where
-      go : (x : Bool) → startsWith (speltMark lparen) (drop at text) ≡ x
+      by-bracket : (x : Bool) → startsWith (speltMark lparen) (drop at text) ≡ x
           → SimExpr text primary (see (isMark lparen) (tokens text at) failed (λ x us. parseBracketed e us))
-      go true p =
+      by-bracket true p =
           rw (open-primary (drop 1 (drop at text)) (startsWith-true (speltMark lparen) (drop at text) p))
-          (sim-see _ _ _ _ (mark-test text m at lparen) (dead absent fails) (λ _ at₁ h. bracketed-sim text m l at₁) (λ x us. bracketed-halts text m l us))
-      go false p =
+          (sim-see _ _ _ _ (mark-test text at lparen) (dead absent fails) (λ _ at₁ h. bracketed-sim text l at₁) (λ x us. bracketed-halts text l us))
+      by-bracket false p =
           let q : signAt text (speltMark lparen) at ≡ Answer.none = rw p refl in
           let r : parseNat text at ≡ Answer.none = rw d refl in
-          rw (see-misses (isMark lparen) (tokens text at) _ _ (test-none (rw q at (mark-test text m at lparen))), wordless i, r) (dead (bar-dead q) fails)
+          rw (see-misses (isMark lparen) (tokens text at) _ _ (test-none (rw q at (mark-test text at lparen))), wordless i, r) (dead (bar-dead q) fails)
 
-  operand-by : Stands text m at → SimExpr text primary (parseOperand m e (tokens text at))
+  operand-by : Stands text at → SimExpr text primary (parseOperand m e (tokens text at))
   unfolding isNat isWord isMark
   operand-by (word n t a) =
       rw (tokens-here text at t)
@@ -126,7 +126,7 @@ module _ (text : List ℕ) (m : ℕ) {c : Reader (Expr Span)} {e : Parser} (l : 
   operand : Level text (rules.parsePrimaryExpr text m c) (parseOperand m e)
   operand =
       record {
-        sim = λ at. operand-by text m l at (stands text m at);
+        sim = λ at. operand-by text m l at (stands text at);
         halts = operand-halts;
         closed = λ at s p. no-primary text m l at s p;
       }
@@ -140,7 +140,7 @@ module _ (text : List ℕ) (m : ℕ) {c : Reader (Expr Span)} {e : Parser} (l : 
   unfolding rules.unaryTail parseUnary
   unary-sim zero at = operand .sim at
   unary-sim (suc k) at =
-      sim-see _ _ _ _ (prefix-test text m at) (operand .sim at)
+      sim-see _ _ _ _ (prefix-test text at) (operand .sim at)
       (λ op at₁ h. sim-after _ _ _ (unary-sim k at₁) (ends refuses) (λ a at₂ h₂. agree (single op a) at₂ h₂)
       (λ a at₂ bad. ends (reads (bad-single text op a bad))) (λ t us. waits))
       (λ op us. halted-after _ (unary-halts k us) (λ t vs. waits))

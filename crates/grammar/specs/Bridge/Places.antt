@@ -8,7 +8,7 @@ use mathlib.Core.Option.{Option, none}
 use lib.ListN.{length, drop, length-drop}
 use lib.Seq.{drop-drop}
 use lib.Dec.{leb}
-use Rattle.lexing.specs.Answer.{Answer, ok, refused, pick}
+use Rattle.lexing.specs.Answer.{Answer, ok, refused, unclosedComment, pick}
 use Rattle.lexing.specs.Bytes.{isDigit, run, startsWith}
 use Rattle.lexing.specs.Blanks.{Blanks, passed, unclosed, W}
 use Rattle.lexing.specs.RunLaws.{run-inside}
@@ -18,7 +18,7 @@ use Rattle.lexing.specs.TokenLaws.{identifier-inside, startsWith-inside}
 use Rattle.grammar.specs.Words.{bytes}
 use Rattle.grammar.specs.Tokens.{Token, name, nat, mark, sign, illegal, Spelling, _is_, signs, Cut, token, nothing, signAt, naturalAt, nameAt}
 use Rattle.grammar.specs.Tokens.{tokenAt, tokensAfter, afterBlanks, cut}
-use Rattle.grammar.specs.Laws.Steps.{impossible}
+use Rattle.tree.specs.Clash.{impossible}
 use Rattle.grammar.specs.Laws.Stops.{Misses}
 use Rattle.grammar.specs.Laws.Limited.{limited}
 use Rattle.grammar.specs.Laws.Cut.{tokens-drop, tokens-first, tokens-illegal}
@@ -32,6 +32,7 @@ limit (mark k) = mark k
 limit (sign g) = sign g
 limit illegal = illegal
 
+-- the limit on naturals, token by token
 pub limited-first : (o : Token) (ts : List Token) → limited (o ∷ ts) ≡ limit o ∷ limited ts
 limited-first (name w) ts = refl
 limited-first (nat n) ts = refl
@@ -43,12 +44,12 @@ limited-first illegal ts = refl
 sign-inside : (g : List Spelling) (s : List ℕ) {o : Token} {n : ℕ} → signAt g s ≡ token o n → n ≤ length s
 unfolding signAt
 sign-inside [] s e = impossible (cc)
-sign-inside (_is_ w t ∷ g) s {o} {n} e = go (startsWith (bytes w) s) refl e (λ e. sign-inside g s e)
+sign-inside (_is_ w t ∷ g) s {o} {n} e = by-sign (startsWith (bytes w) s) refl e (λ e. sign-inside g s e)
   where
-    go : (x : Bool) → startsWith (bytes w) s ≡ x → (elim x as (λ _. Cut) [ true ↦ token t (length (bytes w)) | false ↦ signAt g s ]) ≡ token o n
+    by-sign : (x : Bool) → startsWith (bytes w) s ≡ x → (elim x as (λ _. Cut) [ true ↦ token t (length (bytes w)) | false ↦ signAt g s ]) ≡ token o n
         → (signAt g s ≡ token o n → n ≤ length s) → n ≤ length s
-    go true p e ih = let h : length (bytes w) ≡ n = cc in rw (← h) (startsWith-inside (bytes w) s p)
-    go false p e ih = ih e
+    by-sign true p e ih = let h : length (bytes w) ≡ n = cc in rw (← h) (startsWith-inside (bytes w) s p)
+    by-sign false p e ih = ih e
 
 natural-inside : (k : ℕ) (s : List ℕ) {o : Token} {n : ℕ} → k ≤ length s → naturalAt k s ≡ token o n → n ≤ length s
 unfolding naturalAt
@@ -73,7 +74,7 @@ module _ (text : List ℕ) (at : ℕ) where
   -- a byte rule's answer with the value v after a token of n bytes
   abbrev pub readThen : {A : Type 0} → A → ℕ → Blanks → Answer A
   readThen v n (passed k) = ok v (at + (n + k))
-  readThen v n (unclosed place) = refused 2 (at + (n + place))
+  readThen v n (unclosed place) = refused unclosedComment (at + (n + place))
 
   follow-cut : (n : ℕ) (b : Blanks) → limited (afterBlanks b (λ k. tokensAfter k (drop n (drop at text)))) ≡ follow n b
   unfolding tokens
@@ -91,6 +92,7 @@ module _ (text : List ℕ) (at : ℕ) where
       ap limited (tokens-drop at text ∙ tokens-first (drop at text) e) ∙ limited-first o (cut (drop (suc n) (drop at text)))
       ∙ ap (λ l. limit o ∷ l) (follow-cut (suc n) (W (drop (suc n) (drop at text))))
 
+  -- a token and its blanks lie inside the text
   pub inside-here : {o : Token} {n k : ℕ} → tokenAt (drop at text) ≡ token o (suc n) → W (drop (suc n) (drop at text)) ≡ passed k
       → at + (suc n + k) ≤ length text
   inside-here {n} {k} e w =
@@ -101,8 +103,8 @@ module _ (text : List ℕ) (at : ℕ) where
   -- where no token can be cut
   pub nothing-here : {X : Type 0} (look : Token → Option X) → look illegal ≡ none → tokenAt (drop at text) ≡ nothing → Misses look (tokens text at)
   unfolding tokens tokensAfter
-  nothing-here look i e = rw (tokens-drop at text) (go (drop at text) e)
+  nothing-here look i e = rw (tokens-drop at text) (by-bytes (drop at text) e)
     where
-      go : (s : List ℕ) → tokenAt s ≡ nothing → Misses look (limited (tokensAfter 0 s))
-      go [] e = tt
-      go (a ∷ s) e = rw (tokens-illegal a s e) i
+      by-bytes : (s : List ℕ) → tokenAt s ≡ nothing → Misses look (limited (tokensAfter 0 s))
+      by-bytes [] e = tt
+      by-bytes (a ∷ s) e = rw (tokens-illegal a s e) i

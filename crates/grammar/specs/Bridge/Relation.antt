@@ -9,7 +9,7 @@ use Rattle.grammar.specs.Tokens.{Token, illegal, tokensAfter}
 use Rattle.grammar.specs.Parser as parser
 use Rattle.grammar.specs.Parser.{Parsed, parsed, failed, see}
 use Rattle.grammar.specs.Steps.{after}
-use Rattle.grammar.specs.Laws.Steps.{impossible}
+use Rattle.tree.specs.Clash.{impossible}
 use Rattle.grammar.specs.Laws.Limited.{limited}
 use Rattle.grammar.specs.Laws.Stops.{Misses, see-misses}
 
@@ -28,8 +28,8 @@ pub data Ends {A : Type 0} (P : A → Type 0) : Answer A → Type 0 where
   reads : {a : A} {next : ℕ} → P a → Ends P (ok a next)
 
 -- the byte side keeps a token
-abbrev pub Kept : {A : Type 0} → Answer A → Type 0
-Kept = Ends (λ _. Unit {0})
+abbrev pub KeepsToken : {A : Type 0} → Answer A → Type 0
+KeepsToken = Ends (λ _. Unit {0})
 
 -- what the byte side reads, if anything, satisfies P
 pub data Dead {A : Type 0} (P : A → Type 0) : Answer A → Type 0 where
@@ -59,6 +59,7 @@ module _ {A B : Type 0} where
   ends-after Answer.none stop go s g = s
   ends-after (refused number place) stop go s g = refuses
 
+  -- whatever the first rule reads, what the second reads, if anything, satisfies P
   pub dead-after : {P : B → Type 0} (r : Answer A) (stop : Answer B) (go : A → ℕ → Answer B) → Dead P stop → ((a : A) (next : ℕ) → Dead P (go a next))
       → Dead P (after r stop go)
   unfolding after
@@ -73,6 +74,7 @@ module _ {A B : Type 0} where
   ends-then stop go refuses g = refuses
   ends-then stop go (reads {a} {next} q) g = g a next
 
+  -- the same where what the first reads, if anything, satisfies Q
   pub dead-then : {P : B → Type 0} {Q : A → Type 0} {r : Answer A} (stop : Answer B) (go : A → ℕ → Answer B) → Dead Q r → Dead P stop
       → ((a : A) (next : ℕ) → Q a → Dead P (go a next)) → Dead P (after r stop go)
   unfolding after
@@ -80,6 +82,7 @@ module _ {A B : Type 0} where
   dead-then stop go (ends refuses) s g = ends refuses
   dead-then stop go (ends (reads {a} {next} q)) s g = g a next q
 
+  -- a step after one that can't go on
   pub halted-after : {o : Parsed A} (go : A → List Token → Parsed B) → Halted o → ((a : A) (ts : List Token) → Halted (go a (illegal ∷ ts)))
       → Halted (parser.after o go)
   unfolding parser.after
@@ -103,6 +106,7 @@ test-misses (seen a next o h e) n = impossible (cc)
 test-misses (unclosed number place o x ts e) n = impossible (cc)
 test-misses (missed n) n′ = refl
 
+-- where the byte side finds nothing, so does the token side
 pub test-none : {text : List ℕ} {A X : Type 0} {f : A → X} {look : Token → Option X} {ts : List Token} → Test text f look Answer.none ts → Misses look ts
 test-none (missed n) = n
 
@@ -111,6 +115,7 @@ pub refused-halts : {text : List ℕ} {A B : Type 0} {f : A → B} {Bad : A → 
     → Halted o
 refused-halts (dead d w) = w
 
+-- where the byte side keeps nothing, the token side can't go on
 pub none-halts : {text : List ℕ} {A B : Type 0} {f : A → B} {Bad : A → Type 0} {o : Parsed B} → Sim text f Bad Answer.none o → Halted o
 none-halts (dead d w) = w
 

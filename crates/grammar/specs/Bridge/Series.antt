@@ -17,6 +17,7 @@ use Rattle.grammar.specs.Grammar.{Tree}
 use Rattle.grammar.specs.Parser as parser
 use Rattle.grammar.specs.Parser.{Parsed, parsed, failed, Parser, looked, see, isMark, parseSeries, parseItems}
 use Rattle.grammar.specs.Steps.{Reader, after, mapped, signAt}
+use Rattle.grammar.specs.StepLaws.{after-after}
 use Rattle.grammar.specs.Rules as rules
 use Rattle.grammar.specs.Rules.{exprs}
 use Rattle.grammar.specs.Laws.Looks.{mark-inv}
@@ -30,13 +31,6 @@ use Rattle.grammar.specs.Bridge.Tails.{Level}
 
 -- ---- what stands after a step goes into both its branches
 
-after-after : {A B C : Type 0} (r : Answer A) (stop : Answer B) (go : A → ℕ → Answer B) (last : Answer C) (k : B → ℕ → Answer C)
-    → after (after r stop go) last k ≡ after r (after stop last k) (λ a at. after (go a at) last k)
-unfolding after
-after-after (ok a at) stop go last k = refl
-after-after Answer.none stop go last k = refl
-after-after (refused number place) stop go last k = refl
-
 see-after : {X A B : Type 0} (look : Token → Option X) (ts : List Token) (stop : Parsed A) (go : X → List Token → Parsed A) (k : A → List Token → Parsed B)
     → see look ts (parser.after stop k) (λ x us. parser.after (go x us) k) ≡ parser.after (see look ts stop go) k
 unfolding see
@@ -47,6 +41,7 @@ see-after {X} look (o ∷ ts) stop go k = at (look o)
     at none = refl
     at (some x) = refl
 
+-- the simulation of lists of expressions
 abbrev pub SimExprs : List ℕ → Answer (Exprs Span) → Parsed (Exprs (List ℕ)) → Type 0
 SimExprs text = Sim text (resolveExprs text) (BadList text)
 
@@ -64,7 +59,7 @@ module _ (text : List ℕ) where
   -- an empty list
   nil-sim : (at : ℕ) → SimExprs text (close (ok noExprs at)) (see (isMark rparen) (tokens text at) failed (λ x vs. parsed noExprs vs))
   unfolding after
-  nil-sim at = sim-see _ _ _ _ (mark-test text 0 at rparen) (dead (ends refuses) fails) (λ _ at₁ h. agree noExprs at₁ h) (λ x us. waits)
+  nil-sim at = sim-see _ _ _ _ (mark-test text at rparen) (dead (ends refuses) fails) (λ _ at₁ h. agree noExprs at₁ h) (λ x us. waits)
 
   module _ (m : ℕ) {c : Reader (Expr Span)} {e : Parser} (l : Level text c e) where
     -- the rest of a list after an item
@@ -85,16 +80,16 @@ module _ (text : List ℕ) where
     rest-halts k us = fails
 
     -- an item and the rest of a list, by the simulation of the rest
-    item-sim : (k : ℕ) → ((at : ℕ) → at ≤ length text → SimExprs text (close (rules.commaTail text m exprs k c at)) (rest k (tokens text at)))
+    item-sim : (k : ℕ) → ((at : ℕ) → at ≤ length text → SimExprs text (close (rules.commaTail text exprs k c at)) (rest k (tokens text at)))
         → (stop : Answer (Exprs Span)) → Dead (BadList text) stop → (at : ℕ)
-        → SimExprs text (after (c at) stop (λ a at₁. close (mapped (_then_ a) (rules.commaTail text m exprs k c at₁)))) (parseSeries (suc k) e (tokens text at))
+        → SimExprs text (after (c at) stop (λ a at₁. close (mapped (_then_ a) (rules.commaTail text exprs k c at₁)))) (parseSeries (suc k) e (tokens text at))
     unfolding parseSeries
     item-sim k ih stop d at =
         sim-after stop _ _ (l .sim at) d
         (λ a at₁ h. rw (first-rest k (resolveExpr text a) (tokens text at₁), close-mapped (_then_ a))
         (sim-after _ _ _ (ih at₁ h) absent (λ es at₂ h₂. agree (_then_ a es) at₂ h₂) (λ es at₂ bad. ends (reads (bad-rest text a es bad))) (λ es ws. waits)))
         (λ a at₁ bad. rw (close-mapped (_then_ a))
-        (dead-after (close (rules.commaTail text m exprs k c at₁)) _ _ absent (λ es at₂. ends (reads (bad-first text a es bad)))))
+        (dead-after (close (rules.commaTail text exprs k c at₁)) _ _ absent (λ es at₂. ends (reads (bad-first text a es bad)))))
         (λ t us. rw (first-rest k t (illegal ∷ us)) (halted-after _ (rest-halts k us) (λ es ws. waits)))
 
     -- no turns left: a comma is refused
@@ -108,7 +103,7 @@ module _ (text : List ℕ) where
 
     no-close : (at : ℕ) (us : List Token) → tokens text at ≡ mark comma ∷ us → Dead (BadList text) (close (ok noExprs at))
     unfolding after isMark
-    no-close at us t = rw (test-misses (mark-test text m at rparen) (rw t refl)) (ends refuses)
+    no-close at us t = rw (test-misses (mark-test text at rparen) (rw t refl)) (ends refuses)
 
     close-refused : (number place : ℕ) → Dead (BadList text) (close (refused number place))
     unfolding after
@@ -120,19 +115,19 @@ module _ (text : List ℕ) where
     series-halts (suc k) us =
         halted-after _ (l .halts us) (λ t vs. rw (first-rest k t (illegal ∷ vs)) (halted-after _ (rest-halts k vs) (λ es ws. waits)))
 
-    comma-sim : (k : ℕ) → ((at : ℕ) → at ≤ length text → SimExprs text (close (rules.commaTail text m exprs k c at)) (rest k (tokens text at)))
+    comma-sim : (k : ℕ) → ((at : ℕ) → at ≤ length text → SimExprs text (close (rules.commaTail text exprs k c at)) (rest k (tokens text at)))
         → (at : ℕ)
         → SimExprs text
         (close (after (signAt text (speltMark comma) at) (ok noExprs at)
-        (λ _ at₁. after (c at₁) (refused 2 at₁) (λ a at₂. mapped (_then_ a) (rules.commaTail text m exprs k c at₂))))) (rest (suc k) (tokens text at))
+        (λ _ at₁. after (c at₁) (refused 2 at₁) (λ a at₂. mapped (_then_ a) (rules.commaTail text exprs k c at₂))))) (rest (suc k) (tokens text at))
     comma-sim k ih at =
         rw (after-after (signAt text (speltMark comma) at))
-        (sim-see _ _ _ _ (mark-test text m at comma) (nil-sim at)
+        (sim-see _ _ _ _ (mark-test text at comma) (nil-sim at)
         (λ _ at₁ h. rw (after-after (c at₁)) (item-sim k ih (close (refused 2 at₁)) (close-refused 2 at₁) at₁)) (λ x us. series-halts (suc k) us))
 
-    rest-sim : (k at : ℕ) → at ≤ length text → SimExprs text (close (rules.commaTail text m exprs k c at)) (rest k (tokens text at))
+    rest-sim : (k at : ℕ) → at ≤ length text → SimExprs text (close (rules.commaTail text exprs k c at)) (rest k (tokens text at))
     unfolding rules.commaTail parseSeries
-    rest-sim zero at h = no-turns (mark-test text m at comma) (nil-sim at) (λ us t. no-close at us t)
+    rest-sim zero at h = no-turns (mark-test text at comma) (nil-sim at) (λ us t. no-close at us t)
     rest-sim (suc k) at h = comma-sim k (rest-sim k) at
 
     -- a list of at least one expression
@@ -150,7 +145,7 @@ module _ (text : List ℕ) where
     closed-sim at s p =
         let n : nonempty at ≡ Answer.none = rw (l .closed at s p) refl in
         rw n
-        (sim-see _ _ _ _ (mark-test text m at rparen) (dead (ends refuses) (none-halts (rw n at (nonempty-sim at)))) (λ _ at₁ h. agree noExprs at₁ h)
+        (sim-see _ _ _ _ (mark-test text at rparen) (dead (ends refuses) (none-halts (rw n at (nonempty-sim at)))) (λ _ at₁ h. agree noExprs at₁ h)
         (λ x us. waits))
 
     -- where it doesn't, an empty list is refused
@@ -161,17 +156,31 @@ module _ (text : List ℕ) where
     open-sim at n Answer.none s = rw n (dead (ends refuses) (none-halts s))
     open-sim at n (refused number place) s = s
 
-    pub items-sim : (at : ℕ) → SimExprs text (rules.parseListed text m exprs c (bytes ")") at) (parseItems m e (tokens text at))
-    unfolding rules.parseListed rules.parseCommaDelimitedSeq parseItems lexing.sign
-    items-sim at = go (startsWith (speltMark rparen) (drop at text)) refl
+    -- a list that may be empty is never absent, so that what is refused where it is absent doesn't count
+    listed : (at : ℕ) → rules.parseListed text m exprs c (bytes ")") at ≡ close (rules.parseCommaDelimitedSeq text m exprs c at)
+    unfolding rules.parseListed rules.parseCommaDelimitedSeq after
+    listed at = by-answer (nonempty at)
       where
-        go : (b : Bool) → startsWith (speltMark rparen) (drop at text) ≡ b
-            → SimExprs text (close (after (nonempty at) (ok noExprs at) (λ a next. ok a next))) (parseItems m e (tokens text at))
-        go true p = closed-sim at (drop 1 (drop at text)) (startsWith-true (speltMark rparen) (drop at text) p)
-        go false p =
-            let n : signAt text (speltMark rparen) at ≡ Answer.none = rw p refl in
-            rw (see-misses (isMark rparen) (tokens text at) _ _ (test-none (rw n at (mark-test text m at rparen)))) (open-sim at n (nonempty at) (nonempty-sim at))
+        by-answer : (r : Answer (Exprs Span))
+            → after (after r (ok noExprs at) (λ a next. ok a next)) (refused 2 at) (λ l at₁. after (signAt text (speltMark rparen) at₁) (refused 2 at₁) (λ _ at₂. ok l at₂))
+            ≡ close (after r (ok noExprs at) (λ a next. ok a next))
+        by-answer (ok es next) = refl
+        by-answer Answer.none = refl
+        by-answer (refused number place) = refl
 
+    -- a call's arguments and the closing bracket
+    pub items-sim : (at : ℕ) → SimExprs text (rules.parseListed text m exprs c (bytes ")") at) (parseItems m e (tokens text at))
+    unfolding rules.parseCommaDelimitedSeq parseItems lexing.sign
+    items-sim at = rw (listed at) (by-bracket (startsWith (speltMark rparen) (drop at text)) refl)
+      where
+        by-bracket : (b : Bool) → startsWith (speltMark rparen) (drop at text) ≡ b
+            → SimExprs text (close (after (nonempty at) (ok noExprs at) (λ a next. ok a next))) (parseItems m e (tokens text at))
+        by-bracket true p = closed-sim at (drop 1 (drop at text)) (startsWith-true (speltMark rparen) (drop at text) p)
+        by-bracket false p =
+            let n : signAt text (speltMark rparen) at ≡ Answer.none = rw p refl in
+            rw (see-misses (isMark rparen) (tokens text at) _ _ (test-none (rw n at (mark-test text at rparen)))) (open-sim at n (nonempty at) (nonempty-sim at))
+
+    -- which do not begin with an illegal token
     pub items-halts : (us : List Token) → Halted (parseItems m e (illegal ∷ us))
     unfolding parseItems see isMark
     items-halts us = series-halts (suc m) us

@@ -10,9 +10,11 @@ use Rattle.tree.specs.Resolve.{mapExprs, resolveExpr}
 use Rattle.grammar.specs.Grammar.{Tree, Build, straight, swapped, build, single}
 use Rattle.grammar.specs.OperatorTrees.{Operators, AllOperators, OperatorTree}
 
+-- a list of trees over a text, with each name as its bytes
 abbrev pub resolveExprs : List ℕ → Exprs Span → Exprs (List ℕ)
 resolveExprs text = mapExprs (resolved.bytes text)
 
+-- a list of operator trees
 abbrev pub OperatorTrees : Exprs (List ℕ) → Type 0
 OperatorTrees = AllOperators (λ w. true) (λ op u. true)
 
@@ -20,6 +22,7 @@ OperatorTrees = AllOperators (λ w. true) (λ op u. true)
 abbrev pub Bad : List ℕ → Expr Span → Type 0
 Bad text e = OperatorTree (resolveExpr text e) → ⊥
 
+-- a list with a tree that is no operator tree
 abbrev pub BadList : List ℕ → Exprs Span → Type 0
 BadList text es = OperatorTrees (resolveExprs text es) → ⊥
 
@@ -43,6 +46,7 @@ Root (LetExpr w y t u) = ⊥
 Root (QuantifierExpr u bs ps t) = ⊥
 Root (ClosureExpr bs w y ps) = ⊥
 
+-- an operator tree has such a root
 pub root : {t : Tree} → OperatorTree t → Root t
 root Operators.boolean = tt
 root Operators.natural = tt
@@ -64,10 +68,12 @@ next-inv : {t : Tree} {es : Exprs (List ℕ)} → OperatorTrees (_then_ t es) �
 next-inv (AllOperators.next x y) = (x, y)
 
 module _ (text : List ℕ) where
+  -- names as bytes before or after a tree is built
   pub resolve-build : (b : Build) (e e′ : Expr Span) → build b (resolveExpr text e) (resolveExpr text e′) ≡ resolveExpr text (build b e e′)
   resolve-build (straight op) e e′ = refl
   resolve-build (swapped op) e e′ = refl
 
+  -- a bad operand, on the left or the right, makes a bad tree
   pub bad-left : (b : Build) (e e′ : Expr Span) → Bad text e → Bad text (build b e e′)
   bad-left (straight op) e e′ h x = h (binary-inv x .0)
   bad-left (swapped op) e e′ h x = h (binary-inv x .1)
@@ -76,12 +82,15 @@ module _ (text : List ℕ) where
   bad-right (straight op) e e′ h x = h (binary-inv x .1)
   bad-right (swapped op) e e′ h x = h (binary-inv x .0)
 
+  -- and so does the operand of a prefix
   pub bad-single : (op : Operator) (e : Expr Span) → Bad text e → Bad text (single op e)
   bad-single op e h x = h (unary-inv x)
 
+  -- a bad argument makes a bad call
   pub bad-call : (n : Span) (es : Exprs Span) → BadList text es → Bad text (FunctionCallExpr n es)
   bad-call n es h x = h (call-inv x)
 
+  -- a list with a bad tree is bad
   pub bad-first : (e : Expr Span) (es : Exprs Span) → Bad text e → BadList text (_then_ e es)
   bad-first e es h x = h (next-inv x .0)
 

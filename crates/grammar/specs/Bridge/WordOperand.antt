@@ -19,7 +19,7 @@ use Rattle.grammar.specs.Grammar.{Tree}
 use Rattle.grammar.specs.Parser.{Parsed, parsed, failed, Parser, see, isNat, isWord, parseNamed, parseExcluded, parseOperand}
 use Rattle.grammar.specs.Steps.{Reader, after, T, Sym, signAt, spanned, parseName, parseNat}
 use Rattle.grammar.specs.Rules as rules
-use Rattle.grammar.specs.Laws.Steps.{impossible}
+use Rattle.tree.specs.Clash.{impossible}
 use Rattle.grammar.specs.Laws.Views.{speltMark}
 use Rattle.grammar.specs.Bridge.Relation.{Halted, fails, waits, Ends, refuses, reads, ends, absent, agree, dead}
 use Rattle.grammar.specs.Bridge.Relation.{ends-then, dead-then}
@@ -27,7 +27,7 @@ use Rattle.grammar.specs.Bridge.Places.{follow}
 use Rattle.grammar.specs.Bridge.Trees.{Bad}
 use Rattle.grammar.specs.Bridge.Tails.{SimExpr, Level}
 use Rattle.grammar.specs.Bridge.NoOperand.{if-ends, val-ends, quantifier-ends, lift-ends}
-use Rattle.grammar.specs.Bridge.Names.{lexeme-ends, name-sim, named-halts, old-sim, old-ends}
+use Rattle.grammar.specs.Bridge.AfterName.{lexeme-ends, name-sim, named-halts, old-sim, old-ends}
 
 -- ---- a branch of a rule and the branches after it
 
@@ -52,17 +52,18 @@ unfolding after
 last-branch (agree a next h) = agree a next h
 last-branch (dead d w) = dead (dead-then _ _ d absent (λ a next p. ends (reads p))) w
 
+-- a branch that keeps a token is not left
 pub ends-or : {A : Type 0} {P : A → Type 0} {r : Answer A} (q : Answer A) → Ends P r → Ends P (after r q (λ a next. ok a next))
 unfolding after
 ends-or q refuses = refuses
 ends-or q (reads p) = reads p
 
 differ : (a b : List ℕ) → sameBytes a b ≡ false → sameBytes b a ≡ false
-differ a b e = go (sameBytes b a) refl
+differ a b e = by-bytes (sameBytes b a) refl
   where
-    go : (x : Bool) → sameBytes b a ≡ x → x ≡ false
-    go true p = let q : b ≡ a = sameBytes-true b a p in impossible (cc (sameBytes-refl a))
-    go false p = refl
+    by-bytes : (x : Bool) → sameBytes b a ≡ x → x ≡ false
+    by-bytes true p = let q : b ≡ a = sameBytes-true b a p in impossible (cc (sameBytes-refl a))
+    by-bytes false p = refl
 
 -- A word of n bytes with the blanks b after it, at a place where neither a digit nor `|` nor `(` stands.
 module _ (text : List ℕ) (m : ℕ) {c : Reader (Expr Span)} {e : Parser} (l : Level text c e) (at n : ℕ)
@@ -112,14 +113,14 @@ module _ (text : List ℕ) (m : ℕ) {c : Reader (Expr Span)} {e : Parser} (l : 
   literal v x q f p = rw (p, f (follow text at (suc n) b)) (literal-by x q b inside)
 
   old-by : (q : Answer (Expr Span)) (b : Blanks)
-      → SimExpr text (after (after (moved at (closed 0 (suc n) b)) Answer.none (λ _ at₁. rules.afterOld text m c at₁)) q (λ a next. ok a next))
+      → SimExpr text (after (after (moved at (closed 0 (suc n) b)) Answer.none (λ _ at₁. rules.afterOld text at₁)) q (λ a next. ok a next))
       (see isWord (follow text at (suc n) b) failed (λ v us. parsed (IdExpr v true) us))
   unfolding after see isWord
-  old-by q (passed k) = kept q (old-ends text m l (at + (suc n + k))) (old-sim text m l (at + (suc n + k)))
+  old-by q (passed k) = kept q (old-ends text (at + (suc n + k))) (old-sim text (at + (suc n + k)))
   old-by q (unclosed place) = dead (ends refuses) fails
 
   old : (q : Answer (Expr Span)) → w ≡ bytes "old"
-      → SimExpr text (after (after (moved at (closed 0 (suc n) b)) Answer.none (λ _ at₁. rules.afterOld text m c at₁)) q (λ a next. ok a next))
+      → SimExpr text (after (after (moved at (closed 0 (suc n) b)) Answer.none (λ _ at₁. rules.afterOld text at₁)) q (λ a next. ok a next))
       (parseOperand m e (name w ∷ follow text at (suc n) b))
   unfolding parseOperand parseExcluded see isNat isWord isName oneOf sameBytes
   old q p = rw p (old-by q b)
@@ -135,7 +136,7 @@ module _ (text : List ℕ) (m : ℕ) {c : Reader (Expr Span)} {e : Parser} (l : 
   named : isName w ≡ true → signAt text (speltMark lparen) at ≡ Answer.none
       → SimExpr text
       (after (after (parseName text at) Answer.none (λ n at₁. rules.afterName text m c n at₁))
-      (after (signAt text (speltMark lparen) at) Answer.none (λ _ at₁. rules.afterParen text m c at₁)) (λ a next. ok a next))
+      (after (signAt text (speltMark lparen) at) Answer.none (λ _ at₁. rules.afterParen text c at₁)) (λ a next. ok a next))
       (parseOperand m e (name w ∷ follow text at (suc n) b))
   unfolding parseOperand see isNat isWord lexing.parseId lexeme after
   named p q = rw (p, q, word) (name-by b inside)
@@ -158,14 +159,14 @@ module _ (text : List ℕ) (m : ℕ) {c : Reader (Expr Span)} {e : Parser} (l : 
 
   no-bar : Sym text "|" at ≡ Answer.none
   unfolding lexing.sign identifierLength canStartIdentifierChar
-  no-bar = go (startsWith (bytes "|") (drop at text)) refl
+  no-bar = by-bar (startsWith (bytes "|") (drop at text)) refl
     where
-      go : (x : Bool) → startsWith (bytes "|") (drop at text) ≡ x → Sym text "|" at ≡ Answer.none
-      go true p =
+      by-bar : (x : Bool) → startsWith (bytes "|") (drop at text) ≡ x → Sym text "|" at ≡ Answer.none
+      by-bar true p =
           let s : drop at text ≡ 124 ∷ drop 1 (drop at text) = startsWith-true (bytes "|") (drop at text) p in
           let z : 0 ≡ suc n = rw s at word in
           impossible (cc)
-      go false p = rw p refl
+      by-bar false p = rw p refl
 
   is-name : sameBytes w (bytes "if") ≡ false → sameBytes w (bytes "val") ≡ false → sameBytes w (bytes "forall") ≡ false → sameBytes w (bytes "exists") ≡ false
       → sameBytes w (bytes "lift") ≡ false → sameBytes w (bytes "false") ≡ false → sameBytes w (bytes "true") ≡ false → sameBytes w (bytes "old") ≡ false
@@ -184,14 +185,15 @@ module _ (text : List ℕ) (m : ℕ) {c : Reader (Expr Span)} {e : Parser} (l : 
       )
       refl
 
+  -- an operand that begins with a word
   pub word-sim : run isDigit (drop at text) ≡ 0 → signAt text (speltMark lparen) at ≡ Answer.none
       → SimExpr text (rules.parsePrimaryExpr text m c at) (parseOperand m e (name w ∷ follow text at (suc n) b))
   unfolding rules.parsePrimaryExpr rules.parseAtomicExpr
   word-sim d p =
-      keyword-branch "if" _ _ (excluded "if" _ _ (λ _ at₁. if-ends text m c at₁) (λ us. no-operand us .0)) λ n₁.
-      keyword-branch "val" _ _ (excluded "val" _ _ (λ _ at₁. val-ends text m c at₁) (λ us. no-operand us .1)) λ n₂.
-      keyword-branch "forall" _ _ (excluded "forall" _ _ (λ _ at₁. quantifier-ends text m c true at₁) (λ us. no-operand us .2)) λ n₃.
-      keyword-branch "exists" _ _ (excluded "exists" _ _ (λ _ at₁. quantifier-ends text m c false at₁) (λ us. no-operand us .3)) λ n₄.
+      keyword-branch "if" _ _ (excluded "if" _ _ (λ _ at₁. if-ends text c at₁) (λ us. no-operand us .0)) λ n₁.
+      keyword-branch "val" _ _ (excluded "val" _ _ (λ _ at₁. val-ends text c at₁) (λ us. no-operand us .1)) λ n₂.
+      keyword-branch "forall" _ _ (excluded "forall" _ _ (λ _ at₁. quantifier-ends text m c _ at₁) (λ us. no-operand us .2)) λ n₃.
+      keyword-branch "exists" _ _ (excluded "exists" _ _ (λ _ at₁. quantifier-ends text m c _ at₁) (λ us. no-operand us .3)) λ n₄.
       keyword-branch "lift" _ _ (excluded "lift" _ _ (λ _ at₁. lift-ends text m c at₁) (λ us. no-operand us .4)) λ n₅.
       keyword-branch "false" _ _ (literal "false" false _ (λ us. literals us .0)) λ n₆.
       keyword-branch "true" _ _ (literal "true" true _ (λ us. literals us .1)) λ n₇.

@@ -142,6 +142,7 @@ module _ {n m : ℕ} {S : Rule} {p : Parser} (s : Complete n m S p) (c : Class) 
         goes = f .goes ∙ left-halts (f .turns) u rest (st .noOperator c w);
       }
 
+  -- operators to the left
   pub left-tail : {n′ : ℕ} → rank c ≤ n′ → TailComplete n′ m c S (Left c S) (leftTail m c p)
   left-tail w = record { chain = λ d h rest st. left-chain w d h rest st }
 
@@ -167,6 +168,7 @@ module _ {n m : ℕ} {S : Rule} {p : Parser} (s : Complete n m S p) (c : Class) 
       (right-step k t o l (omega arith) (stops-fewer (omega arith) st) (omega arith)
       (right-chain w (pred k) r (omega arith) (omega arith) rest st))
 
+  -- operators to the right
   pub right-tail : {n′ : ℕ} → rank c ≤ n′ → TailComplete n′ m c S (Right c S) (rightTail m c p)
   right-tail w = record { chain = λ d h rest st. right-chain w m d h h rest st }
 
@@ -183,6 +185,7 @@ module _ {n m : ℕ} {S : Rule} {p : Parser} (s : Complete n m S p) (c : Class) 
       let long : length (ts ++ o ∷ us) ≡ length ts + suc (length us) = length-append ts (o ∷ us) in
       followed S d (o ∷ us) (operator o l) (once-step t o l x (omega arith) rest (stops-fewer (omega arith) st))
 
+  -- at most one operator
   pub once-tail : {n′ : ℕ} → rank c ≤ n′ → TailComplete n′ m c S (Once c S) (onceTail c p)
   once-tail w = record { chain = λ d h rest st. once-chain w d h rest st }
 
@@ -210,6 +213,7 @@ module _ {n n′ m : ℕ} {c c′ : Class} {S T T′ : Rule} {q q′ : Tail} (f 
   either-chain (second d) h rest st =
       remade (λ t us b e. (begins-stops (omega arith) (stops-fewer (omega arith) st) b, either-second st b e)) (f′ .chain d h rest st)
 
+  -- operators of one class or of another
   pub either-tail : LevelComplete n n′ m S (Either T T′) (eitherTail c q q′)
   either-tail = record { chain = λ d h rest st. either-chain d h rest st }
 
@@ -221,5 +225,6 @@ module _ {n n′ m : ℕ} {S T : Rule} {p : Parser} {q : Tail} (s : Complete n m
       let short : length (x .run) ≤ m = (let i : _ ≤ _ = x .short in omega arith) in
       rw (x .split, s .parses (x .operand) short (x .tail) (x .begins)) (x .goes)
 
+  -- a rule and what continues it
   pub level : Complete n′ m T (continued p q)
   level = record { parses = λ d h rest st. level-parses d h rest st }

@@ -14,7 +14,7 @@ use Rattle.grammar.specs.Grammar.{last, also, empty, series, falsehood, 
 use Rattle.grammar.specs.Grammar.{prefixed}
 use Rattle.grammar.specs.Parser.{parsed, failed, Parser, after, see, isNat, isWord, isMark, parseSeries, parseItems, parseNamed}
 use Rattle.grammar.specs.Parser.{parseExcluded, parseBracketed, parseOperand, parseUnary}
-use Rattle.grammar.specs.Laws.Steps.{impossible}
+use Rattle.tree.specs.Clash.{impossible}
 use Rattle.grammar.specs.Laws.Looks.{mark-inv, pick-both}
 use Rattle.grammar.specs.Laws.Stops.{misses, see-misses, Stops, stops-rparen, stops-comma}
 use Rattle.grammar.specs.Laws.Complete.{Complete}
@@ -73,6 +73,7 @@ module _ {n m : ℕ} {E : Rule} {e : Parser} (s : Complete n m E e) (closed : (t
   operand-parses (bracketed {ts} d) h rest st =
       rw (append-assoc ts (mark rparen ∷ []) rest) (bracketed-parses d (omega (arith, length-append ts (mark rparen ∷ []))) rest)
 
+  -- a derived operand is what is read
   pub operand-complete : Complete 0 m (Operand E) (parseOperand m e)
   operand-complete = record { parses = λ d h rest st. operand-parses d h rest st }
 
@@ -108,5 +109,6 @@ module _ {m : ℕ} {S : Rule} {p : Parser} (s : Complete 0 m S p) (plain : (o : 
   unary-parses k (bare d) i h rest st = bare-parses k d h rest st
   unary-parses k (prefixed {ts} {o} l d) i h rest st = prefixed-step k ts o l (omega arith) (unary-parses (pred k) d (omega arith) (omega arith) rest st)
 
+  -- and so it is with prefixes
   pub unary-complete : Complete 0 m (Unary S) (parseUnary m p)
   unary-complete = record { parses = λ d h rest st. unary-parses m d h h rest st }

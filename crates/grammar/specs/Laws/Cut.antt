@@ -13,8 +13,9 @@ use Rattle.lexing.specs.Tokens.{identifierLength}
 use Rattle.lexing.specs.BlankLaws.{W-none}
 use Rattle.grammar.specs.Tokens.{Token, illegal, Cut, token, nothing, signAt, naturalAt, nameAt, tokenAt, afterBlanks, atToken}
 use Rattle.grammar.specs.Tokens.{tokensAfter, cut}
-use Rattle.grammar.specs.Laws.Steps.{impossible}
+use Rattle.tree.specs.Clash.{impossible}
 
+-- the tokens after k bytes are those of the text without them
 pub tokens-drop : (k : ℕ) (s : List ℕ) → tokensAfter k s ≡ tokensAfter 0 (drop k s)
 unfolding tokensAfter
 tokens-drop zero s = refl
@@ -38,14 +39,7 @@ unfolding tokensAfter atToken cut
 tokens-first [] e = impossible (cc no-token)
 tokens-first (a ∷ s) {t} {n} e = rw e (ap (λ l. t ∷ l) (blanks-same (W (drop n s)) _ _ (λ k. tokens-add n k s)))
 
--- the same, by the place after the token and its blanks
-pub tokens-next : (s : List ℕ) {t : Token} {n k : ℕ} → tokenAt s ≡ token t (suc n) → W (drop (suc n) s) ≡ passed k
-    → tokensAfter 0 s ≡ t ∷ tokensAfter 0 (drop (suc n + k) s)
-unfolding cut
-tokens-next s {t} {n} {k} e w =
-    let next : cut (drop (suc n) s) ≡ tokensAfter 0 (drop (suc n + k) s) = rw w (tokens-drop k (drop (suc n) s) ∙ ap (tokensAfter 0) (drop-drop k (suc n) s)) in
-    tokens-first s e ∙ ap (λ l. t ∷ l) next
-
+-- where no token can be cut
 pub tokens-illegal : (a : ℕ) (s : List ℕ) → tokenAt (a ∷ s) ≡ nothing → tokensAfter 0 (a ∷ s) ≡ illegal ∷ []
 unfolding tokensAfter atToken
 tokens-illegal a s e = rw e refl

@@ -3,25 +3,25 @@ use Prim.Native.Nat.{ℕ, zero, suc}
 use mathlib.Core.Path.{_≡_, refl}
 use mathlib.Core.Bool.{Bool, true, false, _&&_}
 use mathlib.Core.List.{List, [], _∷_, _++_}
-use mathlib.Core.Option.{some}
+use mathlib.Core.Option.{Option, none, some}
 use Rattle.tree.specs.Ast.{Operator, BLiteral, ILiteral, IdExpr, FunctionCallExpr, Exprs, noExprs, _then_, ArgumentCount}
 use Rattle.lexing.specs.Bytes.{sameBytes}
 use Rattle.grammar.specs.Words.{bytes, isName}
 use Rattle.grammar.specs.Tokens.{Token, name, nat, mark, sign, illegal, lparen, rparen, comma, Sign, '!', '-', '*', '+', '==', '!=', '<'}
 use Rattle.grammar.specs.Tokens.{'<=', '>=', '>', '&&', '||', '==>', '<==', '<==>'}
-use Rattle.grammar.specs.Grammar.{Tree, Rule, Class, Build, Row, row, Role, before, between, both, neither, signRole, wordRole, role}
+use Rattle.grammar.specs.Grammar.{Tree, Rule, Class, Build, row, Role, before, between, both, neither, signRole, wordRole, role}
 use Rattle.grammar.specs.Grammar.{asUnary, asBinary, straight, swapped, build, single, word, binary, unary, Series, Items, Operand, Unary}
 use Rattle.grammar.specs.Grammar.{Left, Right, Once, Either, Whole, UnaryExpr, FactorExpr, TermExpr, JuctExpr, LogicalExpr, ImpExpExpr}
 use Rattle.grammar.specs.Grammar.{EquivExpr}
 use Rattle.grammar.specs.Grammar.{product, sum, comparison, conjunction, disjunction, implication, explication, equivalence}
 use Rattle.grammar.specs.OperatorTrees.{Operators, AllOperators, OperatorTree}
-use Rattle.grammar.specs.Laws.Steps.{impossible}
+use Rattle.tree.specs.Clash.{impossible}
 use Rattle.grammar.specs.Laws.Looks.{pick-both}
 use Rattle.grammar.specs.Grammar.{last, also, empty, series, falsehood, truth, natural, variable, oldVariable, call, bracketed, bare}
 use Rattle.grammar.specs.Grammar.{prefixed, first, second}
 
--- P and Q are kept by every rule
-pub record Kept (P : Rule) (Q : List Token → Exprs (List ℕ) → Type 0) : Type 0 where
+-- P and Q are kept by every rule: P of runs of tokens and their trees, Q of runs and their lists of trees
+pub record Invariant (P : Rule) (Q : List Token → Exprs (List ℕ) → Type 0) : Type 0 where
   pub false-kept : P (word "false" ∷ []) (BLiteral false)
   pub true-kept : P (word "true" ∷ []) (BLiteral true)
   pub nat-kept : (n : ℕ) → P (nat n ∷ []) (ILiteral n)
@@ -41,7 +41,7 @@ pub record Kept (P : Rule) (Q : List Token → Exprs (List ℕ) → Type 0) : Ty
 record Within (S P : Rule) : Type 0 where
   holds : {ts : List Token} {t : Tree} → S ts t → P ts t
 
-module _ {P : Rule} {Q : List Token → Exprs (List ℕ) → Type 0} (k : Kept P Q) where
+module _ {P : Rule} {Q : List Token → Exprs (List ℕ) → Type 0} (k : Invariant P Q) where
   series-kept : {E : Rule} → Within E P → {ts : List Token} {es : Exprs (List ℕ)} → Series E ts es → Q ts es
   series-kept i (last d) = k .last-kept _ _ (i .holds d)
   series-kept i (also d x) = k .also-kept _ _ _ _ (i .holds d) (series-kept i x)
@@ -99,6 +99,7 @@ module _ {P : Rule} {Q : List Token → Exprs (List ℕ) → Type 0} (k : Kept P
   every zero = record { holds = λ x. absurd x }
   every (suc d) = equiv-kept (every d)
 
+  -- what every rule keeps holds of every derivation
   pub whole-kept : (d : ℕ) (ts : List Token) (t : Tree) → Whole d ts t → P ts t
   whole-kept d ts t x = every d .holds x
 
@@ -110,6 +111,7 @@ isLegal (mark k) = true
 isLegal (sign g) = true
 isLegal illegal = false
 
+-- no token of a run is illegal
 abbrev pub allLegal : List Token → Bool
 allLegal [] = true
 allLegal (o ∷ ts) = isLegal o && allLegal ts
@@ -122,23 +124,31 @@ legal-append (mark k ∷ ts) us = legal-append ts us
 legal-append (sign g ∷ ts) us = legal-append ts us
 legal-append (illegal ∷ ts) us = refl
 
-legal-binary : (o : Token) {r : Row} → binary o ≡ some r → isLegal o ≡ true
-unfolding binary role
-legal-binary (name w) l = refl
-legal-binary (nat n) l = refl
-legal-binary (mark k) l = refl
-legal-binary (sign g) l = refl
-legal-binary illegal l = impossible (cc)
+-- an operator is a word or a sign
+abbrev pub WordOrSign : Token → Type 0
+WordOrSign (name w) = Unit {0}
+WordOrSign (nat n) = ⊥
+WordOrSign (mark k) = ⊥
+WordOrSign (sign g) = Unit {0}
+WordOrSign illegal = ⊥
 
-legal-unary : (o : Token) {op : Operator} → unary o ≡ some op → isLegal o ≡ true
-unfolding unary role
-legal-unary (name w) l = refl
-legal-unary (nat n) l = refl
-legal-unary (mark k) l = refl
-legal-unary (sign g) l = refl
-legal-unary illegal l = impossible (cc)
+pub word-or-sign : {X : Type 0} (as-operator : Role → Option X) → as-operator neither ≡ none → (o : Token) {x : X} → as-operator (role o) ≡ some x → WordOrSign o
+unfolding role
+word-or-sign f e (name w) l = tt
+word-or-sign f e (nat n) l = impossible (cc)
+word-or-sign f e (mark k) l = impossible (cc)
+word-or-sign f e (sign g) l = tt
+word-or-sign f e illegal l = impossible (cc)
 
-legal-kept : Kept (λ ts t. allLegal ts ≡ true) (λ ts es. allLegal ts ≡ true)
+legal-operator : (o : Token) → WordOrSign o → isLegal o ≡ true
+legal-operator (name w) x = refl
+legal-operator (nat n) x = refl
+legal-operator (mark k) x = refl
+legal-operator (sign g) x = refl
+legal-operator illegal x = absurd x
+
+legal-kept : Invariant (λ ts t. allLegal ts ≡ true) (λ ts es. allLegal ts ≡ true)
+unfolding unary binary
 legal-kept =
     record {
       false-kept = refl;
@@ -151,10 +161,11 @@ legal-kept =
       empty-kept = refl;
       last-kept = λ ts t h. h;
       also-kept = λ ts us t es h i. rw (legal-append ts (mark comma ∷ us), h) i;
-      unary-kept = λ o op ts t l h. rw (legal-unary o l) h;
-      binary-kept = λ o c b ts us t u l h i. rw (legal-append ts (o ∷ us), h, legal-binary o l) i;
+      unary-kept = λ o op ts t l h. rw (legal-operator o (word-or-sign asUnary refl o l)) h;
+      binary-kept = λ o c b ts us t u l h i. rw (legal-append ts (o ∷ us), h, legal-operator o (word-or-sign asBinary refl o l)) i;
     }
 
+-- a derivation's tokens are legal
 pub legal : (d : ℕ) (ts : List Token) (t : Tree) → Whole d ts t → allLegal ts ≡ true
 legal = whole-kept legal-kept
 
@@ -211,7 +222,7 @@ built : (b : Build) (t u : Tree) → ArgumentCount (operatorIn b) ≡ 2 → Oper
 built (straight op) t u n x y = Operators.binary n x y refl
 built (swapped op) t u n x y = Operators.binary n y x refl
 
-operators-kept : Kept (λ ts t. OperatorTree t) (λ ts es. AllOperators (λ w. true) (λ op u. true) es)
+operators-kept : Invariant (λ ts t. OperatorTree t) (λ ts es. AllOperators (λ w. true) (λ op u. true) es)
 unfolding unary binary
 operators-kept =
     record {
@@ -229,5 +240,6 @@ operators-kept =
       binary-kept = λ o c b ts us t u l h i. built b t u (binary-counted (role o) (counted o) l) h i;
     }
 
+-- a derivation's tree is an operator tree
 pub derived-operators : (d : ℕ) (ts : List Token) (t : Tree) → Whole d ts t → OperatorTree t
 derived-operators = whole-kept operators-kept

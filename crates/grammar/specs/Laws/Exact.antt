@@ -9,7 +9,7 @@ use lib.ListN.{length}
 use Rattle.grammar.specs.Tokens.{Token}
 use Rattle.grammar.specs.Grammar.{Tree, Whole}
 use Rattle.grammar.specs.Parser.{Parsed, parsed, failed, parseExpr, whole, parse}
-use Rattle.grammar.specs.Laws.Steps.{impossible}
+use Rattle.tree.specs.Clash.{impossible}
 use Rattle.grammar.specs.Laws.Stops.{stops-end}
 use Rattle.grammar.specs.Laws.SoundWhole.{whole-sound}
 use Rattle.grammar.specs.Laws.CompleteWhole.{whole-complete}
@@ -31,6 +31,7 @@ turns-complete m d d′ k ts h t x =
     let e : parseExpr m d′ (ts ++ []) ≡ parsed t [] = whole-complete m d d′ k .parses x h [] stops-end in
     rw (rw (append-nil ts) at e) refl
 
+-- the parser's tree has a derivation
 pub parse-sound : (d : ℕ) (ts : List Token) {t : Tree} → parse d ts ≡ some t → Whole d ts t
 unfolding parse
 parse-sound d ts e = turns-sound (length ts) d ts e
@@ -39,18 +40,22 @@ parse-deeper : (d d′ : ℕ) → d ≤ d′ → (ts : List Token) {t : Tree} �
 unfolding parse
 parse-deeper d d′ k ts {t} x = turns-complete (length ts) d d′ k ts (omega arith) t x
 
+-- a derivation's tree is the parser's
 pub parse-complete : (d : ℕ) (ts : List Token) {t : Tree} → Whole d ts t → parse d ts ≡ some t
 parse-complete d = parse-deeper d d (omega arith)
 
+-- the parser gives none exactly where there is no derivation
 pub no-parse : (d : ℕ) (ts : List Token) → (parse d ts ≡ none) ↔ ((t : Tree) → Whole d ts t → ⊥)
-no-parse d ts = (λ e t x. let e′ = parse-complete d ts x in impossible (cc), λ f. go f (parse d ts) refl)
+no-parse d ts = (λ e t x. let e′ = parse-complete d ts x in impossible (cc), λ f. by-parse f (parse d ts) refl)
   where
-    go : ((t : Tree) → Whole d ts t → ⊥) → (r : Option Tree) → parse d ts ≡ r → r ≡ none
-    go f none e = refl
-    go f (some t) e = absurd (f t (parse-sound d ts e))
+    by-parse : ((t : Tree) → Whole d ts t → ⊥) → (r : Option Tree) → parse d ts ≡ r → r ≡ none
+    by-parse f none e = refl
+    by-parse f (some t) e = absurd (f t (parse-sound d ts e))
 
+-- a derivation is one of any greater depth
 pub deeper : (d d′ : ℕ) → d ≤ d′ → (ts : List Token) (t : Tree) → Whole d ts t → Whole d′ ts t
 deeper d d′ k ts t x = parse-sound d′ ts (parse-deeper d d′ k ts x)
 
+-- two derivations of the same tokens have the same tree
 pub unambiguous : (ts : List Token) (d d′ : ℕ) {t t′ : Tree} → Whole d ts t → Whole d′ ts t′ → t ≡ t′
 unambiguous ts d d′ x x′ = let e = parse-deeper d (d + d′) (omega arith) ts x in let e′ = parse-deeper d′ (d + d′) (omega arith) ts x′ in cc

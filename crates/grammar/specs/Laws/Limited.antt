@@ -14,7 +14,7 @@ use Rattle.grammar.specs.Tokens.{Token, name, nat, mark, sign, illegal, 
 use Rattle.grammar.specs.Grammar.{Tree, Whole, Derives}
 use Rattle.grammar.specs.OperatorTrees.{smallNaturals}
 use Rattle.grammar.specs.Parser.{whole, parseExpr}
-use Rattle.grammar.specs.Laws.Steps.{impossible}
+use Rattle.tree.specs.Clash.{impossible}
 use Rattle.grammar.specs.Laws.Exact.{turns-sound, turns-complete}
 use Rattle.grammar.specs.Laws.Cut.{cut-few}
 use Rattle.grammar.specs.Laws.Every.{allLegal, legal}
@@ -31,12 +31,12 @@ limited-small : (ts : List Token) → allLegal (limited ts) ≡ true → smallNa
 unfolding smallNaturals
 limited-small [] e = refl
 limited-small (name w ∷ ts) e = limited-small ts e
-limited-small (nat n ∷ ts) e = go (leb n mostNatural) (limited-small ts) e
+limited-small (nat n ∷ ts) e = by-limit (leb n mostNatural) (limited-small ts) e
   where
-    go : (b : Bool) → (allLegal (limited ts) ≡ true → smallNaturals ts ≡ true) → allLegal (pick b (nat n) illegal ∷ limited ts) ≡ true
+    by-limit : (b : Bool) → (allLegal (limited ts) ≡ true → smallNaturals ts ≡ true) → allLegal (pick b (nat n) illegal ∷ limited ts) ≡ true
         → (b && smallNaturals ts) ≡ true
-    go true ih e = ih e
-    go false ih e = e
+    by-limit true ih e = ih e
+    by-limit false ih e = e
 limited-small (mark k ∷ ts) e = limited-small ts e
 limited-small (sign g ∷ ts) e = limited-small ts e
 limited-small (illegal ∷ ts) e = impossible (cc)
@@ -45,11 +45,11 @@ limited-same : (ts : List Token) → smallNaturals ts ≡ true → limited ts �
 unfolding smallNaturals
 limited-same [] e = refl
 limited-same (name w ∷ ts) e = ap (λ l. name w ∷ l) (limited-same ts e)
-limited-same (nat n ∷ ts) e = go (leb n mostNatural) (limited-same ts) e
+limited-same (nat n ∷ ts) e = by-limit (leb n mostNatural) (limited-same ts) e
   where
-    go : (b : Bool) → (smallNaturals ts ≡ true → limited ts ≡ ts) → (b && smallNaturals ts) ≡ true → pick b (nat n) illegal ∷ limited ts ≡ nat n ∷ ts
-    go true ih e = ap (λ l. nat n ∷ l) (ih e)
-    go false ih e = impossible (cc)
+    by-limit : (b : Bool) → (smallNaturals ts ≡ true → limited ts ≡ ts) → (b && smallNaturals ts) ≡ true → pick b (nat n) illegal ∷ limited ts ≡ nat n ∷ ts
+    by-limit true ih e = ap (λ l. nat n ∷ l) (ih e)
+    by-limit false ih e = impossible (cc)
 limited-same (mark k ∷ ts) e = ap (λ l. mark k ∷ l) (limited-same ts e)
 limited-same (sign g ∷ ts) e = ap (λ l. sign g ∷ l) (limited-same ts e)
 limited-same (illegal ∷ ts) e = ap (λ l. illegal ∷ l) (limited-same ts e)

@@ -9,8 +9,9 @@ use Rattle.lexing.specs.RunLaws.{pick-case}
 use Rattle.grammar.specs.Tokens.{Token, name, nat, mark, sign, illegal, Mark, Mark-discrete}
 use Rattle.grammar.specs.Grammar.{Class, Class-discrete, Build, Row, row, binary}
 use Rattle.grammar.specs.Parser.{isNat, isWord, isMark, ofClass, inClass}
-use Rattle.grammar.specs.Laws.Steps.{impossible}
+use Rattle.tree.specs.Clash.{impossible}
 
+-- a token that `isNat` accepts
 pub nat-inv : (o : Token) {n : ℕ} → isNat o ≡ some n → o ≡ nat n
 unfolding isNat
 nat-inv (name w) e = impossible (cc)
@@ -19,6 +20,7 @@ nat-inv (mark k) e = impossible (cc)
 nat-inv (sign g) e = impossible (cc)
 nat-inv illegal e = impossible (cc)
 
+-- a token that `isWord` accepts
 pub word-inv : (o : Token) {w : List ℕ} → isWord o ≡ some w → o ≡ name w
 unfolding isWord
 word-inv (name w) e = cc
@@ -27,6 +29,7 @@ word-inv (mark k) e = impossible (cc)
 word-inv (sign g) e = impossible (cc)
 word-inv illegal e = impossible (cc)
 
+-- a token that `isMark` accepts
 pub mark-inv : (k : Mark) (o : Token) {x : Unit {0}} → isMark k o ≡ some x → o ≡ mark k
 unfolding isMark
 mark-inv k (name w) e = impossible (cc)
@@ -39,14 +42,7 @@ mark-inv k (mark k′) {x} e = same (Mark-discrete k k′) e
 mark-inv k (sign g) e = impossible (cc)
 mark-inv k illegal e = impossible (cc)
 
-pub mark-sees : (k : Mark) → isMark k (mark k) ≡ some tt
-unfolding isMark
-mark-sees k = same (Mark-discrete k k)
-  where
-    same : (d : Dec (k ≡ k)) → (elim d as (λ z. Option (Unit {0})) [ yes p ↦ some tt | no n ↦ none ]) ≡ some tt
-    same (yes p) = refl
-    same (no n) = absurd (n refl)
-
+-- a token that is an operator of the class
 pub class-inv : (c : Class) (o : Token) {b : Build} → inClass c o ≡ some b → binary o ≡ some (row c b)
 unfolding inClass
 class-inv c o {b} e = at (binary o) refl e
@@ -60,6 +56,7 @@ class-inv c o {b} e = at (binary o) refl e
     at none l e = impossible (cc)
     at (some (row c′ b′)) l e = same c′ b′ (Class-discrete c c′) l e
 
+-- an operator is one of its class
 pub class-sees : (c : Class) (o : Token) {b : Build} → binary o ≡ some (row c b) → inClass c o ≡ some b
 unfolding inClass
 class-sees c o {b} e = rw e (same (Class-discrete c c))
@@ -68,13 +65,16 @@ class-sees c o {b} e = rw e (same (Class-discrete c c))
     same (yes p) = refl
     same (no n) = absurd (n refl)
 
+-- what holds of both branches holds of the choice
 pub pick-both : {X : Type 0} (P : X → Type 0) (b : Bool) {x y : X} → P x → P y → P (pick b x y)
 pick-both P b p q = pick-case P b (λ e. p) (λ e. q)
 
+-- a choice, by its test
 pub pick-cases : {X : Type 0} {Q : Type 0} (b : Bool) {x y r : X} → pick b x y ≡ r → (b ≡ true → x ≡ r → Q) → (b ≡ false → y ≡ r → Q) → Q
 pick-cases true e f g = f refl e
 pick-cases false e f g = g refl e
 
+-- both tests of a conjunction are true
 pub both-true : (a b : Bool) → (a && b) ≡ true → (a ≡ true) × (b ≡ true)
 both-true true b e = (refl, e)
 both-true false b e = impossible (cc)

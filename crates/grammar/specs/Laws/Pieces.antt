@@ -1,5 +1,5 @@
 -- What a piece of printed text is cut into: a name, a natural or a sign, if what stands after it doesn't lengthen it.
-use Prim.Native.Nat.{ℕ, suc, _≤_, _<_}
+use Prim.Native.Nat.{ℕ, suc, _+_, _≤_, _<_}
 use mathlib.Core.Path.{_≡_, refl, _∙_, ap}
 use mathlib.Core.Bool.{Bool, true, false, _&&_, _||_}
 use mathlib.Core.Logic.{_⊎_, inl, inr}
@@ -17,7 +17,7 @@ use Rattle.grammar.specs.Words.{isIdentifier}
 use Rattle.grammar.specs.Tokens.{Sign, '!', '-', '*', '+', '==', '!=', '<', '<=', '>=', '>', '&&', '||', '==>', '<==', '<==>', Mark}
 use Rattle.grammar.specs.Tokens.{lparen, rparen, comma}
 use Rattle.grammar.specs.Tokens.{Token, name, nat, mark, sign, token, tokenAt, cut}
-use Rattle.grammar.specs.Laws.Steps.{impossible}
+use Rattle.tree.specs.Clash.{impossible}
 use Rattle.grammar.specs.Laws.Looks.{both-true}
 use Rattle.grammar.specs.Laws.Cut.{cut-token}
 use Rattle.grammar.specs.Laws.Views.{spelt, speltMark, word-token, digit-token, sign-token, mark-token}
@@ -27,17 +27,26 @@ abbrev pub Ends : (ℕ → Bool) → List ℕ → Type 0
 Ends p [] = Unit {0}
 Ends p (b ∷ s) = p b ≡ false
 
--- a run of all of w goes no further than w
-run-append : (p : ℕ → Bool) (w s : List ℕ) → run p w ≡ length w → Ends p s → run p (w ++ s) ≡ length w
+-- a run of all of w goes on with what follows
+pub run-append : (p : ℕ → Bool) (w s : List ℕ) → run p w ≡ length w → run p (w ++ s) ≡ length w + run p s
 unfolding run
-run-append p [] [] e h = refl
-run-append p [] (b ∷ s) e h = rw h refl
-run-append p (a ∷ w) s e h = go (p a) e (λ e. run-append p w s e h)
+run-append p [] s e = omega arith
+run-append p (a ∷ w) s e = by-first (p a) e (λ e. run-append p w s e)
   where
-    go : (t : Bool) → _≡_ {A = ℕ} (elim t [ true ↦ suc (run p w) | false ↦ 0 ]) (suc (length w)) → (run p w ≡ length w → run p (w ++ s) ≡ length w)
-        → _≡_ {A = ℕ} (elim t [ true ↦ suc (run p (w ++ s)) | false ↦ 0 ]) (suc (length w))
-    go true e ih = ap suc (ih (omega arith))
-    go false e ih = absurd (omega arith)
+    by-first : (t : Bool) → _≡_ {A = ℕ} (elim t [ true ↦ suc (run p w) | false ↦ 0 ]) (suc (length w))
+        → (run p w ≡ length w → run p (w ++ s) ≡ length w + run p s)
+        → _≡_ {A = ℕ} (elim t [ true ↦ suc (run p (w ++ s)) | false ↦ 0 ]) (suc (length w) + run p s)
+    by-first true e ih = let h : run p w ≡ length w = omega arith in omega (arith, ih h)
+    by-first false e ih = absurd (omega arith)
+
+no-run : (p : ℕ → Bool) (s : List ℕ) → Ends p s → run p s ≡ 0
+unfolding run
+no-run p [] h = refl
+no-run p (b ∷ s) h = rw (h, run) refl
+
+-- and no further than w before what ends it
+run-ends : (p : ℕ → Bool) (w s : List ℕ) → run p w ≡ length w → Ends p s → run p (w ++ s) ≡ length w
+run-ends p w s e h = let n : run p s ≡ 0 = no-run p s h in omega (arith, run-append p w s e)
 
 piece : (a : ℕ) (w s : List ℕ) (t : Token) → blank (a ∷ w ++ s) ≡ passed 0 → tokenAt (a ∷ w ++ s) ≡ token t (suc (length w))
     → cut (a ∷ w ++ s) ≡ t ∷ cut s
@@ -51,12 +60,12 @@ no-blank a s h k = rw (h, k) refl
 -- a byte that begins a name
 letter-byte : (a : ℕ) → canStartIdentifierChar a ≡ true → (65 ≤ a) ⊎ (a ≡ 37)
 unfolding canStartIdentifierChar
-letter-byte a e = go (leb 65 a) (eqb a 37) refl refl
+letter-byte a e = by-tests (leb 65 a) (eqb a 37) refl refl
   where
-    go : (x y : Bool) → leb 65 a ≡ x → eqb a 37 ≡ y → (65 ≤ a) ⊎ (a ≡ 37)
-    go true y p q = inl (leb-true 65 a p)
-    go false true p q = inr (eqb-true a 37 q)
-    go false false p q =
+    by-tests : (x y : Bool) → leb 65 a ≡ x → eqb a 37 ≡ y → (65 ≤ a) ⊎ (a ≡ 37)
+    by-tests true y p q = inl (leb-true 65 a p)
+    by-tests false true p q = inr (eqb-true a 37 q)
+    by-tests false false p q =
         let h : a < 65 = leb-false 65 a p in
         let f : canStartIdentifierChar a ≡ false = rw (lt-leb 97 a (omega arith), p, q) refl in
         impossible (cc)
@@ -76,17 +85,18 @@ name-bytes : (a : ℕ) (w : List ℕ) → isIdentifier (a ∷ w) ≡ true → (c
 unfolding isIdentifier identifierLength
 name-bytes a w e =
     let h : identifierLength (a ∷ w) ≡ suc (length w) = eqb-true _ _ (both-true (leb 1 (suc (length w))) _ e .1) in
-    go (canStartIdentifierChar a) refl h
+    by-first (canStartIdentifierChar a) refl h
   where
-    go : (b : Bool) → canStartIdentifierChar a ≡ b → pick b (suc (run identifierChar w)) 0 ≡ suc (length w)
+    by-first : (b : Bool) → canStartIdentifierChar a ≡ b → pick b (suc (run identifierChar w)) 0 ≡ suc (length w)
         → (canStartIdentifierChar a ≡ true) × (run identifierChar w ≡ length w)
-    go true p h = (p, omega arith)
-    go false p h = absurd (omega arith)
+    by-first true p h = (p, omega arith)
+    by-first false p h = absurd (omega arith)
 
 name-at : (a : ℕ) (w s : List ℕ) → canStartIdentifierChar a ≡ true → run identifierChar w ≡ length w → Ends identifierChar s
     → tokenAt (a ∷ w ++ s) ≡ token (name (a ∷ w)) (suc (length w))
-name-at a w s e h k = rw (run-append identifierChar w s h k, take-append-seam w s) at (word-token a (w ++ s) e)
+name-at a w s e h k = rw (run-ends identifierChar w s h k, take-append-seam w s) at (word-token a (w ++ s) e)
 
+-- a name
 pub cut-name : (w s : List ℕ) → isIdentifier w ≡ true → Ends identifierChar s → cut (w ++ s) ≡ name w ∷ cut s
 unfolding isIdentifier
 cut-name [] s e k = impossible (cc)
@@ -98,11 +108,11 @@ cut-name (a ∷ w) s e k =
 -- the bytes of a natural
 digit-bytes : (a : ℕ) (w : List ℕ) → run isDigit (a ∷ w) ≡ suc (length w) → (isDigit a ≡ true) × (run isDigit w ≡ length w)
 unfolding run
-digit-bytes a w e = go (isDigit a) e
+digit-bytes a w e = by-first (isDigit a) e
   where
-    go : (b : Bool) → _≡_ {A = ℕ} (elim b [ true ↦ suc (run isDigit w) | false ↦ 0 ]) (suc (length w)) → (b ≡ true) × (run isDigit w ≡ length w)
-    go true e = (refl, omega arith)
-    go false e = absurd (omega arith)
+    by-first : (b : Bool) → _≡_ {A = ℕ} (elim b [ true ↦ suc (run isDigit w) | false ↦ 0 ]) (suc (length w)) → (b ≡ true) × (run isDigit w ≡ length w)
+    by-first true e = (refl, omega arith)
+    by-first false e = absurd (omega arith)
 
 -- a digit begins neither a name nor a blank
 digit-byte : (a : ℕ) → isDigit a ≡ true → (canStartIdentifierChar a ≡ false) × (isSpace a ≡ false) × (eqb 47 a ≡ false)
@@ -118,8 +128,9 @@ digit-byte a e =
 
 nat-at : (a : ℕ) (w s : List ℕ) → canStartIdentifierChar a ≡ false → isDigit a ≡ true → run isDigit w ≡ length w → Ends isDigit s
     → tokenAt (a ∷ w ++ s) ≡ token (nat (decimal 0 (a ∷ w))) (suc (length w))
-nat-at a w s e d h k = rw (run-append isDigit w s h k, take-append-seam w s) at (digit-token a (w ++ s) e d)
+nat-at a w s e d h k = rw (run-ends isDigit w s h k, take-append-seam w s) at (digit-token a (w ++ s) e d)
 
+-- a natural
 pub cut-nat : (w s : List ℕ) → 0 < length w → run isDigit w ≡ length w → Ends isDigit s → cut (w ++ s) ≡ nat (decimal 0 w) ∷ cut s
 cut-nat [] s z e k = absurd (omega arith)
 cut-nat (a ∷ w) s z e k =
@@ -134,13 +145,14 @@ lengthens b = eqb 61 b || eqb 62 b
 clear : (s : List ℕ) → Ends lengthens s → (startsWith (61 ∷ []) s ≡ false) × (startsWith (62 ∷ []) s ≡ false)
 unfolding startsWith lengthens
 clear [] h = (refl, refl)
-clear (b ∷ s) h = go (eqb 61 b) (eqb 62 b) h
+clear (b ∷ s) h = by-tests (eqb 61 b) (eqb 62 b) h
   where
-    go : (x y : Bool) → (x || y) ≡ false → ((x && true) ≡ false) × ((y && true) ≡ false)
-    go true y h = impossible (cc)
-    go false true h = impossible (cc)
-    go false false h = (refl, refl)
+    by-tests : (x y : Bool) → (x || y) ≡ false → ((x && true) ≡ false) × ((y && true) ≡ false)
+    by-tests true y h = impossible (cc)
+    by-tests false true h = impossible (cc)
+    by-tests false false h = (refl, refl)
 
+-- a sign
 pub cut-sign : (g : Sign) (s : List ℕ) → Ends lengthens s → cut (spelt g ++ s) ≡ sign g ∷ cut s
 unfolding blank isSpace startsWith
 cut-sign '!' s h = piece 33 [] s (sign '!') refl (sign-token '!' s (clear s h .0))
@@ -159,6 +171,7 @@ cut-sign '==>' s h = piece 61 (61 ∷ 62 ∷ []) s (sign '==>') refl (sign-token
 cut-sign '<==' s h = piece 60 (61 ∷ 61 ∷ []) s (sign '<==') refl (sign-token '<==' s (clear s h .1))
 cut-sign '<==>' s h = piece 60 (61 ∷ 61 ∷ 62 ∷ []) s (sign '<==>') refl (sign-token '<==>' s tt)
 
+-- a bracket or comma
 pub cut-mark : (k : Mark) (s : List ℕ) → cut (speltMark k ++ s) ≡ mark k ∷ cut s
 unfolding blank isSpace startsWith
 cut-mark lparen s = piece 40 [] s (mark lparen) refl (mark-token lparen s)

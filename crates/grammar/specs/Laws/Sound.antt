@@ -7,7 +7,7 @@ use Rattle.grammar.specs.Tokens.{Token}
 use Rattle.grammar.specs.Grammar.{Tree, Class, Build, build, row, binary, Rule, Left, Right, Once, Either, first, second}
 use Rattle.grammar.specs.Parser.{parsed, Parser, Tail, leftTail, rightTail, onceTail, eitherTail}
 use Rattle.grammar.specs.Parser.{continued}
-use Rattle.grammar.specs.Laws.Steps.{after-inv, see-cases}
+use Rattle.grammar.specs.Laws.ParserSteps.{after-inv, see-cases}
 use Rattle.grammar.specs.Laws.Looks.{class-inv}
 
 -- t is derived from the tokens before the rest
@@ -90,12 +90,15 @@ module _ {S : Rule} {p : Parser} (s : Sound S p) (c : Class) where
       let r = s .reads (a .first) in
       and-more o (r .run) (r .split) (no-more (Once.two d o (class-inv c o l) (r .derived)) (a .next)))
 
+  -- operators to the left
   pub left-tail : (m : ℕ) → TailSound S (Left c S) (leftTail m c p)
   left-tail m = record { extends = λ d e. left-more m (Left.one d) e }
 
+  -- operators to the right
   pub right-tail : (m : ℕ) → TailSound S (Right c S) (rightTail m c p)
   right-tail m = record { extends = λ d e. right-more m d e }
 
+  -- at most one operator
   pub once-tail : TailSound S (Once c S) (onceTail c p)
   once-tail = record { extends = λ d e. once-more d e }
 
@@ -108,6 +111,7 @@ module _ {S T T′ : Rule} {q q′ : Tail} (c : Class) (f : TailSound S T q) (f�
       (λ e. let x = f′ .extends d e in record { run = x .run; split = x .split; derived = second (x .derived) })
       (λ o vs b l e. let x = f .extends d e in record { run = x .run; split = x .split; derived = first (x .derived) })
 
+  -- operators of one class or of another
   pub either-tail : TailSound S (Either T T′) (eitherTail c q q′)
   either-tail = record { extends = λ d e. either-more d e }
 
@@ -119,5 +123,6 @@ module _ {S T : Rule} {p : Parser} {q : Tail} (s : Sound S p) (f : TailSound S T
       let r = s .reads (a .first) in
       joined r (f .extends (r .derived) (a .next))
 
+  -- a rule and what continues it
   pub level : Sound T (continued p q)
   level = record { reads = λ e. level-reads e }

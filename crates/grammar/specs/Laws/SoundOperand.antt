@@ -12,7 +12,8 @@ use Rattle.grammar.specs.Grammar.{Tree, Rule, single, unary, bare, prefi
 use Rattle.grammar.specs.Grammar.{falsehood, truth, natural, variable, oldVariable, call, bracketed}
 use Rattle.grammar.specs.Parser.{parsed, failed, Parser, after, see, isWord, isMark, parseSeries, parseItems, parseNamed}
 use Rattle.grammar.specs.Parser.{parseExcluded, parseBracketed, parseOperand, parseUnary}
-use Rattle.grammar.specs.Laws.Steps.{impossible, after-inv, see-cases}
+use Rattle.tree.specs.Clash.{impossible}
+use Rattle.grammar.specs.Laws.ParserSteps.{after-inv, see-cases}
 use Rattle.grammar.specs.Laws.Looks.{nat-inv, word-inv, mark-inv, pick-cases}
 use Rattle.lexing.specs.TokenLaws.{sameBytes-true}
 use Rattle.grammar.specs.Laws.Sound.{Reads, Sound}
@@ -130,6 +131,7 @@ module _ {E : Rule} {e : Parser} (s : Sound E e) where
       (pick-cases (isName w) h (λ b h. named-reads m w b us h) (λ b h. excluded-reads w us h))))
       (λ o us n l h. record { run = nat n ∷ []; split = cc (nat-inv o l); derived = subst (Operand E (nat n ∷ [])) (cc) natural })
 
+  -- an operand that is read has a derivation
   pub operand-sound : (m : ℕ) → Sound (Operand E) (parseOperand m e)
   operand-sound m = record { reads = λ h. operand-reads m h }
 
@@ -148,5 +150,6 @@ module _ {S : Rule} {p : Parser} (s : Sound S p) where
       see-cases (λ ts. Reads (Unary S) ts t rest) ts h (λ h. bare-reads h)
       (λ o us op l h. let a = after-inv (parseUnary m p us) h in prefixed-reads o l (unary-reads m (a .first)) (a .next))
 
+  -- and so it has with prefixes
   pub unary-sound : (m : ℕ) → Sound (Unary S) (parseUnary m p)
   unary-sound m = record { reads = λ h. unary-reads m h }

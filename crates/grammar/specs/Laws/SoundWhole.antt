@@ -3,7 +3,7 @@ use Prim.Native.Nat.{ℕ, zero, suc}
 use Rattle.grammar.specs.Grammar.{Rule, Whole, EquivExpr, product, sum, comparison, conjunction, disjunction, implication, explication}
 use Rattle.grammar.specs.Grammar.{equivalence}
 use Rattle.grammar.specs.Parser.{Parser, parseEquivExpr, parseExpr}
-use Rattle.grammar.specs.Laws.Steps.{impossible}
+use Rattle.tree.specs.Clash.{impossible}
 use Rattle.grammar.specs.Laws.Sound.{Sound, left-tail, right-tail, once-tail, either-tail, level}
 use Rattle.grammar.specs.Laws.SoundOperand.{operand-sound, unary-sound}
 
@@ -18,6 +18,7 @@ equiv-sound s m =
     let i = level l (either-tail implication (right-tail l implication m) (left-tail l explication m)) in
     level i (left-tail i equivalence m)
 
+-- an expression that is read has a derivation
 pub whole-sound : (m d : ℕ) → Sound (Whole d) (parseExpr m d)
 unfolding parseExpr Whole
 whole-sound m zero = record { reads = λ h. impossible (cc) }

@@ -13,7 +13,7 @@ use Rattle.lexing.specs.Tokens.{identifierLength, decimal}
 use Rattle.grammar.specs.Words.{bytes}
 use Rattle.grammar.specs.Tokens.{Sign, '!', '-', '*', '+', '==', '!=', '<', '<=', '>=', '>', '&&', '||', '==>', '<==', '<==>'}
 use Rattle.grammar.specs.Tokens.{Mark, lparen, rparen, comma, name, nat, mark, sign, token, nothing, signAt, naturalAt, nameAt, tokenAt}
-use Rattle.grammar.specs.Laws.Steps.{impossible}
+use Rattle.tree.specs.Clash.{impossible}
 
 -- how signs are spelt
 abbrev pub spelt : Sign → List ℕ
@@ -33,6 +33,7 @@ spelt '==>' = bytes "==>"
 spelt '<==' = bytes "<=="
 spelt '<==>' = bytes "<==>"
 
+-- the spelling of a bracket or comma
 abbrev pub speltMark : Mark → List ℕ
 speltMark lparen = bytes "("
 speltMark rparen = bytes ")"
@@ -63,6 +64,7 @@ pub record Nothing (s : List ℕ) : Type 0 where
   pub noSign : (g : Sign) → startsWith (spelt g) s ≡ false
   pub noMark : (k : Mark) → startsWith (speltMark k) s ≡ false
 
+-- what stands at the start of a text
 pub data View : List ℕ → Type 0 where
   wordView : (a : ℕ) (s : List ℕ) → canStartIdentifierChar a ≡ true → View (a ∷ s)
   digitView : (a : ℕ) (s : List ℕ) → canStartIdentifierChar a ≡ false → isDigit a ≡ true → View (a ∷ s)
@@ -80,6 +82,7 @@ run-on : (p : ℕ → Bool) (a : ℕ) (s : List ℕ) → p a ≡ true → run p 
 unfolding run
 run-on p a s e = rw (e, run) refl
 
+-- the token where a digit stands
 pub digit-token : (a : ℕ) (s : List ℕ) → canStartIdentifierChar a ≡ false → isDigit a ≡ true
     → tokenAt (a ∷ s) ≡ token (nat (decimal 0 (a ∷ take (run isDigit s) s))) (suc (run isDigit s))
 unfolding tokenAt nameAt naturalAt identifierLength
@@ -89,12 +92,13 @@ digit-token a s e d = rw (e, run-on isDigit a s d) refl
 pub shorter : (a : ℕ) (v s : List ℕ) → startsWith (a ∷ []) s ≡ false → startsWith (a ∷ v) s ≡ false
 unfolding startsWith
 shorter a v [] e = refl
-shorter a v (b ∷ s) e = go (eqb a b) e
+shorter a v (b ∷ s) e = by-byte (eqb a b) e
   where
-    go : (x : Bool) → (x && true) ≡ false → (x && startsWith v s) ≡ false
-    go true e = impossible (cc)
-    go false e = refl
+    by-byte : (x : Bool) → (x && true) ≡ false → (x && startsWith v s) ≡ false
+    by-byte true e = impossible (cc)
+    by-byte false e = refl
 
+-- where a sign stands
 pub sign-token : (g : Sign) (s : List ℕ) → Longest g s → tokenAt (spelt g ++ s) ≡ token (sign g) (length (spelt g))
 unfolding tokenAt nameAt naturalAt signAt identifierLength canStartIdentifierChar isDigit run startsWith
 sign-token '!' s l = rw l refl
@@ -113,12 +117,14 @@ sign-token '==>' s l = refl
 sign-token '<==' s l = rw l refl
 sign-token '<==>' s l = refl
 
+-- where a bracket or comma stands
 pub mark-token : (k : Mark) (s : List ℕ) → tokenAt (speltMark k ++ s) ≡ token (mark k) 1
 unfolding tokenAt nameAt naturalAt signAt identifierLength canStartIdentifierChar isDigit run startsWith
 mark-token lparen s = refl
 mark-token rparen s = refl
 mark-token comma s = refl
 
+-- where no token can be cut
 pub no-token : {s : List ℕ} → Nothing s → tokenAt s ≡ nothing
 unfolding tokenAt nameAt naturalAt signAt startsWith
 no-token n =
@@ -151,21 +157,21 @@ starts : (w s : List ℕ) → ((t : List ℕ) × (s ≡ w ++ t)) ⊎ (startsWith
 unfolding startsWith
 starts [] s = inl (s, refl)
 starts (a ∷ w) [] = inr refl
-starts (a ∷ w) (b ∷ s) = go (eqb a b) refl (starts w s)
+starts (a ∷ w) (b ∷ s) = by-byte (eqb a b) refl (starts w s)
   where
-    go : (x : Bool) → eqb a b ≡ x → ((t : List ℕ) × (s ≡ w ++ t)) ⊎ (startsWith w s ≡ false) → ((t : List ℕ) × (b ∷ s ≡ a ∷ w ++ t)) ⊎ ((x && startsWith w s) ≡ false)
-    go true e (inl f) = let h : a ≡ b = eqb-true a b e in inl (f .0, cc (f .1))
-    go true e (inr n) = inr n
-    go false e r = inr refl
+    by-byte : (x : Bool) → eqb a b ≡ x → ((t : List ℕ) × (s ≡ w ++ t)) ⊎ (startsWith w s ≡ false) → ((t : List ℕ) × (b ∷ s ≡ a ∷ w ++ t)) ⊎ ((x && startsWith w s) ≡ false)
+    by-byte true e (inl f) = let h : a ≡ b = eqb-true a b e in inl (f .0, cc (f .1))
+    by-byte true e (inr n) = inr n
+    by-byte false e r = inr refl
 
 -- a byte that begins neither a name nor a natural: a sign, a mark or nothing
 module _ (s : List ℕ) (noName : identifierLength s ≡ 0) (noDigit : run isDigit s ≡ 0) where
   see-sign : (w : List ℕ) → ((t : List ℕ) → s ≡ w ++ t → View s) → (startsWith w s ≡ false → View s) → View s
-  see-sign w f g = go (starts w s)
+  see-sign w f g = by-start (starts w s)
     where
-      go : ((t : List ℕ) × (s ≡ w ++ t)) ⊎ (startsWith w s ≡ false) → View s
-      go (inl x) = f (x .0) (x .1)
-      go (inr n) = g n
+      by-start : ((t : List ℕ) × (s ≡ w ++ t)) ⊎ (startsWith w s ≡ false) → View s
+      by-start (inl x) = f (x .0) (x .1)
+      by-start (inr n) = g n
 
   sign-or-nothing : View s
   unfolding startsWith
@@ -197,12 +203,13 @@ module _ (s : List ℕ) (noName : identifierLength s ≡ 0) (noDigit : run isDig
         noMark = elim [ lparen ↦ n₁₆ | rparen ↦ n₁₇ | comma ↦ n₁₈ ];
       })
 
+-- one of the five stands there
 pub view : (s : List ℕ) → View s
 unfolding identifierLength run
 view [] = sign-or-nothing [] refl refl
-view (a ∷ s) = go (canStartIdentifierChar a) (isDigit a) refl refl
+view (a ∷ s) = by-first (canStartIdentifierChar a) (isDigit a) refl refl
   where
-    go : (x y : Bool) → canStartIdentifierChar a ≡ x → isDigit a ≡ y → View (a ∷ s)
-    go true y e d = wordView a s e
-    go false true e d = digitView a s e d
-    go false false e d = sign-or-nothing (a ∷ s) (rw e refl) (rw (d, run) refl)
+    by-first : (x y : Bool) → canStartIdentifierChar a ≡ x → isDigit a ≡ y → View (a ∷ s)
+    by-first true y e d = wordView a s e
+    by-first false true e d = digitView a s e d
+    by-first false false e d = sign-or-nothing (a ∷ s) (rw e refl) (rw (d, run) refl)

@@ -1,12 +1,11 @@
-use Rattle.reading.proofs.EntryAnswers.{Cleared, cleared-start, cleared-more, cleared-end}
-use borrow.Author.Needs.{needs}
+-- `entry::clear` meets its contract: its loop has put zeros in the places that it has passed (Clearing).
 use Prim.Native.Nat.{_-_}
 use native.Mathlib.Omega.{arith}
 use lib.ListN.{length, length-set}
+use borrow.Author.Needs.{needs}
+use Rattle.reading.proofs.entry.Clearing.{Cleared, cleared-start, cleared-more, cleared-end}
 use Rattle.reading.proofs.entry.clear.Statement.{statement}
 use Rattle.reading.proofs.entry.clear.Tie as tie
-use Rattle.reading.proofs.entry.clear.Reads as reads
-use Rattle.reading.proofs.entry.clear.Lts as lts
 
 abbrev Inv-loop : tie.InvT-loop
 Inv-loop table₀ i₀ table i = Cleared table₀ table i
@@ -16,15 +15,6 @@ abbrev μ-loop : tie.MeasureT-loop
 
 loop-holds : tie.Need-loop-holds Inv-loop μ-loop
 loop-holds c = cleared-start _
-
-mul-table : tie.Need-mul-table Inv-loop μ-loop
-mul-table c = search needs
-
-slice-write-table : tie.Need-slice-write-table Inv-loop μ-loop
-slice-write-table c = search needs
-
-add-i : tie.Need-add-i Inv-loop μ-loop
-add-i c = search needs
 
 loop-less : tie.Need-loop-less Inv-loop μ-loop
 loop-less c = simp length-set (omega arith)
@@ -40,15 +30,4 @@ returns c = cleared-end (c .before .loop .inv) (c .loop-test .left)
 
 pub clear-spec : {M : Type 1} → statement M
 clear-spec =
-    tie.close
-    (tie.spec
-    Inv-loop
-    μ-loop
-    loop-holds
-    mul-table
-    slice-write-table
-    add-i
-    loop-less
-    loop-again
-    same-length
-    returns)
+    tie.close (tie.spec Inv-loop μ-loop loop-holds (λ c. search needs) (λ c. search needs) (λ c. search needs) loop-less loop-again same-length returns)

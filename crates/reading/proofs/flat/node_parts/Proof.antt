@@ -1,14 +1,11 @@
-use Rattle.reading.proofs.FlatFrames.{replaced-none}
-use borrow.Author.Tests.{ne-eqb}
+-- `flat::node_parts` meets its contract, by the node's tag and those of `over` and `one` (Frames).
 use native.Mathlib.Omega.{arith}
-use Rattle.reading.specs.Flat.{nodeParts}
 use borrow.Author.Needs.{needs}
+use borrow.Author.Tests.{ne-eqb}
+use Rattle.reading.specs.Flat.{nodeParts}
+use Rattle.reading.proofs.flat.Frames.{replaced-none}
 use Rattle.reading.proofs.flat.node_parts.Statement.{statement}
 use Rattle.reading.proofs.flat.node_parts.Tie as tie
-use Rattle.reading.proofs.flat.node_parts.Reads as reads
-use Rattle.reading.proofs.flat.node_parts.Lts as lts
-use Rattle.reading.proofs.flat.one.Reads as one-reads
-use Rattle.reading.proofs.flat.over.Reads as over-reads
 
 over-requires : tie.Need-over-requires
 unfolding nodeParts
@@ -38,49 +35,25 @@ add-one : tie.Need-add-one
 unfolding nodeParts
 add-one c = omega (arith, rw (c .before .match .keys6) at (c .before .before .before .pre .small))
 
-one-requires : tie.Need-one-requires
-one-requires c κs = search needs
-
-add-result : tie.Need-add-result
-add-result c = search needs
-
-same-length : tie.Need-same-length
-same-length c = search needs
-
 returns : tie.Need-returns
 unfolding nodeParts
 returns c = rw (c .before .before .before .before .match .keys1) (c .before .before .over .ensures)
-
-same-length-2 : tie.Need-same-length-2
-same-length-2 c = search needs
 
 returns-2 : tie.Need-returns-2
 unfolding nodeParts
 returns-2 c = rw (c .before .before .before .before .match .keys2) (c .before .before .over2 .ensures)
 
-same-length-3 : tie.Need-same-length-3
-same-length-3 c = search needs
-
 returns-3 : tie.Need-returns-3
 unfolding nodeParts
 returns-3 c = rw (c .before .before .before .before .match .keys3) (c .before .before .over3 .ensures)
-
-same-length-4 : tie.Need-same-length-4
-same-length-4 c = search needs
 
 returns-4 : tie.Need-returns-4
 unfolding nodeParts
 returns-4 c = rw (c .before .before .before .before .match .keys4) (c .before .before .over4 .ensures)
 
-same-length-5 : tie.Need-same-length-5
-same-length-5 c = search needs
-
 returns-5 : tie.Need-returns-5
 unfolding nodeParts
 returns-5 c = rw (c .before .before .before .before .match .keys5) (c .before .before .over5 .ensures)
-
-same-length-6 : tie.Need-same-length-6
-same-length-6 c = search needs
 
 returns-6 : tie.Need-returns-6
 unfolding nodeParts
@@ -101,18 +74,18 @@ node-parts-spec =
     over-requires-5
     mul-one
     add-one
-    one-requires
-    add-result
-    same-length
+    (λ c κs. search needs)
+    (λ c. search needs)
+    (λ c. search needs)
     returns
-    same-length-2
+    (λ c. search needs)
     returns-2
-    same-length-3
+    (λ c. search needs)
     returns-3
-    same-length-4
+    (λ c. search needs)
     returns-4
-    same-length-5
+    (λ c. search needs)
     returns-5
-    same-length-6
+    (λ c. search needs)
     returns-6
     returns-7)

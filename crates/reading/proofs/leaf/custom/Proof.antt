@@ -1,161 +1,152 @@
--- `leaf::custom` meets its contract: each way out by the tokens read before it (Laws), the nodes by `pair-noted` (Nodes).
+-- `leaf::custom` meets its contract: each way out by the place it leaves (Reached).
+use Prim.Native.Nat.{ℕ}
 use native.Mathlib.Omega.{arith}
+use mathlib.Core.Path.{_≡_, refl}
+use mathlib.Core.List.{List}
 use borrow.Author.Needs.{needs}
-use Rattle.reading.specs.Arena.{Holds}
+use Rattle.lexing.specs.Answer.{Answer, ok}
+use Rattle.tree.specs.Ast.{Span, Expr, CustomLiteral}
+use Rattle.grammar.specs.Steps.{after, need, Sym, parseName, parseLiteralText}
 use Rattle.grammar.specs.Rules.{afterBar}
-use Rattle.reading.proofs.Laws.{kept-refl, took, builds-node, builds-after, token-missing}
-use Rattle.reading.proofs.Nodes.{pair-noted}
+use Rattle.reading.specs.Arena.{Holds}
+use Rattle.reading.specs.Code.{customExpr}
+use Rattle.reading.proofs.Laws.{took}
+use Rattle.reading.proofs.leaf.Pairs.{pair-done}
+use Rattle.reading.proofs.Reached.{Reached, begin, token, missing, untaken}
 use Rattle.reading.proofs.leaf.custom.Statement.{statement}
 use Rattle.reading.proofs.leaf.custom.Tie as tie
 
-literal-text-requires : tie.Need-literal-text-requires
-literal-text-requires c κs = search needs
+rule : (text : List ℕ) (at : ℕ)
+    → customExpr text at
+    ≡ after (Sym text "|" at) Answer.none
+    (λ _ at₁. need at₁ (parseLiteralText text at₁)
+    (λ s at₂. need at₂ (Sym text ":" at₂)
+    (λ _ at₃. need at₃ (parseName text at₃) (λ t at₄. need at₄ (Sym text "|" at₄) (λ _ at₅. ok (CustomLiteral s t) at₅)))))
+unfolding afterBar
+rule text at = refl
 
-enum-known-r : tie.Need-enum-known-r
-enum-known-r c = search needs
+abbrev at-start : tie.Start → Reached (Expr Span)
+at-start c = begin 0 0 (rule (c .args .text .now) (c .args .at)) refl (c .pre)
 
-missing-requires : tie.Need-missing-requires
-missing-requires c κs = search needs
+abbrev at-bar : tie.After-r → Reached (Expr Span)
+at-bar c = token (at-start (c .before .before .before .before .before .before)) _ _ refl (took (c .r .given .1) (c .before .before .sym .ensures))
+
+abbrev at-bytes : tie.After-r2 → Reached (Expr Span)
+at-bytes c = token (at-bar (c .before .before .before .before)) _ _ refl (took (c .r2 .given .1) (c .before .before .literal-text .ensures))
+
+abbrev at-colon : tie.After-r3 → Reached (Expr Span)
+at-colon c = token (at-bytes (c .before .before .before .before .before)) _ _ refl (took (c .r3 .given .1) (c .before .before .sym2 .ensures))
+
+abbrev at-type : tie.After-r4 → Reached (Expr Span)
+at-type c = token (at-colon (c .before .before .before .before)) _ _ refl (took (c .r4 .given .1) (c .before .before .name .ensures))
+
+abbrev at-end : tie.After-r5 → Reached (Expr Span)
+at-end c = token (at-type (c .before .before .before .before .before)) _ _ refl (took (c .r5 .given .1) (c .before .before .sym3 .ensures))
 
 returns : tie.Need-returns
-unfolding afterBar
-returns c = token-missing _ kept-refl (c .before .before .literal-text .result) _ (record { tells = c .before .before .literal-text .ensures; not-ok = c .before .match .keys2 }) (c .missing .ensures)
+returns c = untaken (at-start (c .before .before .before .before .before .before)) _ (c .before .before .sym .result) (record { tells = c .before .before .sym .ensures; not-ok = c .before .match .keys2 }) refl (c .untaken .ensures)
 
-slice-aggregate-sym : tie.Need-slice-aggregate-sym
-slice-aggregate-sym c = search needs
-
-sym-requires : tie.Need-sym-requires
-sym-requires c κs = took (c .before .before .r .given .1) (c .before .before .before .before .literal-text .ensures) .inside
-
-enum-known-r-2 : tie.Need-enum-known-r-2
-enum-known-r-2 c = search needs
-
-missing-requires-2 : tie.Need-missing-requires-2
-missing-requires-2 c κs = search needs
+literal-text-requires : tie.Need-literal-text-requires
+literal-text-requires c κs = at-bar (c .before) .room .inside
 
 returns-2 : tie.Need-returns-2
-unfolding afterBar
-returns-2 c =
-    let a = took (c .before .before .before .before .before .r .given .1) (c .before .before .before .before .before .before .before .literal-text .ensures) in
-    builds-after _ _ (a .says)
-    (token-missing _ kept-refl (c .before .before .sym .result) _ (record { tells = c .before .before .sym .ensures; not-ok = c .before .match2 .keys2 }) (c .missing2 .ensures))
-
-name-requires : tie.Need-name-requires
-name-requires c κs = took (c .before .r2 .given .1) (c .before .before .before .sym .ensures) .inside
-
-enum-known-r-3 : tie.Need-enum-known-r-3
-enum-known-r-3 c = search needs
-
-missing-requires-3 : tie.Need-missing-requires-3
-missing-requires-3 c κs = search needs
-
-returns-3 : tie.Need-returns-3
-unfolding afterBar
-returns-3 c =
-    let a = took (c .before .before .before .before .before .before .before .before .before .r .given .1) (c .before .before .before .before .before .before .before .before .before .before .before .literal-text .ensures) in
-    let b = took (c .before .before .before .before .r2 .given .1) (c .before .before .before .before .before .before .sym .ensures) in
-    builds-after _ _ (a .says) (builds-after _ _ (b .says)
-    (token-missing _ kept-refl (c .before .before .name .result) _ (record { tells = c .before .before .name .ensures; not-ok = c .before .match3 .keys2 }) (c .missing3 .ensures)))
-
-slice-aggregate-sym-2 : tie.Need-slice-aggregate-sym-2
-slice-aggregate-sym-2 c = search needs
+returns-2 c = missing (at-bar (c .before .before .before .before)) _ (c .before .before .literal-text .result) (record { tells = c .before .before .literal-text .ensures; not-ok = c .before .match2 .keys2 }) refl (c .missing .ensures)
 
 sym-requires-2 : tie.Need-sym-requires-2
-sym-requires-2 c κs = took (c .before .before .r3 .given .1) (c .before .before .before .before .name .ensures) .inside
+sym-requires-2 c κs = at-bytes (c .before .before) .room .inside
 
-enum-known-r-4 : tie.Need-enum-known-r-4
-enum-known-r-4 c = search needs
+returns-3 : tie.Need-returns-3
+returns-3 c = missing (at-bytes (c .before .before .before .before .before)) _ (c .before .before .sym2 .result) (record { tells = c .before .before .sym2 .ensures; not-ok = c .before .match3 .keys2 }) refl (c .missing2 .ensures)
 
-missing-requires-4 : tie.Need-missing-requires-4
-missing-requires-4 c κs = search needs
+name-requires : tie.Need-name-requires
+name-requires c κs = at-colon (c .before) .room .inside
 
 returns-4 : tie.Need-returns-4
-unfolding afterBar
-returns-4 c =
-    let a = took (c .before .before .before .before .before .before .before .before .before .before .before .before .before .before .r .given .1) (c .before .before .before .before .before .before .before .before .before .before .before .before .before .before .before .before .literal-text .ensures) in
-    let b = took (c .before .before .before .before .before .before .before .before .before .r2 .given .1) (c .before .before .before .before .before .before .before .before .before .before .before .sym .ensures) in
-    let d = took (c .before .before .before .before .before .r3 .given .1) (c .before .before .before .before .before .before .before .name .ensures) in
-    builds-after _ _ (a .says) (builds-after _ _ (b .says) (builds-after _ _ (d .says)
-    (token-missing _ kept-refl (c .before .before .sym2 .result) _ (record { tells = c .before .before .sym2 .ensures; not-ok = c .before .match4 .keys2 }) (c .missing4 .ensures))))
+returns-4 c = missing (at-colon (c .before .before .before .before)) _ (c .before .before .name .result) (record { tells = c .before .before .name .ensures; not-ok = c .before .match4 .keys2 }) refl (c .missing3 .ensures)
 
-cast-node : tie.Need-cast-node
-cast-node c = search needs
-
-cast-node-2 : tie.Need-cast-node-2
-cast-node-2 c = omega (arith, took (c .before .before .before .before .before .before .before .before .before .before .before .before .before .before .before .before .r .given .1) (c .before .before .before .before .before .before .before .before .before .before .before .before .before .before .before .before .before .before .literal-text .ensures))
-
-node-requires : tie.Need-node-requires
-node-requires c κs = omega (arith, took (c .before .before .before .before .before .before .before .before .before .before .before .before .before .before .before .before .r .given .1) (c .before .before .before .before .before .before .before .before .before .before .before .before .before .before .before .before .before .before .literal-text .ensures))
-
-add-node : tie.Need-add-node
-add-node c = omega (arith, c .before .before .before .before .before .before .before .before .before .before .before .before .before .before .before .before .before .before .before .before .before .before .before .before .before .pre)
-
-cast-node-3 : tie.Need-cast-node-3
-cast-node-3 c = omega (arith, took (c .before .before .before .before .before .before .before .before .before .before .before .before .before .before .before .r2 .given .1) (c .before .before .before .before .before .before .before .before .before .before .before .before .before .before .before .before .before .sym .ensures), c .before .before .before .before .before .before .before .before .before .before .before .before .before .before .before .before .before .before .before .before .before .before .before .before .before .pre)
-
-cast-node-4 : tie.Need-cast-node-4
-cast-node-4 c = omega (arith, took (c .before .before .before .before .before .before .before .before .before .before .before .r3 .given .1) (c .before .before .before .before .before .before .before .before .before .before .before .before .before .name .ensures), c .before .before .before .before .before .before .before .before .before .before .before .before .before .before .before .before .before .before .before .before .before .before .before .before .before .pre)
-
-node-requires-2 : tie.Need-node-requires-2
-node-requires-2 c κs = omega (arith, took (c .before .before .before .before .before .before .before .before .before .before .before .before .before .before .before .before .before .before .before .before .r .given .1) (c .before .before .before .before .before .before .before .before .before .before .before .before .before .before .before .before .before .before .before .before .before .before .literal-text .ensures), c .before .before .before .before .before .before .before .before .before .before .before .before .before .before .before .before .before .before .before .before .before .before .before .before .before .pre)
-
-add-over : tie.Need-add-over
-add-over c = omega (arith, c .before .before .before .before .before .before .before .before .before .before .before .before .before .before .before .before .before .before .before .before .before .before .before .before .before .before .before .before .before .pre)
-
-cast-over : tie.Need-cast-over
-cast-over c = omega (arith, c .before .before .before .before .before .before .before .before .before .before .before .before .before .before .before .before .before .before .before .before .before .before .before .before .before .before .before .before .before .pre)
-
-add-over-2 : tie.Need-add-over-2
-add-over-2 c = omega (arith, c .before .before .before .before .before .before .before .before .before .before .before .before .before .before .before .before .before .before .before .before .before .before .before .before .before .before .before .before .before .pre)
-
-cast-over-2 : tie.Need-cast-over-2
-cast-over-2 c = omega (arith, c .before .before .before .before .before .before .before .before .before .before .before .before .before .before .before .before .before .before .before .before .before .before .before .before .before .before .before .before .before .pre)
-
-over-requires : tie.Need-over-requires
-over-requires c κs =
-    let a = took (c .before .before .before .before .before .before .before .before .before .before .before .before .before .before .before .before .before .before .before .before .before .before .before .before .r .given .1) (c .before .before .before .before .before .before .before .before .before .before .before .before .before .before .before .before .before .before .before .before .before .before .before .before .before .before .literal-text .ensures) in
-    let b = took (c .before .before .before .before .before .before .before .before .before .before .before .before .before .before .before .before .before .before .before .r2 .given .1) (c .before .before .before .before .before .before .before .before .before .before .before .before .before .before .before .before .before .before .before .before .before .sym .ensures) in
-    omega (arith, a, b, c .before .before .before .before .before .before .before .before .before .before .before .before .before .before .before .before .before .before .before .before .before .before .before .before .before .before .before .before .before .pre, c .before .before .before .before .before .before .before .node .ensures .kept .length-kept, c .before .before .before .node2 .ensures .kept .length-kept)
-
-same-length : tie.Need-same-length
-same-length c = search needs
+sym-requires-3 : tie.Need-sym-requires-3
+sym-requires-3 c κs = at-type (c .before .before) .room .inside
 
 returns-5 : tie.Need-returns-5
-unfolding afterBar
-returns-5 c =
-    let a = took (c .before .before .before .before .before .before .before .before .before .before .before .before .before .before .before .before .before .before .before .before .before .before .before .before .before .before .before .r .given .1) (c .before .before .before .before .before .before .before .before .before .before .before .before .before .before .before .before .before .before .before .before .before .before .before .before .before .before .before .before .before .literal-text .ensures) in
-    let b = took (c .before .before .before .before .before .before .before .before .before .before .before .before .before .before .before .before .before .before .before .before .before .before .r2 .given .1) (c .before .before .before .before .before .before .before .before .before .before .before .before .before .before .before .before .before .before .before .before .before .before .before .before .sym .ensures) in
-    let d = took (c .before .before .before .before .before .before .before .before .before .before .before .before .before .before .before .before .before .before .r3 .given .1) (c .before .before .before .before .before .before .before .before .before .before .before .before .before .before .before .before .before .before .before .before .name .ensures) in
-    let e = took (c .before .before .before .before .before .before .before .before .before .before .before .before .before .r4 .given .1) (c .before .before .before .before .before .before .before .before .before .before .before .before .before .before .before .sym2 .ensures) in
-    let n = c .before .before .before .before .before .before .before .before .before .before .node .ensures in
-    let m = c .before .before .before .before .before .before .node2 .ensures in
-    let p = c .before .before .over .ensures in
-    let q = pair-noted n (Holds.three (n .node)) m (Holds.two (m .node)) (p .1) in
-    builds-after _ _ (a .says) (builds-after _ _ (b .says) (builds-after _ _ (d .says) (builds-after _ _ (e .says)
-    (builds-node (p .0) (q .0) (q .1) (omega (arith, a, b, d, e, c .before .before .before .before .before .before .before .before .before .before .before .before .before .before .before .before .before .before .before .before .before .before .before .before .before .before .before .before .before .before .before .before .pre))))))
+returns-5 c = missing (at-type (c .before .before .before .before .before)) _ (c .before .before .sym3 .result) (record { tells = c .before .before .sym3 .ensures; not-ok = c .before .match5 .keys2 }) refl (c .missing4 .ensures)
+
+cast-node : tie.Need-cast-node
+cast-node c = omega (arith, at-bar (c .before .before .before .before .before .before .before .before .before .before .before .before .before .before .before .before .before .before .before .before) .room)
+
+cast-node-2 : tie.Need-cast-node-2
+cast-node-2 c =
+    omega (
+      arith,
+      at-bytes (c .before .before .before .before .before .before .before .before .before .before .before .before .before .before .before .before) .room,
+      took
+          (c .before .before .before .before .before .before .before .before .before .before .before .before .before .before .before .before .r2 .given .1)
+          (c .before .before .before .before .before .before .before .before .before .before .before .before .before .before .before .before .before .before .literal-text .ensures),
+    )
+
+node-requires : tie.Need-node-requires
+node-requires c κs = omega (arith, at-end (c .before .before) .room)
+
+add-node : tie.Need-add-node
+add-node c = omega (arith, at-end (c .before .before .before .before .before .before) .room)
+
+cast-node-3 : tie.Need-cast-node-3
+cast-node-3 c = omega (arith, at-colon (c .before .before .before .before .before .before .before .before .before .before .before .before .before .before .before) .room)
+
+cast-node-4 : tie.Need-cast-node-4
+cast-node-4 c = omega (arith, at-type (c .before .before .before .before .before .before .before .before .before .before .before) .room, took (c .before .before .before .before .before .before .before .before .before .before .before .r4 .given .1) (c .before .before .before .before .before .before .before .before .before .before .before .before .before .name .ensures))
+
+node-requires-2 : tie.Need-node-requires-2
+node-requires-2 c κs = omega (arith, at-end (c .before .before .before .before .before .before) .room)
+
+add-over : tie.Need-add-over
+add-over c = omega (arith, at-end (c .before .before .before .before .before .before .before .before .before .before) .room)
+
+cast-over : tie.Need-cast-over
+cast-over c = omega (arith, at-end (c .before .before .before .before .before .before .before .before .before .before) .room)
+
+add-over-2 : tie.Need-add-over-2
+add-over-2 c = omega (arith, at-end (c .before .before .before .before .before .before .before .before .before .before) .room)
+
+cast-over-2 : tie.Need-cast-over-2
+cast-over-2 c = omega (arith, at-end (c .before .before .before .before .before .before .before .before .before .before) .room)
+
+over-requires : tie.Need-over-requires
+over-requires c κs = omega (arith, at-end (c .before .before .before .before .before .before .before .before .before .before) .room)
+
+returns-6 : tie.Need-returns-6
+returns-6 c =
+    pair-done (at-end (c .before .before .before .before .before .before .before .before .before .before .before .before .before)) refl refl (c .before .before .before .before .before .before .before .before .before .before .node .ensures)
+    (Holds.three (c .before .before .before .before .before .before .before .before .before .before .node .ensures .node)) (c .before .before .before .before .before .before .node2 .ensures)
+    (Holds.two (c .before .before .before .before .before .before .node2 .ensures .node))
+    (c .before .before .over .ensures) refl refl
 
 pub custom-spec : {M : Type 1} → statement M
 custom-spec =
     tie.close
     (tie.spec
-    literal-text-requires
-    enum-known-r
-    missing-requires
+    (λ c. search needs)
+    (λ c κs. search needs)
+    (λ c. search needs)
+    (λ c κs. search needs)
     returns
-    slice-aggregate-sym
-    sym-requires
-    enum-known-r-2
-    missing-requires-2
+    literal-text-requires
+    (λ c. search needs)
+    (λ c κs. search needs)
     returns-2
-    name-requires
-    enum-known-r-3
-    missing-requires-3
-    returns-3
-    slice-aggregate-sym-2
+    (λ c. search needs)
     sym-requires-2
-    enum-known-r-4
-    missing-requires-4
+    (λ c. search needs)
+    (λ c κs. search needs)
+    returns-3
+    name-requires
+    (λ c. search needs)
+    (λ c κs. search needs)
     returns-4
+    (λ c. search needs)
+    sym-requires-3
+    (λ c. search needs)
+    (λ c κs. search needs)
+    returns-5
     cast-node
     cast-node-2
     node-requires
@@ -168,5 +159,5 @@ custom-spec =
     add-over-2
     cast-over-2
     over-requires
-    same-length
-    returns-5)
+    (λ c. search needs)
+    returns-6)

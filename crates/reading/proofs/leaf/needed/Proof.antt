@@ -5,15 +5,6 @@ use Rattle.reading.specs.Arena.{neededAt}
 use Rattle.reading.proofs.leaf.needed.Statement.{statement}
 use Rattle.reading.proofs.leaf.needed.Tie as tie
 
-enum-known-r : tie.Need-enum-known-r
-enum-known-r c = search needs
-
-enum-told : tie.Need-enum-told
-enum-told c = search needs
-
-enum-known-r-2 : tie.Need-enum-known-r-2
-enum-known-r-2 c = search needs
-
 returns : tie.Need-returns
 returns c = ap (neededAt _) (sym (c .before .r .given .1))
 
@@ -25,4 +16,4 @@ returns-3 c = ap (neededAt _) (sym (c .before .r2 .given .1))
 
 pub needed-spec : {M : Type 1} → statement M
 needed-spec =
-    tie.close (tie.spec enum-known-r enum-told enum-known-r-2 returns returns-2 returns-3)
+    tie.close (tie.spec (λ c. search needs) (λ c. search needs) (λ c. search needs) returns returns-2 returns-3)

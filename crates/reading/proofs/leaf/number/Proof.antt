@@ -7,27 +7,6 @@ use Rattle.reading.proofs.Identifiers.{natural-read, natural-inside}
 use Rattle.reading.proofs.leaf.number.Statement.{statement}
 use Rattle.reading.proofs.leaf.number.Tie as tie
 
-sub-natural : tie.Need-sub-natural
-sub-natural c = search needs
-
-part-natural-start : tie.Need-part-natural-start
-part-natural-start c = search needs
-
-part-natural-end : tie.Need-part-natural-end
-part-natural-end c = search needs
-
-natural-requires : tie.Need-natural-requires
-natural-requires c κs = search needs
-
-enum-known-v : tie.Need-enum-known-v
-enum-known-v c = search needs
-
-cast-over : tie.Need-cast-over
-cast-over c = search needs
-
-cast-over-2 : tie.Need-cast-over-2
-cast-over-2 c = search needs
-
 add-over : tie.Need-add-over
 add-over c =
     let w = rw (c .before .before .v .given .1) at (natural-inside (c .before .before .before .before .before .before .before .before .args .text .now) (c .before .before .before .before .before .before .before .before .args .at) (c .before .before .before .before .natural .result) (c .before .before .before .before .natural .ensures)) in
@@ -38,19 +17,10 @@ over-requires c κs =
     let w = rw (c .before .before .v .given .1) at (natural-inside (c .before .before .before .before .before .before .before .before .args .text .now) (c .before .before .before .before .before .before .before .before .args .at) (c .before .before .before .before .natural .result) (c .before .before .before .before .natural .ensures)) in
     omega (arith, w, c .before .before .before .before .before .before .before .before .pre)
 
-enum-told : tie.Need-enum-told
-enum-told c = search needs
-
-enum-known-number : tie.Need-enum-known-number
-enum-known-number c = search needs
-
 add-t22 : tie.Need-add-t22
 add-t22 c =
     let w = rw (c .before .number .given .1) at (natural-inside (c .before .before .before .before .before .before .before .args .text .now) (c .before .before .before .before .before .before .before .args .at) (c .before .before .before .natural .result) (c .before .before .before .natural .ensures)) in
     omega (arith, w)
-
-same-length : tie.Need-same-length
-same-length c = search needs
 
 returns : tie.Need-returns
 returns c =
@@ -71,19 +41,19 @@ pub number-spec : {M : Type 1} → statement M
 number-spec =
     tie.close
     (tie.spec
-    sub-natural
-    part-natural-start
-    part-natural-end
-    natural-requires
-    enum-known-v
-    cast-over
-    cast-over-2
+    (λ c. search needs)
+    (λ c. search needs)
+    (λ c. search needs)
+    (λ c κs. search needs)
+    (λ c. search needs)
+    (λ c. search needs)
+    (λ c. search needs)
     add-over
     over-requires
-    enum-told
-    enum-known-number
+    (λ c. search needs)
+    (λ c. search needs)
     add-t22
-    same-length
+    (λ c. search needs)
     returns
     returns-2
     returns-3)

@@ -4,20 +4,8 @@ use Rattle.reading.proofs.Identifiers.{opens-word, opens-byte}
 use Rattle.reading.proofs.leaf.opens.Statement.{statement}
 use Rattle.reading.proofs.leaf.opens.Tie as tie
 
-identifier-length-requires : tie.Need-identifier-length-requires
-identifier-length-requires c κs = search needs
-
 returns : tie.Need-returns
 returns c = opens-word _ (c .before .identifier-length .ensures) (c .if1 .taken)
-
-peek-requires : tie.Need-peek-requires
-peek-requires c κs = search needs
-
-peek-requires-2 : tie.Need-peek-requires-2
-peek-requires-2 c κs = search needs
-
-opens-at-requires : tie.Need-opens-at-requires
-opens-at-requires c κs = search needs
 
 returns-2 : tie.Need-returns-2
 returns-2 c = opens-byte _ (c .before .before .before .before .identifier-length .ensures) (c .before .before .before .if1 .left) (c .before .before .peek .ensures) (c .before .peek2 .ensures) (c .opens-at .ensures)
@@ -26,9 +14,9 @@ pub opens-spec : {M : Type 1} → statement M
 opens-spec =
     tie.close
     (tie.spec
-    identifier-length-requires
+    (λ c κs. search needs)
     returns
-    peek-requires
-    peek-requires-2
-    opens-at-requires
+    (λ c κs. search needs)
+    (λ c κs. search needs)
+    (λ c κs. search needs)
     returns-2)

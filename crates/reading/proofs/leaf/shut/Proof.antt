@@ -18,15 +18,6 @@ shut-missing text close at top es (LexedOk v n) s = after-none _ _ s
 shut-missing text close at top es LexedNone s = after-none _ _ s
 shut-missing text close at top es (LexedRefused number place) s = after-refused _ _ s
 
-sym-requires : tie.Need-sym-requires
-sym-requires c κs = search needs
-
-enum-known-r : tie.Need-enum-known-r
-enum-known-r c = search needs
-
-missing-requires : tie.Need-missing-requires
-missing-requires c κs = search needs
-
 returns : tie.Need-returns
 returns c = rw (c .missing .ensures) (shut-missing _ _ _ _ _ (c .before .before .sym .result) (token-stopped (c .before .before .sym .result) (record { tells = c .before .before .sym .ensures; not-ok = c .before .match .keys2 })))
 
@@ -36,4 +27,4 @@ returns-2 c =
     (refl, refl, (_, t .says), t .past, t .inside)
 
 pub shut-spec : {M : Type 1} → statement M
-shut-spec = tie.close (tie.spec sym-requires enum-known-r missing-requires returns returns-2)
+shut-spec = tie.close (tie.spec (λ c κs. search needs) (λ c. search needs) (λ c κs. search needs) returns returns-2)

@@ -4,18 +4,6 @@ use Rattle.reading.proofs.Identifiers.{deep-opens, deep-stops}
 use Rattle.reading.proofs.leaf.too_deep.Statement.{statement}
 use Rattle.reading.proofs.leaf.too_deep.Tie as tie
 
-sub-opens : tie.Need-sub-opens
-sub-opens c = search needs
-
-part-opens-start : tie.Need-part-opens-start
-part-opens-start c = search needs
-
-part-opens-end : tie.Need-part-opens-end
-part-opens-end c = search needs
-
-opens-requires : tie.Need-opens-requires
-opens-requires c κs = search needs
-
 returns : tie.Need-returns
 returns c = deep-opens _ _ (c .before .opens .ensures) (c .if1 .taken)
 
@@ -24,4 +12,4 @@ returns-2 c = deep-stops _ _ (c .before .opens .ensures) (c .if1 .left)
 
 pub too-deep-spec : {M : Type 1} → statement M
 too-deep-spec =
-    tie.close (tie.spec sub-opens part-opens-start part-opens-end opens-requires returns returns-2)
+    tie.close (tie.spec (λ c. search needs) (λ c. search needs) (λ c. search needs) (λ c κs. search needs) returns returns-2)

@@ -6,29 +6,14 @@ use Rattle.reading.proofs.Laws.{kept-refl, took, builds-node, builds-af
 use Rattle.reading.proofs.leaf.typed.Statement.{statement}
 use Rattle.reading.proofs.leaf.typed.Tie as tie
 
-name-requires : tie.Need-name-requires
-name-requires c κs = search needs
-
-enum-known-r : tie.Need-enum-known-r
-enum-known-r c = search needs
-
-missing-requires : tie.Need-missing-requires
-missing-requires c κs = search needs
-
 returns : tie.Need-returns
 returns c = token-missing _ kept-refl (c .before .before .name .result) _ (record { tells = c .before .before .name .ensures; not-ok = c .before .match .keys2 }) (c .missing .ensures)
-
-cast-over : tie.Need-cast-over
-cast-over c = search needs
 
 cast-over-2 : tie.Need-cast-over-2
 cast-over-2 c = omega (arith, took (c .before .before .r .given .1) (c .before .before .before .before .name .ensures))
 
 over-requires : tie.Need-over-requires
 over-requires c κs = omega (arith, took (c .before .before .r .given .1) (c .before .before .before .before .name .ensures))
-
-same-length : tie.Need-same-length
-same-length c = search needs
 
 returns-2 : tie.Need-returns-2
 returns-2 c =
@@ -40,12 +25,12 @@ pub typed-spec : {M : Type 1} → statement M
 typed-spec =
     tie.close
     (tie.spec
-    name-requires
-    enum-known-r
-    missing-requires
+    (λ c κs. search needs)
+    (λ c. search needs)
+    (λ c κs. search needs)
     returns
-    cast-over
+    (λ c. search needs)
     cast-over-2
     over-requires
-    same-length
+    (λ c. search needs)
     returns-2)

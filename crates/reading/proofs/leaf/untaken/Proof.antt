@@ -5,15 +5,6 @@ use Rattle.reading.specs.Code.{untakenAt}
 use Rattle.reading.proofs.leaf.untaken.Statement.{statement}
 use Rattle.reading.proofs.leaf.untaken.Tie as tie
 
-enum-told : tie.Need-enum-told
-enum-told c = search needs
-
-enum-told-2 : tie.Need-enum-told-2
-enum-told-2 c = search needs
-
-enum-known-r : tie.Need-enum-known-r
-enum-known-r c = search needs
-
 returns : tie.Need-returns
 returns c = ap untakenAt (sym (c .enum-told .given .1))
 
@@ -24,4 +15,4 @@ returns-3 : tie.Need-returns-3
 returns-3 c = ap untakenAt (sym (c .before .r .given .1))
 
 pub untaken-spec : {M : Type 1} → statement M
-untaken-spec = tie.close (tie.spec enum-told enum-told-2 enum-known-r returns returns-2 returns-3)
+untaken-spec = tie.close (tie.spec (λ c. search needs) (λ c. search needs) (λ c. search needs) returns returns-2 returns-3)

@@ -2,34 +2,13 @@
 use native.Mathlib.Omega.{arith}
 use borrow.Author.Needs.{needs}
 use Rattle.grammar.specs.Rules.{termOperator}
-use Rattle.reading.proofs.Signs.{sign-read, sign-first, sign-next}
+use Rattle.reading.proofs.sign.Signs.{sign-read, sign-first, sign-next}
 use Rattle.reading.proofs.sign.term.Statement.{statement}
 use Rattle.reading.proofs.sign.term.Tie as tie
-
-slice-aggregate-sym : tie.Need-slice-aggregate-sym
-slice-aggregate-sym c = search needs
-
-sym-requires : tie.Need-sym-requires
-sym-requires c κs = search needs
-
-where-read-requires : tie.Need-where-read-requires
-where-read-requires c κs = search needs
-
-enum-told : tie.Need-enum-told
-enum-told c = search needs
 
 returns : tie.Need-returns
 unfolding termOperator
 returns c = sign-first _ (c .match .keys2) (sign-read _ _ _ (c .before .before .sym .result) (omega arith) (c .before .before .sym .ensures) (c .before .where-read .ensures)) .signs
-
-slice-aggregate-sym-2 : tie.Need-slice-aggregate-sym-2
-slice-aggregate-sym-2 c = search needs
-
-sym-requires-2 : tie.Need-sym-requires-2
-sym-requires-2 c κs = search needs
-
-where-read-requires-2 : tie.Need-where-read-requires-2
-where-read-requires-2 c κs = search needs
 
 returns-2 : tie.Need-returns-2
 unfolding termOperator
@@ -42,12 +21,12 @@ pub term-spec : {M : Type 1} → statement M
 term-spec =
     tie.close
     (tie.spec
-    slice-aggregate-sym
-    sym-requires
-    where-read-requires
-    enum-told
+    (λ c. search needs)
+    (λ c κs. search needs)
+    (λ c κs. search needs)
+    (λ c. search needs)
     returns
-    slice-aggregate-sym-2
-    sym-requires-2
-    where-read-requires-2
+    (λ c. search needs)
+    (λ c κs. search needs)
+    (λ c κs. search needs)
     returns-2)

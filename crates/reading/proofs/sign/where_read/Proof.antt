@@ -5,15 +5,6 @@ use Rattle.reading.specs.Code.{whereRead}
 use Rattle.reading.proofs.sign.where_read.Statement.{statement}
 use Rattle.reading.proofs.sign.where_read.Tie as tie
 
-enum-known-r : tie.Need-enum-known-r
-enum-known-r c = search needs
-
-enum-told : tie.Need-enum-told
-enum-told c = search needs
-
-enum-known-r-2 : tie.Need-enum-known-r-2
-enum-known-r-2 c = search needs
-
 returns : tie.Need-returns
 returns c = ap (λ r. whereRead r (c .before .before .before .args .op) (c .before .before .before .args .swap)) (sym (c .before .r .given .1))
 
@@ -25,4 +16,4 @@ returns-3 c = ap (λ r. whereRead r (c .before .before .before .args .op) (c .be
 
 pub where-read-spec : {M : Type 1} → statement M
 where-read-spec =
-    tie.close (tie.spec enum-known-r enum-told enum-known-r-2 returns returns-2 returns-3)
+    tie.close (tie.spec (λ c. search needs) (λ c. search needs) (λ c. search needs) returns returns-2 returns-3)

@@ -1,21 +1,9 @@
 -- `step::keyword` meets its contract, by that of `lexing::keyword` on the rest of the text (Tokens).
 use native.Mathlib.Omega.{arith}
 use borrow.Author.Needs.{needs}
-use Rattle.reading.proofs.Tokens.{token-placed, token-tells, keyword-reads}
+use Rattle.reading.proofs.step.Tokens.{token-placed, token-tells, keyword-reads}
 use Rattle.reading.proofs.step.keyword.Statement.{statement}
 use Rattle.reading.proofs.step.keyword.Tie as tie
-
-sub-keyword : tie.Need-sub-keyword
-sub-keyword c = search needs
-
-part-keyword-start : tie.Need-part-keyword-start
-part-keyword-start c = search needs
-
-part-keyword-end : tie.Need-part-keyword-end
-part-keyword-end c = search needs
-
-keyword-requires : tie.Need-keyword-requires
-keyword-requires c κs = search needs
 
 moved-requires : tie.Need-moved-requires
 moved-requires c κs = token-placed (keyword-reads _) (c .before .before .before .before .args .text .now) _ (c .before .before .before .before .pre) (c .keyword .result) (c .keyword .ensures) (omega arith)
@@ -27,9 +15,9 @@ pub keyword-spec : {M : Type 1} → statement M
 keyword-spec =
     tie.close
     (tie.spec
-    sub-keyword
-    part-keyword-start
-    part-keyword-end
-    keyword-requires
+    (λ c. search needs)
+    (λ c. search needs)
+    (λ c. search needs)
+    (λ c κs. search needs)
     moved-requires
     returns)

@@ -6,17 +6,8 @@ use Rattle.reading.specs.Code.{movedOf, placed}
 use Rattle.reading.proofs.step.moved.Statement.{statement}
 use Rattle.reading.proofs.step.moved.Tie as tie
 
-enum-known-r : tie.Need-enum-known-r
-enum-known-r c = search needs
-
 add-t8 : tie.Need-add-t8
 add-t8 c = omega (arith, subst (placed (c .before .before .before .args .at)) (c .before .r .given .1) (c .before .before .before .pre))
-
-enum-told : tie.Need-enum-told
-enum-told c = search needs
-
-enum-known-r-2 : tie.Need-enum-known-r-2
-enum-known-r-2 c = search needs
 
 add-t9 : tie.Need-add-t9
 add-t9 c = omega (arith, subst (placed (c .before .before .before .args .at)) (c .before .r2 .given .1) (c .before .before .before .pre))
@@ -33,4 +24,4 @@ returns-3 c = ap (movedOf _) (sym (c .before .r2 .given .1))
 pub moved-spec : {M : Type 1} → statement M
 moved-spec =
     tie.close
-    (tie.spec enum-known-r add-t8 enum-told enum-known-r-2 add-t9 returns returns-2 returns-3)
+    (tie.spec (λ c. search needs) add-t8 (λ c. search needs) (λ c. search needs) add-t9 returns returns-2 returns-3)

@@ -1,21 +1,9 @@
 -- `step::sym` meets its contract, by that of `lexing::sym` on the rest of the text (Tokens).
 use native.Mathlib.Omega.{arith}
 use borrow.Author.Needs.{needs}
-use Rattle.reading.proofs.Tokens.{token-placed, token-tells, sign-reads}
+use Rattle.reading.proofs.step.Tokens.{token-placed, token-tells, sign-reads}
 use Rattle.reading.proofs.step.sym.Statement.{statement}
 use Rattle.reading.proofs.step.sym.Tie as tie
-
-sub-sym : tie.Need-sub-sym
-sub-sym c = search needs
-
-part-sym-start : tie.Need-part-sym-start
-part-sym-start c = search needs
-
-part-sym-end : tie.Need-part-sym-end
-part-sym-end c = search needs
-
-sym-requires : tie.Need-sym-requires
-sym-requires c κs = search needs
 
 moved-requires : tie.Need-moved-requires
 moved-requires c κs = token-placed (sign-reads _) (c .before .before .before .before .args .text .now) _ (c .before .before .before .before .pre) (c .sym .result) (c .sym .ensures) (omega arith)
@@ -25,4 +13,4 @@ returns c = token-tells (sign-reads _) (c .before .before .before .before .befor
 
 pub sym-spec : {M : Type 1} → statement M
 sym-spec =
-    tie.close (tie.spec sub-sym part-sym-start part-sym-end sym-requires moved-requires returns)
+    tie.close (tie.spec (λ c. search needs) (λ c. search needs) (λ c. search needs) (λ c κs. search needs) moved-requires returns)

@@ -6,8 +6,8 @@ use mathlib.Core.List.{List, [], _∷_, append-nil}
 use lib.ListN.{length, getD, drop, set, replicate, length-append, length-drop, length-set, drop-of-length-le}
 use Rattle.reading.specs.Arena.{Run, Holds}
 use Rattle.reading.specs.Flat.{whole, headOf, partsOf, Fit, Replaced, Written, Writes, Rooted, Flattened}
-use Rattle.reading.proofs.FlatWords.{fill-none}
-use Rattle.reading.proofs.FlatFrames.{rest, drop-set, alone, Pending, nothing, push, few, top-below, small, weight, Stepped, step}
+use Rattle.reading.proofs.flat.Words.{fill-none}
+use Rattle.reading.proofs.flat.Frames.{rest, drop-set, alone, Pending, nothing, push, few, top-below, small, weight, Stepped, step}
 
 -- of the words `total`, those that the stack stands for are still to be written
 pub record Walking (arena : List ℕ) (top : ℕ) (total stack table : List ℕ) (sp out : ℕ) : Type 0 where

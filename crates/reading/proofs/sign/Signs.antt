@@ -37,14 +37,14 @@ module _ {B : Type 0} {word : B → ℕ} {swap : B → Bool} {text : List ℕ} {
   module _ {p : Answer B} (q : Answer B) where
     -- a branch that kept a token or was refused
     pub sign-first : {s : Sign} → OneOf (0 ∷ 2 ∷ []) (tagOf sign-type s) → Told word swap text at p s → Told word swap text at (p or q) s
-    sign-first {s} k t = record { signs = go s k (t .signs) }
+    sign-first {s} k t = record { signs = first s k (t .signs) }
       where
-        go : (s : Sign) → OneOf (0 ∷ 2 ∷ []) (tagOf sign-type s) → Signs word swap text at p s → Signs word swap text at (p or q) s
-        go (SignFound op swaps n) k t =
+        first : (s : Sign) → OneOf (0 ∷ 2 ∷ []) (tagOf sign-type s) → Signs word swap text at p s → Signs word swap text at (p or q) s
+        first (SignFound op swaps n) k t =
             record { value = t .value; says = after-ok _ _ (t .says); word-is = t .word-is; swap-is = t .swap-is; past = t .past; inside = t .inside }
-        go SignNone (inl e) t = absurd (omega arith)
-        go SignNone (inr e) t = absurd (omega arith)
-        go (SignRefused number place) k t = after-refused _ _ t
+        first SignNone (inl e) t = absurd (omega arith)
+        first SignNone (inr e) t = absurd (omega arith)
+        first (SignRefused number place) k t = after-refused _ _ t
 
     -- one that kept nothing, and the next
     pub sign-next : {s₁ s : Sign} → s₁ ≡ SignNone → Told word swap text at p s₁ → Told word swap text at q s → Told word swap text at (p or q) s

@@ -6,7 +6,7 @@ use mathlib.Core.List.{List, [], _∷_}
 use mathlib.Core.Option.{none}
 use lib.ListN.{length, drop, take}
 use lib.Dec.{leb}
-use Rattle.lexing.specs.Answer.{Answer, moved}
+use Rattle.lexing.specs.Answer.{Answer, unclosedComment, moved}
 use Rattle.lexing.specs.Bytes.{isDigit, canStartIdentifierChar, run, startsWith}
 use Rattle.lexing.specs.Blanks.{Blanks, passed, unclosed, W}
 use Rattle.lexing.specs.Tokens as lexing
@@ -26,7 +26,7 @@ use Rattle.grammar.specs.Rules as rules
 use Rattle.grammar.specs.Laws.Looks.{pick-both}
 use Rattle.grammar.specs.Laws.Cut.{tokens-drop, tokens-illegal}
 use Rattle.grammar.specs.Bridge.Relation as relation
-use Rattle.grammar.specs.Bridge.Relation.{tokens, Halted, fails, waits, Kept, refuses, reads, ends, absent, agree, dead, Test, seen, missed}
+use Rattle.grammar.specs.Bridge.Relation.{tokens, Halted, fails, waits, KeepsToken, refuses, reads, ends, agree, dead, Test, seen, missed}
 use Rattle.grammar.specs.Bridge.Relation.{dead-after, ends-after, ends-then, halted-after, sim-after, sim-see}
 use Rattle.grammar.specs.Bridge.Places.{follow, tokens-here, inside-here, nothing-here}
 use Rattle.grammar.specs.Bridge.Trees.{bad-call}
@@ -35,7 +35,7 @@ use Rattle.grammar.specs.Bridge.Tails.{SimExpr, Level}
 use Rattle.grammar.specs.Bridge.NoOperand.{colon-ends}
 use Rattle.grammar.specs.Bridge.Series.{items-sim, items-halts}
 
-module _ (text : List ℕ) (m at : ℕ) where
+module _ (text : List ℕ) (at : ℕ) where
   no-name : identifierLength (drop at text) ≡ 0 → parseName text at ≡ Answer.none
   unfolding lexing.parseId after
   no-name e = rw e refl
@@ -45,9 +45,9 @@ module _ (text : List ℕ) (m at : ℕ) where
       (name (take (suc n) (drop at text)) ∷ follow text at (suc n) b)
   unfolding after isWord part
   name-seen n (passed k) f = seen (record { start = at; len = suc n }) (at + (suc n + k)) (name (take (suc n) (drop at text))) (f k refl) refl
-  name-seen n (unclosed place) f = relation.unclosed 2 (at + (suc n + place)) (name (take (suc n) (drop at text))) (take (suc n) (drop at text)) [] refl
+  name-seen n (unclosed place) f = relation.unclosed unclosedComment (at + (suc n + place)) (name (take (suc n) (drop at text))) (take (suc n) (drop at text)) [] refl
 
-  name-by : Stands text m at → Test text (resolved.bytes text) isWord (parseName text at) (tokens text at)
+  name-by : Stands text at → Test text (resolved.bytes text) isWord (parseName text at) (tokens text at)
   unfolding lexing.parseId lexeme isWord
   name-by (word n t a) =
       rw (ap (λ r. r .name) a, tokens-here text at t) (name-seen n (W (drop (suc n) (drop at text))) (λ k w. inside-here text at t w))
@@ -59,37 +59,66 @@ module _ (text : List ℕ) (m at : ℕ) where
 
   -- an identifier
   pub name-test : Test text (resolved.bytes text) isWord (parseName text at) (tokens text at)
-  name-test = name-by (stands text m at)
+  name-test = name-by (stands text at)
 
 -- a token is read or refused
-pub lexeme-ends : (v at n : ℕ) (b : Blanks) → Kept (moved at (closed v n b))
+pub lexeme-ends : (v at n : ℕ) (b : Blanks) → KeepsToken (moved at (closed v n b))
 lexeme-ends v at n (passed k) = reads tt
 lexeme-ends v at n (unclosed place) = refuses
 
-module _ (text : List ℕ) (m : ℕ) {c : Reader (Expr Span)} {e : Parser} (l : Level text c e) where
+module _ (text : List ℕ) where
+  -- after `old`
+  pub old-sim : (at : ℕ) → SimExpr text (rules.afterOld text at) (see isWord (tokens text at) failed (λ v us. parsed (IdExpr v true) us))
+  unfolding rules.afterOld
+  old-sim at = sim-see _ _ _ _ (name-test text at) (dead (ends refuses) fails) (λ n at₁ h. agree (IdExpr n true) at₁ h) (λ v us. waits)
+
+  -- `afterOld` keeps a token
+  pub old-ends : (at : ℕ) → KeepsToken (rules.afterOld text at)
+  unfolding rules.afterOld
+  old-ends at = ends-after _ _ _ refuses (λ n at₁. reads tt)
+
   -- where a colon stands no token can be cut
   colon-illegal : (at : ℕ) (s : List ℕ) → drop at text ≡ 58 ∷ s → tokens text at ≡ illegal ∷ []
   unfolding tokens tokenAt nameAt naturalAt cutting.signAt identifierLength canStartIdentifierChar isDigit run startsWith
   colon-illegal at s p = rw (tokens-drop at text, p, tokens-illegal 58 s refl) refl
 
+module _ (text : List ℕ) {c : Reader (Expr Span)} {e : Parser} (l : Level text c e) where
   label-sim : (n : Span) (at : ℕ) → at ≤ length text
-      → SimExpr text (rules.afterLabel text m c n at) (parsed (IdExpr (resolved.bytes text n) false) (tokens text at))
+      → SimExpr text (rules.afterLabel text c n at) (parsed (IdExpr (resolved.bytes text n) false) (tokens text at))
   unfolding rules.afterLabel lexing.sign lexeme after
-  label-sim n at h = go (startsWith (bytes ":") (drop at text)) refl
+  label-sim n at h = by-colon (startsWith (bytes ":") (drop at text)) refl
     where
-      go : (b : Bool) → startsWith (bytes ":") (drop at text) ≡ b
-          → SimExpr text (rules.afterLabel text m c n at) (parsed (IdExpr (resolved.bytes text n) false) (tokens text at))
-      go true p =
-          rw (p, colon-illegal at (drop 1 (drop at text)) (startsWith-true (bytes ":") (drop at text) p))
-          (dead (ends (ends-then _ _ (lexeme-ends 0 at 1 (W (drop 1 (drop at text)))) (λ _ at₁. colon-ends text m c n at₁))) waits)
-      go false p = rw p (agree (IdExpr n false) at h)
+      by-colon : (b : Bool) → startsWith (bytes ":") (drop at text) ≡ b
+          → SimExpr text (rules.afterLabel text c n at) (parsed (IdExpr (resolved.bytes text n) false) (tokens text at))
+      by-colon true p =
+          rw (p, colon-illegal text at (drop 1 (drop at text)) (startsWith-true (bytes ":") (drop at text) p))
+          (dead (ends (ends-then _ _ (lexeme-ends 0 at 1 (W (drop 1 (drop at text)))) (λ _ at₁. colon-ends text c n at₁))) waits)
+      by-colon false p = rw p (agree (IdExpr n false) at h)
 
+  closed-halts : (t : Tree) (us : List Token) → Halted (see (isMark rparen) (illegal ∷ us) failed (λ x vs. parsed t vs))
+  unfolding see isMark
+  closed-halts t us = fails
+
+  -- after an opening bracket
+  pub bracketed-sim : (at : ℕ) → SimExpr text (rules.afterParen text c at) (parseBracketed e (tokens text at))
+  unfolding rules.afterParen parseBracketed
+  bracketed-sim at =
+      sim-after _ _ _ (l .sim at) (ends refuses)
+      (λ a at₁ h. sim-see _ _ _ _ (mark-test text at₁ rparen) (dead (ends refuses) fails) (λ _ at₂ h₂. agree a at₂ h₂) (λ x us. waits))
+      (λ a at₁ bad. dead-after _ _ _ (ends refuses) (λ _ at₂. ends (reads bad))) (λ t us. closed-halts t us)
+
+  -- a bracketed expression does not begin with an illegal token
+  pub bracketed-halts : (us : List Token) → Halted (parseBracketed e (illegal ∷ us))
+  unfolding parseBracketed
+  bracketed-halts us = halted-after _ (l .halts us) (λ t vs. closed-halts t vs)
+
+module _ (text : List ℕ) (m : ℕ) {c : Reader (Expr Span)} {e : Parser} (l : Level text c e) where
   call-sim : (n : Span) (at : ℕ)
       → SimExpr text (rules.afterCall text m c n at)
       (parser.after (parser.parseItems m e (tokens text at)) (λ es vs. parsed (FunctionCallExpr (resolved.bytes text n) es) vs))
   unfolding rules.afterCall
   call-sim n at =
-      sim-after _ _ _ (items-sim text m l at) absent (λ es at₁ h. agree (FunctionCallExpr n es) at₁ h)
+      sim-after _ _ _ (items-sim text m l at) (ends refuses) (λ es at₁ h. agree (FunctionCallExpr n es) at₁ h)
       (λ es at₁ bad. ends (reads (bad-call text n es bad))) (λ es vs. waits)
 
   -- after a name
@@ -97,33 +126,9 @@ module _ (text : List ℕ) (m : ℕ) {c : Reader (Expr Span)} {e : Parser} (l : 
       → SimExpr text (rules.afterName text m c n at) (parseNamed m e (resolved.bytes text n) (tokens text at))
   unfolding rules.afterName parseNamed
   name-sim n at h =
-      sim-see _ _ _ _ (mark-test text m at lparen) (label-sim n at h) (λ _ at₁ h₁. call-sim n at₁) (λ x us. halted-after _ (items-halts text m l us) (λ es vs. waits))
+      sim-see _ _ _ _ (mark-test text at lparen) (label-sim text l n at h) (λ _ at₁ h₁. call-sim n at₁) (λ x us. halted-after _ (items-halts text m l us) (λ es vs. waits))
 
+  -- a name before an illegal token stands alone
   pub named-halts : (w : List ℕ) (us : List Token) → Halted (parseNamed m e w (illegal ∷ us))
   unfolding parseNamed see isMark
   named-halts w us = waits
-
-  -- after `old`
-  pub old-sim : (at : ℕ) → SimExpr text (rules.afterOld text m c at) (see isWord (tokens text at) failed (λ v us. parsed (IdExpr v true) us))
-  unfolding rules.afterOld
-  old-sim at = sim-see _ _ _ _ (name-test text m at) (dead (ends refuses) fails) (λ n at₁ h. agree (IdExpr n true) at₁ h) (λ v us. waits)
-
-  pub old-ends : (at : ℕ) → Kept (rules.afterOld text m c at)
-  unfolding rules.afterOld
-  old-ends at = ends-after _ _ _ refuses (λ n at₁. reads tt)
-
-  closed-halts : (t : Tree) (us : List Token) → Halted (see (isMark rparen) (illegal ∷ us) failed (λ x vs. parsed t vs))
-  unfolding see isMark
-  closed-halts t us = fails
-
-  -- after an opening bracket
-  pub bracketed-sim : (at : ℕ) → SimExpr text (rules.afterParen text m c at) (parseBracketed e (tokens text at))
-  unfolding rules.afterParen parseBracketed
-  bracketed-sim at =
-      sim-after _ _ _ (l .sim at) (ends refuses)
-      (λ a at₁ h. sim-see _ _ _ _ (mark-test text m at₁ rparen) (dead (ends refuses) fails) (λ _ at₂ h₂. agree a at₂ h₂) (λ x us. waits))
-      (λ a at₁ bad. dead-after _ _ _ (ends refuses) (λ _ at₂. ends (reads bad))) (λ t us. closed-halts t us)
-
-  pub bracketed-halts : (us : List Token) → Halted (parseBracketed e (illegal ∷ us))
-  unfolding parseBracketed
-  bracketed-halts us = halted-after _ (l .halts us) (λ t vs. closed-halts t vs)

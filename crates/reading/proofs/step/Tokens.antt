@@ -28,11 +28,11 @@ Small (refused number place) = Unit {0}
 
 lexeme-small : (v n : ℕ) (s : List ℕ) → v ≤ n → Small (lexeme v n s)
 unfolding lexeme
-lexeme-small v n s h = go (W (drop n s))
+lexeme-small v n s h = by-blanks (W (drop n s))
   where
-    go : (r : Blanks) → Small (closed v n r)
-    go (passed k) = omega arith
-    go (unclosed k) = tt
+    by-blanks : (r : Blanks) → Small (closed v n r)
+    by-blanks (passed k) = omega arith
+    by-blanks (unclosed k) = tt
 
 unlessEmpty-small : (n : ℕ) (r : Answer ℕ) → Small r → Small (unlessEmpty n r)
 unlessEmpty-small zero r h = tt

@@ -12,10 +12,10 @@ use Rattle.grammar.specs.Parser as parser
 use Rattle.grammar.specs.Parser.{Parser}
 use Rattle.grammar.specs.Steps.{Reader, after}
 use Rattle.grammar.specs.Rules as rules
+use Rattle.grammar.specs.Rules.{operatorOf}
 use Rattle.grammar.specs.Laws.Looks.{pick-both}
 use Rattle.grammar.specs.Bridge.Relation.{fails, refuses, Dead, ends, absent, dead}
 use Rattle.grammar.specs.Bridge.Trees.{Bad}
-use Rattle.grammar.specs.Bridge.Answers.{operatorOf}
 use Rattle.grammar.specs.Bridge.Tails.{Level, level, left-tail, right-tail, once-tail, either-tail}
 use Rattle.grammar.specs.Bridge.Operand.{unary-level}
 
@@ -23,13 +23,13 @@ module _ (text : List ℕ) (n : ℕ) where
   abbrev m : ℕ
   m = suc n
 
-  left-refuses : (p : Reader (Expr Span)) (c : Class) (e : Expr Span) (at number place : ℕ) → operatorOf text m c at ≡ refused number place
-      → rules.leftTail text m m (operatorOf text m c) p e at ≡ refused number place
+  left-refuses : (p : Reader (Expr Span)) (c : Class) (e : Expr Span) (at number place : ℕ) → operatorOf text c at ≡ refused number place
+      → rules.leftTail m (operatorOf text c) p e at ≡ refused number place
   unfolding rules.leftTail after
   left-refuses p c e at number place q = rw q refl
 
-  right-refuses : (p : Reader (Expr Span)) (c : Class) (e : Expr Span) (at number place : ℕ) → operatorOf text m c at ≡ refused number place
-      → rules.rightTail text m m (operatorOf text m c) p e at ≡ refused number place
+  right-refuses : (p : Reader (Expr Span)) (c : Class) (e : Expr Span) (at number place : ℕ) → operatorOf text c at ≡ refused number place
+      → rules.rightTail m (operatorOf text c) p e at ≡ refused number place
   unfolding rules.rightTail after
   right-refuses p c e at number place q = rw q refl
 
@@ -39,14 +39,14 @@ module _ (text : List ℕ) (n : ℕ) where
     unfolding rules.parseFactorExpr rules.parseTermExpr rules.parseJuctExpr rules.logicalTail rules.parseLogicalExpr rules.impExpTail rules.parseImpExpExpr rules.parseEquivExpr
     equiv-level =
         let u : Level text (rules.parseUnaryExpr text m c) (parser.parseUnaryExpr m e) = unary-level text m l in
-        let f : Level text (rules.parseFactorExpr text m c) (parser.parseFactorExpr m e) = level u (left-tail u m product m) in
-        let t : Level text (rules.parseTermExpr text m c) (parser.parseTermExpr m e) = level f (left-tail f m sum m) in
-        let j : Level text (rules.parseJuctExpr text m c) (parser.parseJuctExpr m e) = level t (once-tail t m comparison) in
+        let f : Level text (rules.parseFactorExpr text m c) (parser.parseFactorExpr m e) = level u (left-tail u product m) in
+        let t : Level text (rules.parseTermExpr text m c) (parser.parseTermExpr m e) = level f (left-tail f sum m) in
+        let j : Level text (rules.parseJuctExpr text m c) (parser.parseJuctExpr m e) = level t (once-tail t comparison) in
         let g : Level text (rules.parseLogicalExpr text m c) (parser.parseLogicalExpr m e) =
-        level j (either-tail m conjunction (left-tail j m conjunction m) (left-tail j m disjunction m) (left-refuses (rules.parseJuctExpr text m c) conjunction)) in
+        level j (either-tail conjunction (left-tail j conjunction m) (left-tail j disjunction m) (left-refuses (rules.parseJuctExpr text m c) conjunction)) in
         let i : Level text (rules.parseImpExpExpr text m c) (parser.parseImpExpExpr m e) =
-        level g (either-tail m implication (right-tail g m implication m) (left-tail g m explication m) (right-refuses (rules.parseLogicalExpr text m c) implication)) in
-        level i (left-tail i m equivalence m)
+        level g (either-tail implication (right-tail g implication m) (left-tail g explication m) (right-refuses (rules.parseLogicalExpr text m c) implication)) in
+        level i (left-tail i equivalence m)
 
   no-depth : (at : ℕ) (s : List ℕ) → drop at text ≡ 41 ∷ s → rules.parseExpr text m zero at ≡ Answer.none
   unfolding rules.parseExpr rules.opensExpr rules.opensAt identifierLength canStartIdentifierChar isDigit

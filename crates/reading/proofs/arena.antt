@@ -1,0 +1,2 @@
+-- What is written to the arena.
+pub mod Nodes

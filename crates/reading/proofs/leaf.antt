@@ -1,0 +1,2 @@
+-- The rules that open no expression.
+pub mod Pairs

@@ -1,0 +1,2 @@
+-- Signs of operators.
+pub mod Signs

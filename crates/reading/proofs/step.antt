@@ -1,0 +1,2 @@
+-- Tokens at a place of the text.
+pub mod Tokens
