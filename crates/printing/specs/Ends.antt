@@ -3,7 +3,6 @@
 -- optional name, an expression, expressions, bindings, patterns, closure bindings and closure properties.
 use Prim.Native.Nat.{ℕ, zero, suc, _+_, _*_, _/_, _%_, _≤_}
 use mathlib.Core.Path.{_≡_}
-use mathlib.Core.Bool.{Bool}
 use mathlib.Core.List.{List, [], _∷_}
 use lib.ListN.{length, drop, getD}
 use lib.Dec.{eqb}

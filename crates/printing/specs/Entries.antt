@@ -1,6 +1,6 @@
 -- Print an expression (document 01, "The entries"): refusals 6 to 8, and the output afterwards.
 use Prim.Native.Nat.{ℕ, _≤_}
-use mathlib.Core.Path.{_≡_, refl, sym}
+use mathlib.Core.Path.{_≡_, refl}
 use mathlib.Core.Bool.{_&&_}
 use mathlib.Core.Option.{Option, none, some}
 use mathlib.Core.List.{List, [], _++_}
@@ -12,8 +12,7 @@ use Rattle.tree.specs.Ast.{Expr}
 use Rattle.tree.specs.Resolve.{bytes}
 use Rattle.tree.specs.Words.{exprWords}
 use Rattle.tree.specs.Check.{NameIn, Refusal, expressionRefusal}
-use Rattle.tree.specs.Tables.{expression-accepted}
-use Rattle.tree.specs.Refused.{expression-answer}
+use Rattle.tree.specs.Refused.{expression-unrefused}
 use Rattle.printing.specs.declared.format.ExprFormatOption.{ExprFormatOption}
 use Rattle.printing.specs.declared.format.ExprFormatOption.the-variants.{SingleLine, MultipleLines}
 use Rattle.printing.specs.declared.Printed.{Printed}
@@ -43,7 +42,7 @@ stored print out =
 
 -- the tree that an unrefused table holds: the one whose words these are
 abbrev pub treeOf : (words : List ℕ) (len : ℕ) → expressionRefusal words len ≡ none → Expr (NameIn len)
-treeOf words len e = expression-accepted words len .0 (sym (expression-answer words len (sym e))) .1 .0
+treeOf words len e = expression-unrefused words len .0 e .1 .0
 
 -- a name as the part of the text that it occupies
 abbrev pub nameIn : (text : List ℕ) → NameIn (length text) → List ℕ

@@ -1,27 +1,20 @@
 -- What print expression gives of a table with a tree's words, and of one that the check refuses.
 use Prim.Native.Nat.{ℕ, _≤_}
-use mathlib.Core.Path.{_≡_, refl, sym, ap}
+use mathlib.Core.Path.{_≡_, refl, ap}
 use mathlib.Core.Option.{Option, none, some}
 use mathlib.Core.List.{List, [], _∷_}
 use lib.ListN.{length}
 use borrow.Author.Tests.{le-leb}
-use Rattle.grammar.specs.Laws.Steps.{impossible}
+use Rattle.tree.specs.Clash.{impossible}
 use Rattle.tree.specs.Limits.{mostText, mostWords}
 use Rattle.tree.specs.Ast.{Expr}
 use Rattle.tree.specs.Kind.{expr}
-use Rattle.tree.specs.Check.{NameIn, checkExpression, Refusal, refusal as checkRefusal, expressionRefusal}
+use Rattle.tree.specs.Check.{NameIn, Refusal, expressionRefusal}
 use Rattle.tree.specs.Trees.{Trees, namesIn}
 use Rattle.tree.specs.Accepted.{unique}
-use Rattle.tree.specs.Tables.{expression-accepted}
-use Rattle.tree.specs.Refused.{expression-answer}
-use Rattle.tree.specs.declared.Checked.{Checked}
+use Rattle.tree.specs.Refused.{expression-unrefused}
 use Rattle.printing.specs.declared.format.ExprFormatOption.{ExprFormatOption}
 use Rattle.printing.specs.Entries.{mostIndent, startIndent, refusal, stored, treeOf, printOf, printChecked, printExpression, Holds}
-
--- the refusal of a table is that of the check's answer
-pub refusal-of : (words : List ℕ) (len : ℕ) {c : Checked} → checkExpression words len ≡ c → expressionRefusal words len ≡ checkRefusal c
-unfolding expressionRefusal
-refusal-of words len h = ap checkRefusal h
 
 -- two trees with the same words
 pub same-tree : (text words : List ℕ) (t u : Expr (NameIn (length text))) → Holds text words t → Holds text words u → t ≡ u
@@ -32,7 +25,7 @@ same-tree text words t u e f =
 module _ (text words : List ℕ) (t : Expr (NameIn (length text))) (e : Holds text words t) where
   pub tree-of : (h : expressionRefusal words (length text) ≡ none) → treeOf words (length text) h ≡ t
   tree-of h =
-      let a = expression-accepted words (length text) .0 (sym (expression-answer words (length text) (sym h))) .1 in
+      let a = expression-unrefused words (length text) .0 h .1 in
       same-tree text words (a .0) t (a .1) e
 
   module _ (step : ℕ) (format : ExprFormatOption) (out : List ℕ) where
@@ -46,7 +39,7 @@ module _ (text words : List ℕ) (t : Expr (NameIn (length text))) (e : Holds te
         → printExpression step text words format out ≡ stored (printOf step text format t) out
     unfolding printExpression
     prints ht hw hi =
-        let k = refusal-of words (length text) (expression-accepted words (length text) .1 (hw, (t, e))) in
+        let k = expression-unrefused words (length text) .1 (hw, (t, e)) in
         simp (le-leb _ _ ht, le-leb _ _ hi) (checked (expressionRefusal words (length text)) refl k)
 
 module _ (step : ℕ) (text words : List ℕ) (format : ExprFormatOption) (out : List ℕ) where

@@ -1,14 +1,14 @@
--- Closed examples, by computation: each rule of the prints once. Names are written as their text.
+-- Closed examples, by computation: strengths, operand counts and broken lines. Names are written as their text.
 use mathlib.Core.Path.{_≡_, refl}
 use Prim.Native.Nat.{ℕ}
 use Prim.Native.String.{String}
-use mathlib.Core.Bool.{true, false}
+use mathlib.Core.Bool.{false}
 use mathlib.Core.Option.{some}
 use mathlib.Core.List.{List, [], _∷_}
 use Rattle.grammar.specs.Words.{bytes}
 use Rattle.tree.specs.Ast.{binding, Operator, IfThenElse, Equiv, LogicalImp, LogicalAnd, LogicalOr, Eq, Less, Plus, LogicalNot, UnaryMinus}
-use Rattle.tree.specs.Ast.{Expr, BLiteral, ILiteral, CustomLiteral, IdExpr, OperatorExpr, FunctionCallExpr, LabeledExpr, LetExpr, QuantifierExpr, ClosureExpr}
-use Rattle.tree.specs.Ast.{Exprs, noExprs, _then_, noPatterns, pattern, noClosureBindings, closureBinding, noClosureProperties, closureProperty}
+use Rattle.tree.specs.Ast.{Expr, IdExpr, OperatorExpr, LabeledExpr, LetExpr, QuantifierExpr}
+use Rattle.tree.specs.Ast.{Exprs, noExprs, _then_, noPatterns, pattern}
 use Rattle.printing.specs.declared.format.ExprFormatOption.the-variants.{SingleLine, MultipleLines}
 use Rattle.printing.specs.Text.{digits}
 use Rattle.printing.specs.PrintUtil.{Init, WinsOver, SubexpressionPower}
@@ -19,13 +19,13 @@ unfoldable pub computed : Unit {0}
 unfolding digits WinsOver SubexpressionPower ExpressionList Bindings Expression operands patterns closureBindings triggers properties
 computed = tt
 
-abbrev line : Expr String → List ℕ
+abbrev pub line : Expr String → List ℕ
 line e = Expression bytes 2 e Init SingleLine []
 
-abbrev lines : ℕ → Expr String → List ℕ
+abbrev pub lines : ℕ → Expr String → List ℕ
 lines indent e = Expression bytes 2 e Init (MultipleLines indent) []
 
-abbrev list : List (Expr String) → Exprs String
+abbrev pub list : List (Expr String) → Exprs String
 list [] = noExprs
 list (e ∷ es) = _then_ e (list es)
 
@@ -67,32 +67,10 @@ endless : line (two Equiv (LabeledExpr "m" a) (LabeledExpr "n" (two Equiv b c)))
 unfolding computed
 endless = refl
 
--- ---- the other kinds
-
-operands-of-all-kinds : line (FunctionCallExpr "f" (list (BLiteral true ∷ ILiteral 18446744073709551615 ∷ CustomLiteral "1+" "t" ∷ IdExpr "g" true ∷ [])))
-    ≡ bytes "f(true, 18446744073709551615, |1+: t|, old g)"
-unfolding computed
-operands-of-all-kinds = refl
-
 -- a count that is not the operator's
 wrong-count : line (two Plus (OperatorExpr Plus noExprs) (OperatorExpr LogicalNot (list (two Plus a b ∷ c ∷ [])))) ≡ bytes "+() + !(a + b, c)"
 unfolding computed
 wrong-count = refl
-
--- a quantifier without bindings prints neither word
-no-bindings : line (QuantifierExpr true [] (pattern (list (a ∷ b ∷ [])) noPatterns) c) ≡ bytes " pattern a, b c"
-unfolding computed
-no-bindings = refl
-
-closure : line
-    (ClosureExpr
-    (closureBinding "f" (binding "k" "int" ∷ binding "l" "bool" ∷ []) a (closureBinding "g" [] b noClosureBindings))
-    "r"
-    "t"
-    (closureProperty (pattern (list (a ∷ b ∷ [])) (pattern (list (c ∷ [])) noPatterns)) a (closureProperty noPatterns b noClosureProperties)))
-    ≡ bytes "lift f(k: int, l: bool) := a, g := b into r: t by { trigger a, b trigger c :: a, b }"
-unfolding computed
-closure = refl
 
 -- ---- broken lines
 

@@ -20,9 +20,9 @@ use Rattle.printing.specs.Printer.{Operand, ExpressionList, conditional,
 use Rattle.printing.specs.Entries.{nameIn, startIndent}
 use Rattle.printing.specs.Text.{_▹_, _▸_}
 use Rattle.printing.specs.Wrote.{Wrote}
-use Rattle.printing.specs.Code.{unless}
+use Rattle.printing.specs.Text.{unless}
 use Rattle.printing.specs.Ends.{Known, upTo}
-use Rattle.printing.specs.Steps.{Part}
+use Rattle.printing.specs.Parts.{Part}
 
 -- an operand of an operator
 abbrev pub operand : (text : List ℕ) → Expr (NameIn (length text)) → Operand
@@ -35,6 +35,10 @@ formNumber o es = pick (eqb (upTo 4 es) (ArgumentCount o)) (upTo 4 es) 0
 pub record FormIs (table ends : List ℕ) (at r : ℕ) : Type 0 where
   pub form-is : (len : ℕ) → Known len table ends → (o : Operator) (es : Exprs (NameIn len)) (rest : List ℕ) → drop at table ≡ exprWords (λ n. n .span) (OperatorExpr o es) rest
       → r ≡ formNumber o es
+
+-- a format one step deeper; no print has an indent of 65,536 or more
+pub record Deeper (format r : ExprFormatOption) : Type 0 where
+  pub deeper : startIndent format < 65536 → r ≡ More 2 format
 
 -- the format of the expression after `else`, and what stands before it
 pub record ElseFormat (text table : List ℕ) (at : ℕ) (format r : ExprFormatOption) : Type 0 where
@@ -101,8 +105,8 @@ module _ (text table ends : List ℕ) (at : ℕ) where
   abbrev pub aListed : Part
   aListed = operators (λ (a : Operator × Exprs N). a .0) (λ a. a .1) (λ a. listed (a .0) (operands (nameIn text) 2 (a .1))) Init SingleLine
 
-  abbrev pub aUnary : BindingPower → ExprFormatOption → Part
-  aUnary = operators (λ (a : Operator × Expr N). a .0) (λ a. _then_ (a .1) noExprs) (λ a. unary (a .0) (operand text (a .1)))
+  abbrev pub aUnary : BindingPower → Part
+  aUnary context = operators (λ (a : Operator × Expr N). a .0) (λ a. _then_ (a .1) noExprs) (λ a. unary (a .0) (operand text (a .1))) context SingleLine
 
   abbrev pub aBinary : BindingPower → ExprFormatOption → Part
   aBinary =

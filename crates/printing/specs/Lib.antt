@@ -1,7 +1,7 @@
 -- The prints of B3: PrintUtil.dfy and Printer.dfy.
 pub mod Text
 pub mod Wrote
-pub mod Code
+pub mod OperatorWords
 pub mod PrintUtil
 pub mod Printer
 pub mod Entries
@@ -9,7 +9,8 @@ pub mod EntryLaws
 pub mod PrintCases
 pub mod Claims
 pub mod Ends
-pub mod Steps
+pub mod Parts
 pub mod ExprParts
 pub mod Stores
 pub mod Examples
+pub mod FormExamples

@@ -4,31 +4,29 @@ use native.Mathlib.Omega.{arith}
 use mathlib.Core.Path.{_≡_, refl, sym, ap, _∙_, subst}
 use mathlib.Core.Logic.{_↔_, _⊎_, inl, inr}
 use mathlib.Core.Bool.{Bool, true, false, _&&_}
-use mathlib.Core.Option.{some}
-use mathlib.Core.List.{List, [], _∷_, _++_}
+use mathlib.Core.Option.{Option, some}
+use mathlib.Core.List.{List, _++_}
 use lib.ListN.{length, drop}
 use lib.Dec.{leb}
 use borrow.Author.Tests.{leb-true, le-leb}
-use Rattle.grammar.specs.Laws.Steps.{impossible}
+use Rattle.tree.specs.Clash.{impossible}
 use Rattle.grammar.specs.Laws.Looks.{pick-cases, both-true}
 use Rattle.tree.specs.Limits.{mostText}
 use Rattle.tree.specs.Ast.{Expr}
-use Rattle.tree.specs.Kind.{expr}
-use Rattle.tree.specs.Check.{NameIn, checkExpression, refusal as checkRefusal, expressionRefusal}
-use Rattle.tree.specs.Tables.{expression-accepted, expression-place}
-use Rattle.tree.specs.Refused.{refusal-6, expression-answer}
+use Rattle.tree.specs.Check.{NameIn, checkExpression, Refusal, refusal as checkRefusal, expressionRefusal}
+use Rattle.tree.specs.Refused.{expression-unrefused, expression-too-many, expression-misfit}
 use Rattle.tree.specs.declared.Checked.{Checked}
 use Rattle.tree.specs.declared.Checked.the-variants.{Tree, Misfit, TooLong}
 use Rattle.printing.specs.declared.format.ExprFormatOption.{ExprFormatOption}
 use Rattle.printing.specs.declared.Printed.{Printed}
 use Rattle.printing.specs.declared.Printed.the-variants.{Written, Refused}
 use Rattle.printing.specs.Entries.{mostPrint, mostIndent, startIndent, written, refusal, outcomeOf, stored, printOf, printExpression, PrintAnswered, Holds, Within, Fits}
-use Rattle.printing.specs.EntryLaws.{refusal-of, same-tree, prints, refuses}
+use Rattle.printing.specs.EntryLaws.{same-tree, prints, refuses}
 
 -- one of the four cases of document 01 holds of the answer r and of the output afterwards
 pub data Answer (text words : List ℕ) (format : ExprFormatOption) (out : List ℕ) (r : Printed) (out′ : List ℕ) : Type 0 where
   over : (Within text words format → ⊥) → r ≡ Refused 6 0 → out′ ≡ out → Answer text words format out r out′
-  misfit : Within text words format → (place : ℕ) → checkExpression words (length text) ≡ Misfit place → r ≡ Refused 7 place → out′ ≡ out
+  misfit : Within text words format → (place : ℕ) → expressionRefusal words (length text) ≡ some (record { number = 7; place = place }) → r ≡ Refused 7 place → out′ ≡ out
       → Answer text words format out r out′
   long : Within text words format → (t : Expr (NameIn (length text))) → Holds text words t → (Fits (printOf 2 text format t) out → ⊥) → r ≡ Refused 8 0 → out′ ≡ out
       → Answer text words format out r out′
@@ -60,26 +58,23 @@ module _ (text words : List ℕ) (format : ExprFormatOption) (out : List ℕ) (r
       let y : _≡_ {A = ℕ} 0 1 = cc in absurd (omega arith))
       (c .0) (c .1))
 
-  -- the check finds too many words only where there are
-  too-many : checkExpression words (length text) ≡ TooLong → Within text words format → ⊥
-  unfolding checkExpression
-  too-many h w = let k = refusal-6 (expr ∷ []) words (length text) .0 (ap checkRefusal h) in let f = w .words-fit in omega arith
-
-  of-check : length text ≤ mostText → startIndent format ≤ mostIndent → (c : Checked) → checkExpression words (length text) ≡ c
+  -- by the check's answer
+  of-check : length text ≤ mostText → startIndent format ≤ mostIndent → (c : Checked) → expressionRefusal words (length text) ≡ checkRefusal c
       → printExpression 2 text words format out ≡ outcomeOf r out′ → Answer text words format out r out′
   of-check ht hi Tree h e =
-      let a = expression-accepted words (length text) .0 h in
+      let a = expression-unrefused words (length text) .0 h in
       of-tree (record { text-fits = ht; words-fit = a .0; indent-fits = hi }) (a .1 .0) (a .1 .1)
       (sym (prints text words (a .1 .0) (a .1 .1) 2 format out ht (a .0) hi) ∙ e)
   of-check ht hi (Misfit place) h e =
-      let c = is-refused r (sym e ∙ refuses 2 text words format out ht hi _ (refusal-of words (length text) h)) in
-      misfit (record { text-fits = ht; words-fit = expression-place words (length text) place h .1; indent-fits = hi }) place h (c .0) (c .1)
+      let c = is-refused r (sym e ∙ refuses 2 text words format out ht hi _ h) in
+      misfit (record { text-fits = ht; words-fit = expression-misfit words (length text) place h .1; indent-fits = hi }) place h (c .0) (c .1)
   of-check ht hi TooLong h e =
-      let c = is-refused r (sym e ∙ refuses 2 text words format out ht hi _ (refusal-of words (length text) h)) in
-      over (too-many h) (c .0) (c .1)
+      let c = is-refused r (sym e ∙ refuses 2 text words format out ht hi _ h) in
+      let k = expression-too-many words (length text) .0 h in
+      over (λ w. let f = w .words-fit in omega arith) (c .0) (c .1)
 
   pub cases : PrintAnswered text words format out r out′ → Answer text words format out r out′
-  unfolding printExpression
+  unfolding printExpression expressionRefusal
   cases a =
       pick-cases (leb (length text) mostText && leb (startIndent format) mostIndent) (sym a)
       (λ b f. let two = both-true _ _ b in
@@ -90,8 +85,9 @@ module _ (text words : List ℕ) (format : ExprFormatOption) (out : List ℕ) (r
       let y : _≡_ {A = ℕ} 0 1 = cc in absurd (omega arith))
       (c .0) (c .1))
 
-same-place : {c : Checked} {p q : ℕ} → c ≡ Misfit p → c ≡ Misfit q → p ≡ q
-same-place e f = cc
+same-place : {q : Option Refusal} {p p′ : ℕ} → q ≡ some (record { number = 7; place = p }) → q ≡ some (record { number = 7; place = p′ }) → p ≡ p′
+same-place {p = p} {p′ = p′} e f =
+    let h : _≡_ {A = Refusal} (record { number = 7; place = p }) (record { number = 7; place = p′ }) = cc in ap (λ (r : Refusal). r .place) h
 
 -- two refusals have one number, and no refusal is a print
 one-number : {r : Printed} {m n p q : ℕ} → r ≡ Refused m p → r ≡ Refused n q → m ≡ n
@@ -113,8 +109,8 @@ module _ (text words : List ℕ) (format : ExprFormatOption) (out : List ℕ) (r
   answer = cases text words format out r out′ a
 
   -- a table that holds a tree is no misfit
-  held : (t : T) → Holds text words t → Within text words format → {place : ℕ} → checkExpression words (length text) ≡ Misfit place → ⊥
-  held t h w m = let e = expression-accepted words (length text) .1 (w .words-fit, (t, h)) in impossible cc
+  held : (t : T) → Holds text words t → Within text words format → {place : ℕ} → expressionRefusal words (length text) ≡ some (record { number = 7; place = place }) → ⊥
+  held t h w m = let e = expression-unrefused words (length text) .1 (w .words-fit, (t, h)) in impossible cc
 
   -- a print of one tree with the table's words fits where that of another does
   fits-too : (t u : T) → Holds text words t → Holds text words u → Fits (print t) out → Fits (print u) out
@@ -156,22 +152,21 @@ module _ (text words : List ℕ) (format : ExprFormatOption) (out : List ℕ) (r
   refused-7-place place = (
     λ e. elim answer [
       | over n f k ↦ let z : _≡_ {A = ℕ} 7 6 = one-number e f in absurd (omega arith)
-      | misfit v at m f k ↦ (v, refusal-of words (length text) m ∙ cc)
+      | misfit v at m f k ↦ (v, m ∙ cc)
       | long v u i n f k ↦ let z : _≡_ {A = ℕ} 7 8 = one-number e f in absurd (omega arith)
       | printed v u i g f k ↦ not-written f e
     ],
-    λ h. let c = sym (expression-answer words (length text) {c = Misfit place} (sym (h .1))) in
-        elim answer [
-          | over n f k ↦ absurd (n (h .0))
-          | misfit v at m f k ↦ f ∙ ap (Refused 7) (same-place m c)
-          | long v u i n f k ↦ absurd (held u i v c)
-          | printed v u i g f k ↦ absurd (held u i v c)
-        ],
+    λ h. elim answer [
+      | over n f k ↦ absurd (n (h .0))
+      | misfit v at m f k ↦ f ∙ ap (Refused 7) (same-place m (h .1))
+      | long v u i n f k ↦ absurd (held u i v (h .1))
+      | printed v u i g f k ↦ absurd (held u i v (h .1))
+    ],
   )
 
   pub refused-7 : ((place : ℕ) × (r ≡ Refused 7 place)) ↔ (Within text words format × ((t : T) → Holds text words t → ⊥))
   refused-7 = (
-    λ e. let h = refused-7-place (e .0) .0 (e .1) in (h .0, λ t i. held t i (h .0) (sym (expression-answer words (length text) {c = Misfit (e .0)} (sym (h .1))))),
+    λ e. let h = refused-7-place (e .0) .0 (e .1) in (h .0, λ t i. held t i (h .0) (h .1)),
     λ h. elim answer [
       | over n f k ↦ absurd (n (h .0))
       | misfit v at m f k ↦ (at, f)

@@ -56,10 +56,14 @@ Init = power 0 0 OperatorWins
 abbrev pub EndlessOperator : BindingPower
 EndlessOperator = power 1000 0 OperatorWins
 
--- a tie goes to the operator, or not
-abbrev pub wins : Bool → BindingPower → BindingPower → Bool
-wins true op context = leb (context .left) (op .left) && leb (context .right) (op .right)
-wins false op context = ltb (context .left) (op .left) && ltb (context .right) (op .right)
+-- the operator pulls more strongly than the context, or as strongly where a tie goes to it
+abbrev pub pulls : (tie : Bool) (op context : ℕ) → Bool
+pulls true op context = leb context op
+pulls false op context = ltb context op
+
+-- the operator wins on both sides
+abbrev pub wins : (tie : Bool) → BindingPower → BindingPower → Bool
+wins tie op context = pulls tie (op .left) (context .left) && pulls tie (op .right) (context .right)
 
 -- the operator wins over the context
 unfoldable pub WinsOver : BindingPower → BindingPower → Bool

@@ -1,8 +1,8 @@
 -- What prints are made of. A print takes the bytes that follow it, so a sequence of prints is a nest to the right.
 use Prim.Native.Nat.{ℕ, zero, suc, _+_, _/_, _%_}
 use Prim.Native.String.{String}
-use mathlib.Core.Bool.{true, false}
-use mathlib.Core.List.{List, _∷_, _++_}
+use mathlib.Core.Bool.{Bool, true, false}
+use mathlib.Core.List.{List, [], _∷_, _++_}
 use lib.Dec.{ltb}
 use Rattle.grammar.specs.Words.{bytes}
 
@@ -15,6 +15,11 @@ a ▹ rest = a ++ rest
 -- fixed text, then what follows
 abbrev pub _▸_ : String → List ℕ → List ℕ
 s ▸ rest = bytes s ++ rest
+
+-- bytes that are left out where `skip`
+abbrev pub unless : (skip : Bool) → List ℕ → List ℕ
+unless true x = []
+unless false x = x
 
 -- the decimal digits of n, with fuel for more than n of them
 unfoldable pub digits : ℕ → ℕ → List ℕ → List ℕ

@@ -1,5 +1,11 @@
 // Printer.dfy's `Expression`, over the words of a checked table. Each function prints what stands at a place and answers the place after
 // it and the place in the output.
+mod list;
+
+use crate::expression::list::closures;
+use crate::expression::list::exprs;
+use crate::expression::list::patterns;
+use crate::expression::list::properties;
 use crate::format::ExprFormatOption;
 use crate::forms::else_format;
 use crate::forms::else_head;
@@ -7,14 +13,12 @@ use crate::forms::format_after;
 use crate::forms::listed_head;
 use crate::forms::operand_power;
 use crate::forms::operator_form;
-use crate::forms::pattern_head;
 use crate::forms::put_sign;
 use crate::operator::binding_strength;
 use crate::operator::put_operator;
 use crate::parts::Step;
 use crate::parts::after;
 use crate::parts::call_head;
-use crate::parts::closure_head;
 use crate::parts::closure_result;
 use crate::parts::label_head;
 use crate::parts::leaf;
@@ -23,14 +27,11 @@ use crate::parts::quantifier_head;
 use crate::power::BindingPower;
 use crate::power::Side;
 use crate::write::put;
-use crate::write::put_separator;
-use crate::write::put_unless;
 use tree::get;
 ghost use Prim.Native.Nat.{_<_};
 ghost use lib.ListN.{length};
-ghost use Rattle.printing.specs.Steps.{Prints};
+ghost use Rattle.printing.specs.Parts.{Prints};
 ghost use Rattle.printing.specs.ExprParts.{anExpr, anOperatorExpr, aCall, aLabel, aLet, aQuantifier, aClosure, aForm, aListed, aUnary, aBinary, aConditional};
-ghost use Rattle.printing.specs.ExprParts.{expressionList, patternList, triggerList, closureList, propertyList};
 
 // An expression.
 pub(crate) fn expr(
@@ -94,7 +95,7 @@ fn form(
     ensures { λ r. ⌜ Prints (aForm (now (text .entry)) (now (words .entry)) (now (ends .entry)) at context format) (now (words .entry)) at (now (out .entry)) pos (now (out .exit)) r ⌝ }
 {
     match operator_form(words, ends, at) {
-        1 => unary(text, words, ends, at, context, format, out, pos),
+        1 => unary(text, words, ends, at, context, out, pos),
         2 => binary(text, words, ends, at, context, format, out, pos),
         3 => cond(text, words, ends, at, context, format, out, pos),
         _ => listed(text, words, ends, at, out, pos),
@@ -107,12 +108,11 @@ fn unary(
     ends: &[u16],
     at: usize,
     context: BindingPower,
-    format: ExprFormatOption,
     out: &mut [u8],
     pos: usize,
 ) -> Step
     requires { ⌜ at < length (now words) ⌝ }
-    ensures { λ r. ⌜ Prints (aUnary (now (text .entry)) (now (words .entry)) (now (ends .entry)) at context format) (now (words .entry)) at (now (out .entry)) pos (now (out .exit)) r ⌝ }
+    ensures { λ r. ⌜ Prints (aUnary (now (text .entry)) (now (words .entry)) (now (ends .entry)) at context) (now (words .entry)) at (now (out .entry)) pos (now (out .exit)) r ⌝ }
 {
     let op = at + 1;
     let right = operand_power(words, op, Side::Right, context);
@@ -223,7 +223,7 @@ fn listed(text: &[u8], words: &[u32], ends: &[u16], at: usize, out: &mut [u8], p
     ensures { λ r. ⌜ Prints (aListed (now (text .entry)) (now (words .entry)) (now (ends .entry)) at) (now (words .entry)) at (now (out .entry)) pos (now (out .exit)) r ⌝ }
 {
     let a = listed_head(words, at + 1, out, pos);
-    let s = list(text, words, ends, at + 2, true, out, a);
+    let s = exprs(text, words, ends, at + 2, true, out, a);
     Step {
         next: s.next,
         pos: put(out, s.pos, b")"),
@@ -236,7 +236,7 @@ fn call(text: &[u8], words: &[u32], ends: &[u16], at: usize, out: &mut [u8], pos
     ensures { λ r. ⌜ Prints (aCall (now (text .entry)) (now (words .entry)) (now (ends .entry)) at) (now (words .entry)) at (now (out .entry)) pos (now (out .exit)) r ⌝ }
 {
     let s = call_head(text, words, at + 1, out, pos);
-    let t = list(text, words, ends, s.next, true, out, s.pos);
+    let t = exprs(text, words, ends, s.next, true, out, s.pos);
     Step {
         next: t.next,
         pos: put(out, t.pos, b")"),
@@ -339,131 +339,4 @@ fn lift(text: &[u8], words: &[u32], ends: &[u16], at: usize, out: &mut [u8], pos
         next: u.next,
         pos: put(out, u.pos, b" }"),
     }
-}
-
-// `ExpressionList`.
-fn list(
-    text: &[u8],
-    words: &[u32],
-    ends: &[u16],
-    at: usize,
-    first: bool,
-    out: &mut [u8],
-    pos: usize,
-) -> Step
-    ensures { λ r. ⌜ Prints (expressionList (now (text .entry)) (now (words .entry)) (now (ends .entry)) at first) (now (words .entry)) at (now (out .entry)) pos (now (out .exit)) r ⌝ }
-{
-    let inner = after(words, at);
-    if get(words, at) == 0 {
-        return Step { next: inner, pos };
-    }
-    let a = put_separator(out, pos, first);
-    let s = expr(
-        text,
-        words,
-        ends,
-        inner,
-        BindingPower::INIT,
-        ExprFormatOption::SingleLine,
-        out,
-        a,
-    );
-    list(text, words, ends, s.next, false, out, s.pos)
-}
-
-// A quantifier's patterns.
-fn patterns(
-    text: &[u8],
-    words: &[u32],
-    ends: &[u16],
-    at: usize,
-    ind: ExprFormatOption,
-    out: &mut [u8],
-    pos: usize,
-) -> Step
-    ensures { λ r. ⌜ Prints (patternList (now (text .entry)) (now (words .entry)) (now (ends .entry)) at ind) (now (words .entry)) at (now (out .entry)) pos (now (out .exit)) r ⌝ }
-{
-    let inner = after(words, at);
-    if get(words, at) == 0 {
-        return Step { next: inner, pos };
-    }
-    let a = pattern_head(ind, out, pos);
-    let s = list(text, words, ends, inner, true, out, a);
-    patterns(text, words, ends, s.next, ind, out, s.pos)
-}
-
-// A closure property's triggers.
-fn triggers(text: &[u8], words: &[u32], ends: &[u16], at: usize, out: &mut [u8], pos: usize) -> Step
-    ensures { λ r. ⌜ Prints (triggerList (now (text .entry)) (now (words .entry)) (now (ends .entry)) at) (now (words .entry)) at (now (out .entry)) pos (now (out .exit)) r ⌝ }
-{
-    let inner = after(words, at);
-    if get(words, at) == 0 {
-        return Step { next: inner, pos };
-    }
-    let a = put(out, pos, b"trigger ");
-    let s = list(text, words, ends, inner, true, out, a);
-    let b = put(out, s.pos, b" ");
-    triggers(text, words, ends, s.next, out, b)
-}
-
-// A closure's bindings.
-fn closures(
-    text: &[u8],
-    words: &[u32],
-    ends: &[u16],
-    at: usize,
-    first: bool,
-    out: &mut [u8],
-    pos: usize,
-) -> Step
-    ensures { λ r. ⌜ Prints (closureList (now (text .entry)) (now (words .entry)) (now (ends .entry)) at first) (now (words .entry)) at (now (out .entry)) pos (now (out .exit)) r ⌝ }
-{
-    let inner = after(words, at);
-    if get(words, at) == 0 {
-        return Step { next: inner, pos };
-    }
-    let s = closure_head(text, words, inner, first, out, pos);
-    let t = expr(
-        text,
-        words,
-        ends,
-        s.next,
-        BindingPower::INIT,
-        ExprFormatOption::SingleLine,
-        out,
-        s.pos,
-    );
-    closures(text, words, ends, t.next, false, out, t.pos)
-}
-
-// A closure's properties.
-fn properties(
-    text: &[u8],
-    words: &[u32],
-    ends: &[u16],
-    at: usize,
-    first: bool,
-    out: &mut [u8],
-    pos: usize,
-) -> Step
-    ensures { λ r. ⌜ Prints (propertyList (now (text .entry)) (now (words .entry)) (now (ends .entry)) at first) (now (words .entry)) at (now (out .entry)) pos (now (out .exit)) r ⌝ }
-{
-    let inner = after(words, at);
-    if get(words, at) == 0 {
-        return Step { next: inner, pos };
-    }
-    let a = put_separator(out, pos, first);
-    let s = triggers(text, words, ends, inner, out, a);
-    let b = put_unless(out, s.pos, get(words, inner) == 0, b":: ");
-    let t = expr(
-        text,
-        words,
-        ends,
-        s.next,
-        BindingPower::INIT,
-        ExprFormatOption::SingleLine,
-        out,
-        b,
-    );
-    properties(text, words, ends, t.next, false, out, t.pos)
 }

@@ -6,8 +6,8 @@ ghost use mathlib.Core.List.{_++_};
 ghost use Prim.Native.Nat.{_+_, _<_};
 ghost use Rattle.lexing.specs.Answer.{pick};
 ghost use Rattle.printing.specs.Wrote.{Wrote};
-ghost use Rattle.printing.specs.PrintUtil.{Space, More};
-ghost use Rattle.printing.specs.Entries.{startIndent};
+ghost use Rattle.printing.specs.PrintUtil.{Space};
+ghost use Rattle.printing.specs.ExprParts.{Deeper};
 
 const INDENT_AMOUNT: usize = 2;
 
@@ -41,7 +41,7 @@ impl ExprFormatOption {
     }
 
     pub(crate) fn more(self) -> ExprFormatOption
-        ensures { λ r. ⌜ (startIndent self < 65536 → r ≡ More 2 self) ⌝ }
+        ensures { λ r. ⌜ Deeper self r ⌝ }
     {
         match self {
             ExprFormatOption::SingleLine => ExprFormatOption::SingleLine,

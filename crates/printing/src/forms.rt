@@ -19,7 +19,7 @@ ghost use Rattle.grammar.specs.Words.{bytes};
 ghost use Rattle.printing.specs.declared.format.ExprFormatOption.the-variants.{SingleLine};
 ghost use Rattle.printing.specs.PrintUtil.{Space, SubexpressionPower, ToString, BindingStrength};
 ghost use Rattle.printing.specs.Printer.{breaksLine};
-ghost use Rattle.printing.specs.Code.{operatorOf};
+ghost use Rattle.printing.specs.OperatorWords.{operatorOf};
 ghost use Rattle.printing.specs.Wrote.{Wrote};
 ghost use Rattle.printing.specs.ExprParts.{FormIs, ElseFormat, ElseHead};
 

@@ -2,13 +2,15 @@
 use crate::power::BindingPower;
 use crate::power::TieBreaker;
 use crate::write::put;
+use tree::get;
+use tree::name;
 ghost use Rattle.tree.specs.Ast.{ArgumentCount};
 ghost use mathlib.Core.Path.{_≡_};
 ghost use mathlib.Core.List.{_++_};
 ghost use Prim.Native.Nat.{_<_, _≤_};
 ghost use Rattle.grammar.specs.Words.{bytes as text};
 ghost use Rattle.printing.specs.Wrote.{Wrote};
-ghost use Rattle.printing.specs.Code.{operatorOf};
+ghost use Rattle.printing.specs.OperatorWords.{operatorOf};
 ghost use Rattle.printing.specs.PrintUtil.{ToString, BindingStrength};
 ghost use Rattle.printing.specs.Printer.{breaksLine};
 
@@ -75,58 +77,36 @@ fn arithmetic_strength(op: u32) -> BindingPower
     }
 }
 
+// Where each operator's spelling stands in the row of them all, by its word: 16 times the place, and the length less one. A word past the
+// table has UnaryMinus' 0.
+const SPELLINGS: [u32; 16] = [
+    0x01b,
+    0x01b,
+    0x0d3,
+    0x112,
+    0x141,
+    0x161,
+    0x181,
+    0x1a1,
+    0x1c0,
+    0x1d1,
+    0x1f0,
+    0x200,
+    0x210,
+    0x222,
+    0x252,
+    0x280,
+];
+
 // Writes the operator's spelling.
 pub(crate) fn put_operator(out: &mut [u8], pos: usize, op: u32) -> usize
     ensures { λ r. ⌜ Wrote (λ rest. text (ToString (operatorOf op)) ++ rest) (now (out .entry)) pos (now (out .exit)) r ⌝ }
 {
-    if op < 6 {
-        return put_logical(out, pos, op);
-    }
-    if op < 10 {
-        return put_comparison(out, pos, op);
-    }
-    put_arithmetic(out, pos, op)
-}
-
-// IfThenElse to LogicalOr.
-fn put_logical(out: &mut [u8], pos: usize, op: u32) -> usize
-    requires { ⌜ op < 6 ⌝ }
-    ensures { λ r. ⌜ Wrote (λ rest. text (ToString (operatorOf op)) ++ rest) (now (out .entry)) pos (now (out .exit)) r ⌝ }
-{
-    match op {
-        2 => put(out, pos, b"<==>"),
-        3 => put(out, pos, b"==>"),
-        4 => put(out, pos, b"&&"),
-        5 => put(out, pos, b"||"),
-        _ => put(out, pos, b"if-then-else"),
-    }
-}
-
-// Eq to AtMost.
-fn put_comparison(out: &mut [u8], pos: usize, op: u32) -> usize
-    requires { ⌜ (6 ≤ op) × (op < 10) ⌝ }
-    ensures { λ r. ⌜ Wrote (λ rest. text (ToString (operatorOf op)) ++ rest) (now (out .entry)) pos (now (out .exit)) r ⌝ }
-{
-    match op {
-        6 => put(out, pos, b"=="),
-        7 => put(out, pos, b"!="),
-        8 => put(out, pos, b"<"),
-        _ => put(out, pos, b"<="),
-    }
-}
-
-// Plus to UnaryMinus.
-fn put_arithmetic(out: &mut [u8], pos: usize, op: u32) -> usize
-    requires { ⌜ 10 ≤ op ⌝ }
-    ensures { λ r. ⌜ Wrote (λ rest. text (ToString (operatorOf op)) ++ rest) (now (out .entry)) pos (now (out .exit)) r ⌝ }
-{
-    match op {
-        10 => put(out, pos, b"+"),
-        11 => put(out, pos, b"-"),
-        12 => put(out, pos, b"*"),
-        13 => put(out, pos, b"div"),
-        14 => put(out, pos, b"mod"),
-        15 => put(out, pos, b"!"),
-        _ => put(out, pos, b"-"),
-    }
+    let place = get(&SPELLINGS, op as usize);
+    let spelling = name(
+        b"-if-then-else<==>==>&&||==!=<<=+-*divmod!",
+        place / 16,
+        place % 16 + 1,
+    );
+    put(out, pos, spelling)
 }

@@ -10,10 +10,10 @@ use tree::get;
 use tree::name;
 use tree::natural;
 ghost use Rattle.grammar.specs.Words.{bytes};
-ghost use Rattle.printing.specs.Code.{unless};
-ghost use Rattle.printing.specs.Steps.{Prints, Next, IsIf, aName, typedName, idType, bindings, quantified as quantifiedPart, closureParameters};
-ghost use Rattle.printing.specs.Steps.{aBool, aNatural, customLiteral, identifier, leaf as leafPart};
-ghost use Rattle.printing.specs.Steps.{labelHead, letHead, quantifierHead, callHead, closureHead, closureResult};
+ghost use Rattle.printing.specs.Text.{unless};
+ghost use Rattle.printing.specs.Parts.{Prints, Next, IsIf, aName, typedName, idType, bindings, quantified as quantifiedPart, closureParameters};
+ghost use Rattle.printing.specs.Parts.{aBool, aNatural, customLiteral, identifier, leaf as leafPart};
+ghost use Rattle.printing.specs.Parts.{labelHead, letHead, quantifierHead, callHead, closureHead, closureResult};
 
 pub struct Step {
     // The place after the words that were printed.

@@ -3,8 +3,7 @@ use crate::write::put;
 ghost use mathlib.Core.Path.{_≡_};
 ghost use mathlib.Core.List.{_++_};
 ghost use Rattle.printing.specs.Wrote.{Wrote};
-ghost use Rattle.printing.specs.PrintUtil.{isOperatorWins, sameFamily, BreakTieInFavorOfOperator, power, WinsOver, adjusted, SubexpressionPower, Parenthesis};
-ghost use Rattle.printing.specs.Code.{pulls};
+ghost use Rattle.printing.specs.PrintUtil.{isOperatorWins, sameFamily, BreakTieInFavorOfOperator, power, pulls, WinsOver, adjusted, SubexpressionPower, Parenthesis};
 
 // Who wins where an operator and its context pull equally.
 pub enum TieBreaker {

@@ -6,7 +6,7 @@ ghost use lib.ListN.{length, take, drop, replicate};
 ghost use Rattle.grammar.specs.Words.{bytes as text};
 ghost use Rattle.printing.specs.Text.{decimal};
 ghost use Rattle.printing.specs.Wrote.{Wrote};
-ghost use Rattle.printing.specs.Code.{unless};
+ghost use Rattle.printing.specs.Text.{unless};
 
 // Stores bytes where they fit.
 pub(crate) fn store(out: &mut [u8], pos: usize, bytes: &[u8])

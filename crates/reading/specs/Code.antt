@@ -13,7 +13,8 @@ use Rattle.tree.specs.Ast.{Span, Expr, BLiteral, ILiteral, Operator, OperatorEx
 use Rattle.tree.specs.Words.{operatorWord, exprWords, exprsWords, patternsWords, closureBindingsWords, closurePropertiesWords, nameWords, bindingWords, seqWords, optionWords}
 use Rattle.grammar.specs.Grammar.{Build, straight, swapped, single, Class, product, sum, comparison, conjunction, disjunction, implication, explication, equivalence}
 use Rattle.grammar.specs.Steps.{Reader, after, need, mapped, _or_, Sym, T, signAt, parseName, parseNat}
-use Rattle.grammar.specs.Rules.{Sequence, exprs, bindings, closures, properties, ClosureItem, PropertyItem, leftTail, rightTail, equivOperator, impliesOperator, expliesOperator, andOperator, orOperator, parseComparisonOperator, termOperator, factorOperator, parseIdType, parseClosureBinding, parseClosureProperty, parseUnaryExpr, parseFactorExpr, parseTermExpr, parseJuctExpr, parseLogicalExpr, parseImpExpExpr, parseExpr, afterParen, afterBar, afterOld}
+use Rattle.grammar.specs.Rules.{Sequence, exprs, bindings, closures, properties, ClosureItem, PropertyItem, leftTail, rightTail, equivOperator, impliesOperator, expliesOperator, andOperator, orOperator, parseComparisonOperator}
+use Rattle.grammar.specs.Rules.{termOperator, factorOperator, parseIdType, parseClosureBinding, parseClosureProperty, parseUnaryExpr, parseFactorExpr, parseTermExpr, parseJuctExpr, parseLogicalExpr, parseImpExpExpr, parseExpr, afterParen, afterBar, afterOld}
 use Rattle.grammar.specs.Reading.{Outcome, words, refusal, treeWords}
 use Rattle.reading.specs.Arena.{Run, Node, Holds, Kept, Builds, neededAt}
 use Rattle.reading.specs.declared.arena.Built.{Built}

@@ -17,8 +17,8 @@ use Rattle.grammar.specs.Laws.Looks.{both-true}
 use Rattle.printing.specs.declared.power.BindingPower.{BindingPower}
 use Rattle.printing.specs.declared.power.Side.{Side}
 use Rattle.printing.specs.declared.power.Side.the-variants.{Left, Right}
-use Rattle.printing.specs.Code.{pulls, operators}
-use Rattle.printing.specs.PrintUtil.{BreakTieInFavorOfOperator, wins, WinsOver, SubexpressionPower, BindingStrength}
+use Rattle.printing.specs.OperatorWords.{operators}
+use Rattle.printing.specs.PrintUtil.{BreakTieInFavorOfOperator, pulls, wins, WinsOver, SubexpressionPower, BindingStrength}
 use Rattle.roundtrip.specs.Levels.{Level, operand, within, fitsIn, operand-fits}
 use Rattle.roundtrip.specs.Operators.{levelOf, place}
 

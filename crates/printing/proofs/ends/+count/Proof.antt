@@ -1,7 +1,7 @@
+-- The expressions after the first by the call, whose bound is smaller.
 use native.Mathlib.Omega.{arith}
-use Rattle.printing.proofs.Counting.{count-zero, count-none, count-more}
-use Rattle.printing.proofs.Steps.{inside}
-use lib.ListN.{length}
+use Rattle.printing.proofs.EndTable.Counting.{count-zero, count-none, count-more}
+use Rattle.printing.proofs.PartPrints.Joins.{inside}
 use Prim.Native.Nat.{_<_, ℕ}
 use borrow.Fn.Kinds.{In}
 use borrow.Fn.PlainCycle.{Measures, is, falls, and}

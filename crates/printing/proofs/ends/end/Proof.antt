@@ -1,12 +1,11 @@
+-- A kind of a fixed length, an entry of the table, or 0 past it.
 use mathlib.Core.Path.{refl}
 use native.Mathlib.Omega.{arith}
 use Prim.Native.Nat.{_+_, _*_, _-_}
-use Rattle.printing.proofs.Counting.{end-short, end-entry, end-none}
+use Rattle.printing.proofs.EndTable.Counting.{end-short, end-entry, end-none}
 use borrow.Author.Needs.{needs}
 use Rattle.printing.proofs.ends.end.Statement.{statement}
 use Rattle.printing.proofs.ends.end.Tie as tie
-use Rattle.printing.proofs.ends.end.Reads as reads
-use Rattle.printing.proofs.ends.end.Lts as lts
 
 add-result : tie.Need-add-result
 add-result c = search needs

@@ -1,11 +1,8 @@
+-- The loop fills the table from its last entry to its first.
 use native.Mathlib.Omega.{arith}
-use Rattle.printing.proofs.Counting.{Filling, filling-none, filling-more, filled}
+use Rattle.printing.proofs.EndTable.Counting.{Filling, filling-none, filling-more, filled}
 use Rattle.printing.proofs.ends.fill.Statement.{statement}
 use Rattle.printing.proofs.ends.fill.Tie as tie
-use Rattle.printing.proofs.ends.fill.Reads as reads
-use Rattle.printing.proofs.ends.fill.Lts as lts
-use Rattle.printing.proofs.ends.found_end.Reads as found-end-reads
-use Rattle.printing.proofs.ends.narrow.Reads as narrow-reads
 
 abbrev Inv-loop : tie.InvT-loop
 Inv-loop words ends₀ i₀ ends i = Filling words ends₀ ends i

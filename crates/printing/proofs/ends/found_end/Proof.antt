@@ -1,12 +1,8 @@
-use Rattle.printing.proofs.Counting.{row-end}
+-- The end of a row by the ends of its four fields.
+use Rattle.printing.proofs.EndTable.Counting.{row-end}
 use borrow.Author.Needs.{needs}
 use Rattle.printing.proofs.ends.found_end.Statement.{statement}
 use Rattle.printing.proofs.ends.found_end.Tie as tie
-use Rattle.printing.proofs.ends.found_end.Reads as reads
-use Rattle.printing.proofs.ends.found_end.Lts as lts
-use Rattle.printing.proofs.ends.end.Reads as end-reads
-use Rattle.printing.proofs.ends.row.Reads as row-reads
-use Rattle.tree.proofs.get.Reads as get-reads
 
 get-requires : tie.Need-get-requires
 get-requires c κs = search needs
@@ -30,7 +26,10 @@ end-requires-4 : tie.Need-end-requires-4
 end-requires-4 c κs = search needs
 
 returns : tie.Need-returns
-returns c = row-end (c .before .before .before .before .before .before .before .before .args .ends .now) (c .before .before .before .before .before .before .before .before .args .kind) (c .before .before .before .end .ensures) (c .before .before .end2 .ensures) (c .before .end3 .ensures) (c .end4 .ensures) (c .before .before .before .before .row .ensures) (c .before .before .before .before .before .get .ensures)
+returns c = row-end (c .before .before .before .before .before .before .before .before .args .ends .now)
+    (c .before .before .before .before .before .before .before .before .args .kind) (c .before .before .before .end .ensures)
+    (c .before .before .end2 .ensures) (c .before .end3 .ensures) (c .end4 .ensures) (c .before .before .before .before .row .ensures)
+    (c .before .before .before .before .before .get .ensures)
 
 pub found-end-spec : {M : Type 1} → statement M
 found-end-spec =

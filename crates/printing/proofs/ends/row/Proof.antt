@@ -1,10 +1,8 @@
-use Rattle.printing.proofs.Counting.{row-expr, row-item, row-none}
+-- A row of the tables, or none.
+use Rattle.printing.proofs.EndTable.Counting.{row-expr, row-item, row-none}
 use borrow.Author.Needs.{needs}
 use Rattle.printing.proofs.ends.row.Statement.{statement}
 use Rattle.printing.proofs.ends.row.Tie as tie
-use Rattle.printing.proofs.ends.row.Reads as reads
-use Rattle.printing.proofs.ends.row.Lts as lts
-use Rattle.tree.proofs.get.Reads as get-reads
 
 slice-aggregate-get : tie.Need-slice-aggregate-get
 slice-aggregate-get c = search needs

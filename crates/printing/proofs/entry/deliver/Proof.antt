@@ -1,14 +1,11 @@
 -- The first bytes of a buffer, where both it and the output have so many.
-use Rattle.printing.proofs.Stored.{short-buffer, short-output, copied}
+use Rattle.printing.proofs.EntryAnswers.{short-buffer, short-output, copied}
 use native.Mathlib.Omega.{arith}
 use lib.Seq.{length-take-le}
 use mathlib.Core.Path.{sym}
 use borrow.Author.Needs.{needs}
 use Rattle.printing.proofs.entry.deliver.Statement.{statement}
 use Rattle.printing.proofs.entry.deliver.Tie as tie
-use Rattle.printing.proofs.entry.deliver.Reads as reads
-use Rattle.printing.proofs.entry.deliver.Lts as lts
-use Rattle.printing.proofs.write.store.Reads as store-reads
 
 returns : tie.Need-returns
 returns c = short-buffer _ _ _ (c .if1 .taken)
@@ -26,7 +23,11 @@ same-length : tie.Need-same-length
 same-length c = search needs
 
 returns-3 : tie.Need-returns-3
-returns-3 c = copied (c .before .before .before .before .before .before .before .before .before .args .buffer .now) (c .before .before .before .before .before .before .before .before .before .args .n) (c .before .before .before .before .before .before .before .before .before .args .out .now) (c .before .before .before .before .before .before .if1 .left) (c .before .before .before .before .before .if2 .left) (c .before .before .store .ensures)
+returns-3 c = copied (c .before .before .before .before .before .before .before .before .before .args .buffer .now)
+    (c .before .before .before .before .before .before .before .before .before .args .n)
+    (c .before .before .before .before .before .before .before .before .before .args .out .now)
+    (c .before .before .before .before .before .before .if1 .left) (c .before .before .before .before .before .if2 .left)
+    (c .before .before .store .ensures)
 
 pub deliver-spec : {M : Type 1} → statement M
 deliver-spec =

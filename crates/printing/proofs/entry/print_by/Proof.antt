@@ -3,9 +3,6 @@ use native.Mathlib.Omega.{arith}
 use borrow.Author.Needs.{needs}
 use Rattle.printing.proofs.entry.print_by.Statement.{statement}
 use Rattle.printing.proofs.entry.print_by.Tie as tie
-use Rattle.printing.proofs.entry.print_by.Reads as reads
-use Rattle.printing.proofs.entry.print_by.Lts as lts
-use Rattle.printing.proofs.entry.print_through.Reads as print-through-reads
 
 slice-aggregate-print-through : tie.Need-slice-aggregate-print-through
 slice-aggregate-print-through c = search needs

@@ -1,11 +1,8 @@
 -- The refusal of a start indent; else the print.
-use Rattle.printing.proofs.Stored.{deep-indent}
+use Rattle.printing.proofs.EntryAnswers.{deep-indent}
 use borrow.Author.Needs.{needs}
 use Rattle.printing.proofs.entry.print_expression_lines.Statement.{statement}
 use Rattle.printing.proofs.entry.print_expression_lines.Tie as tie
-use Rattle.printing.proofs.entry.print_expression_lines.Reads as reads
-use Rattle.printing.proofs.entry.print_expression_lines.Lts as lts
-use Rattle.printing.proofs.entry.print.Reads as print-reads
 
 returns : tie.Need-returns
 returns c = deep-indent (c .before .before .before .before .args .text .now) (c .before .before .before .before .args .words .now) _ (c .before .before .before .before .args .out .now) (c .if1 .taken)

@@ -1,12 +1,8 @@
 -- What the printer wrote into the buffer, handed over.
-use Rattle.printing.proofs.Stored.{through}
+use Rattle.printing.proofs.EntryAnswers.{through}
 use borrow.Author.Needs.{needs}
 use Rattle.printing.proofs.entry.print_through.Statement.{statement}
 use Rattle.printing.proofs.entry.print_through.Tie as tie
-use Rattle.printing.proofs.entry.print_through.Reads as reads
-use Rattle.printing.proofs.entry.print_through.Lts as lts
-use Rattle.printing.proofs.entry.deliver.Reads as deliver-reads
-use Rattle.printing.proofs.expression.expr.Reads as expr-reads
 
 expr-requires : tie.Need-expr-requires
 expr-requires c κs = search needs
@@ -21,7 +17,11 @@ same-length-2 : tie.Need-same-length-2
 same-length-2 c = search needs
 
 returns : tie.Need-returns
-returns c = through (c .before .before .before .before .before .before .before .before .before .before .before .before .before .before .pre .0) (c .before .before .before .before .before .before .before .before .before .before .before .before .before .before .pre .1) (c .before .before .before .before .before .before .before .before .before .before .before .before .before .before .pre .2) (c .before .before .before .before .before .before .before .before .before .before .before .before .before .before .pre .3) (c .before .before .before .before .before .before .before .expr .ensures) (c .before .before .deliver .ensures)
+returns c = through (c .before .before .before .before .before .before .before .before .before .before .before .before .before .before .pre .0)
+    (c .before .before .before .before .before .before .before .before .before .before .before .before .before .before .pre .1)
+    (c .before .before .before .before .before .before .before .before .before .before .before .before .before .before .pre .2)
+    (c .before .before .before .before .before .before .before .before .before .before .before .before .before .before .pre .3)
+    (c .before .before .before .before .before .before .before .expr .ensures) (c .before .before .deliver .ensures)
 
 pub print-through-spec : {M : Type 1} → statement M
 print-through-spec =

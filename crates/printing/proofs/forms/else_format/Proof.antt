@@ -1,12 +1,8 @@
-use Rattle.printing.proofs.Around.{else-format-is}
+-- The format after `else` by whether a conditional follows.
+use Rattle.printing.proofs.Operators.Surroundings.{else-format-is}
 use borrow.Author.Needs.{needs}
 use Rattle.printing.proofs.forms.else_format.Statement.{statement}
 use Rattle.printing.proofs.forms.else_format.Tie as tie
-use Rattle.printing.proofs.forms.else_format.Reads as reads
-use Rattle.printing.proofs.forms.else_format.Lts as lts
-use Rattle.printing.proofs.format.ExprFormatOption.choose.Reads as choose-reads
-use Rattle.printing.proofs.format.ExprFormatOption.more.Reads as more-reads
-use Rattle.printing.proofs.parts.is_if.Reads as is-if-reads
 
 is-if-requires : tie.Need-is-if-requires
 is-if-requires c κs = search needs

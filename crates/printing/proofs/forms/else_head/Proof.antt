@@ -1,14 +1,8 @@
-use Rattle.printing.proofs.Around.{else-head-is}
+-- `else` between the format's space and that before what follows.
+use Rattle.printing.proofs.Operators.Surroundings.{else-head-is}
 use borrow.Author.Needs.{needs}
 use Rattle.printing.proofs.forms.else_head.Statement.{statement}
 use Rattle.printing.proofs.forms.else_head.Tie as tie
-use Rattle.printing.proofs.forms.else_head.Reads as reads
-use Rattle.printing.proofs.forms.else_head.Lts as lts
-use Rattle.printing.proofs.format.ExprFormatOption.choose.Reads as choose-reads
-use Rattle.printing.proofs.format.ExprFormatOption.more.Reads as more-reads
-use Rattle.printing.proofs.format.ExprFormatOption.space.Reads as space-reads
-use Rattle.printing.proofs.parts.is_if.Reads as is-if-reads
-use Rattle.printing.proofs.write.put.Reads as put-reads
 
 space-requires : tie.Need-space-requires
 space-requires c κs = search needs
@@ -35,7 +29,12 @@ same-length : tie.Need-same-length
 same-length c = search needs
 
 returns : tie.Need-returns
-returns c = else-head-is (c .before .before .before .before .before .before .before .before .before .before .before .before .before .before .before .before .before .before .before .args .format) (c .before .before .before .before .before .before .before .before .before .before .before .before .before .before .space .ensures) (c .before .before .before .before .before .before .before .before .before .put .ensures) (c .before .before .before .before .before .before .is-if .ensures) (c .before .before .before .before .before .more .ensures) (c .before .before .before .before .choose .ensures) (c .before .before .space2 .ensures)
+returns c = else-head-is (c .before .before .before .before .before .before .before .before .before .before .before .before .before .before .before
+    .before .before .before .before .args .format)
+    (c .before .before .before .before .before .before .before .before .before .before .before .before .before .before .space .ensures)
+    (c .before .before .before .before .before .before .before .before .before .put .ensures)
+    (c .before .before .before .before .before .before .is-if .ensures) (c .before .before .before .before .before .more .ensures)
+    (c .before .before .before .before .choose .ensures) (c .before .before .space2 .ensures)
 
 pub else-head-spec : {M : Type 1} → statement M
 else-head-spec =

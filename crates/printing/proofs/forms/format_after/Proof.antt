@@ -1,12 +1,8 @@
-use Rattle.printing.proofs.Around.{format-by}
+-- The format after an operator by whether the line may be broken.
+use Rattle.printing.proofs.Operators.Surroundings.{format-by}
 use borrow.Author.Needs.{needs}
 use Rattle.printing.proofs.forms.format_after.Statement.{statement}
 use Rattle.printing.proofs.forms.format_after.Tie as tie
-use Rattle.printing.proofs.forms.format_after.Reads as reads
-use Rattle.printing.proofs.forms.format_after.Lts as lts
-use Rattle.printing.proofs.format.ExprFormatOption.choose.Reads as choose-reads
-use Rattle.printing.proofs.operator.breaks_line.Reads as breaks-line-reads
-use Rattle.tree.proofs.get.Reads as get-reads
 
 get-requires : tie.Need-get-requires
 get-requires c κs = search needs

@@ -1,12 +1,8 @@
-use Rattle.printing.proofs.Around.{listed-wrote}
+-- The operator's spelling and a bracket.
+use Rattle.printing.proofs.Operators.Surroundings.{listed-wrote}
 use borrow.Author.Needs.{needs}
 use Rattle.printing.proofs.forms.listed_head.Statement.{statement}
 use Rattle.printing.proofs.forms.listed_head.Tie as tie
-use Rattle.printing.proofs.forms.listed_head.Reads as reads
-use Rattle.printing.proofs.forms.listed_head.Lts as lts
-use Rattle.printing.proofs.operator.put_operator.Reads as put-operator-reads
-use Rattle.printing.proofs.write.put.Reads as put-reads
-use Rattle.tree.proofs.get.Reads as get-reads
 
 get-requires : tie.Need-get-requires
 get-requires c κs = search needs

@@ -1,12 +1,8 @@
-use Rattle.printing.proofs.Around.{power-by}
+-- The context of an operand by the operator's strength.
+use Rattle.printing.proofs.Operators.Surroundings.{power-by}
 use borrow.Author.Needs.{needs}
 use Rattle.printing.proofs.forms.operand_power.Statement.{statement}
 use Rattle.printing.proofs.forms.operand_power.Tie as tie
-use Rattle.printing.proofs.forms.operand_power.Reads as reads
-use Rattle.printing.proofs.forms.operand_power.Lts as lts
-use Rattle.printing.proofs.operator.binding_strength.Reads as binding-strength-reads
-use Rattle.printing.proofs.power.BindingPower.subexpression_power.Reads as subexpression-power-reads
-use Rattle.tree.proofs.get.Reads as get-reads
 
 get-requires : tie.Need-get-requires
 get-requires c κs = search needs

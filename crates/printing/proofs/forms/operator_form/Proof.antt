@@ -1,13 +1,8 @@
-use Rattle.printing.proofs.Around.{form-full, form-listed}
+-- The number of operands where it is the operator's own, else 0.
+use Rattle.printing.proofs.Operators.Surroundings.{form-full, form-listed}
 use borrow.Author.Needs.{needs}
 use Rattle.printing.proofs.forms.operator_form.Statement.{statement}
 use Rattle.printing.proofs.forms.operator_form.Tie as tie
-use Rattle.printing.proofs.forms.operator_form.Reads as reads
-use Rattle.printing.proofs.forms.operator_form.Lts as lts
-use Rattle.printing.proofs.ends.count.Reads as count-reads
-use Rattle.printing.proofs.operator.argument_count.Reads as argument-count-reads
-use Rattle.printing.proofs.parts.after.Reads as after-reads
-use Rattle.tree.proofs.get.Reads as get-reads
 
 after-requires : tie.Need-after-requires
 after-requires c κs = search needs

@@ -1,11 +1,8 @@
-use Rattle.printing.proofs.Writes.{then}
+-- The format's space and the word `pattern`.
+use Rattle.printing.proofs.Writing.Bytes.{then}
 use borrow.Author.Needs.{needs}
 use Rattle.printing.proofs.forms.pattern_head.Statement.{statement}
 use Rattle.printing.proofs.forms.pattern_head.Tie as tie
-use Rattle.printing.proofs.forms.pattern_head.Reads as reads
-use Rattle.printing.proofs.forms.pattern_head.Lts as lts
-use Rattle.printing.proofs.format.ExprFormatOption.space.Reads as space-reads
-use Rattle.printing.proofs.write.put.Reads as put-reads
 
 space-requires : tie.Need-space-requires
 space-requires c κs = search needs

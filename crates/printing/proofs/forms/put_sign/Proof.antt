@@ -1,13 +1,8 @@
-use Rattle.printing.proofs.Around.{sign-wrote}
+-- A space, the operator's spelling, and the format's space.
+use Rattle.printing.proofs.Operators.Surroundings.{sign-wrote}
 use borrow.Author.Needs.{needs}
 use Rattle.printing.proofs.forms.put_sign.Statement.{statement}
 use Rattle.printing.proofs.forms.put_sign.Tie as tie
-use Rattle.printing.proofs.forms.put_sign.Reads as reads
-use Rattle.printing.proofs.forms.put_sign.Lts as lts
-use Rattle.printing.proofs.format.ExprFormatOption.space.Reads as space-reads
-use Rattle.printing.proofs.operator.put_operator.Reads as put-operator-reads
-use Rattle.printing.proofs.write.put.Reads as put-reads
-use Rattle.tree.proofs.get.Reads as get-reads
 
 slice-aggregate-put : tie.Need-slice-aggregate-put
 slice-aggregate-put c = search needs
@@ -28,7 +23,10 @@ same-length : tie.Need-same-length
 same-length c = search needs
 
 returns : tie.Need-returns
-returns c = sign-wrote (c .before .before .before .before .before .before .before .before .before .before .before .before .before .before .before .before .args .format) (c .before .before .before .before .before .before .before .before .before .before .before .put .ensures) (c .before .before .before .before .before .before .before .get .ensures) (c .before .before .before .before .before .before .put-operator .ensures) (c .before .before .space .ensures)
+returns c = sign-wrote (c .before .before .before .before .before .before .before .before .before .before .before .before .before .before .before
+    .before .args .format) (c .before .before .before .before .before .before .before .before .before .before .before .put .ensures)
+    (c .before .before .before .before .before .before .before .get .ensures)
+    (c .before .before .before .before .before .before .put-operator .ensures) (c .before .before .space .ensures)
 
 pub put-sign-spec : {M : Type 1} → statement M
 put-sign-spec =

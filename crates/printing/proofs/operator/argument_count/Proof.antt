@@ -1,8 +1,7 @@
-use Rattle.printing.proofs.Operators.{count-three, count-two, count-one}
+-- The number of operands by the range of the operator's word.
+use Rattle.printing.proofs.Operators.Tables.{count-three, count-two, count-one}
 use Rattle.printing.proofs.operator.argument_count.Statement.{statement}
 use Rattle.printing.proofs.operator.argument_count.Tie as tie
-use Rattle.printing.proofs.operator.argument_count.Reads as reads
-use Rattle.printing.proofs.operator.argument_count.Lts as lts
 
 returns : tie.Need-returns
 returns c = count-three _ (c .if1 .taken)

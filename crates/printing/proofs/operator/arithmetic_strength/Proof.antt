@@ -1,12 +1,10 @@
+-- The strengths of Plus to UnaryMinus, one case each.
 use mathlib.Core.Path.{_∙_}
 use native.Mathlib.Omega.{arith}
-use Rattle.printing.proofs.Operators.{unary-strength}
+use Rattle.printing.proofs.Operators.Tables.{unary-strength}
 use borrow.Author.Needs.{needs}
 use Rattle.printing.proofs.operator.arithmetic_strength.Statement.{statement}
 use Rattle.printing.proofs.operator.arithmetic_strength.Tie as tie
-use Rattle.printing.proofs.operator.arithmetic_strength.Reads as reads
-use Rattle.printing.proofs.operator.arithmetic_strength.Lts as lts
-use Rattle.printing.proofs.power.BindingPower.new.Reads as new-reads
 
 new-requires : tie.Need-new-requires
 new-requires c κs = search needs

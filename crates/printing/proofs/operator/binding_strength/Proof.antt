@@ -1,13 +1,9 @@
+-- The strength by the range of the operator's word.
 use mathlib.Core.Path.{_∙_}
-use Rattle.printing.proofs.Operators.{comparison-strength}
+use Rattle.printing.proofs.Operators.Tables.{comparison-strength}
 use borrow.Author.Needs.{needs}
 use Rattle.printing.proofs.operator.binding_strength.Statement.{statement}
 use Rattle.printing.proofs.operator.binding_strength.Tie as tie
-use Rattle.printing.proofs.operator.binding_strength.Reads as reads
-use Rattle.printing.proofs.operator.binding_strength.Lts as lts
-use Rattle.printing.proofs.operator.arithmetic_strength.Reads as arithmetic-strength-reads
-use Rattle.printing.proofs.operator.logical_strength.Reads as logical-strength-reads
-use Rattle.printing.proofs.power.BindingPower.new.Reads as new-reads
 
 logical-strength-requires : tie.Need-logical-strength-requires
 logical-strength-requires c κs = search needs

@@ -1,8 +1,7 @@
-use Rattle.printing.proofs.Operators.{no-break-low, breaks-high}
+-- The operators after which the line may be broken are those of the words 3 to 5.
+use Rattle.printing.proofs.Operators.Tables.{no-break-low, breaks-high}
 use Rattle.printing.proofs.operator.breaks_line.Statement.{statement}
 use Rattle.printing.proofs.operator.breaks_line.Tie as tie
-use Rattle.printing.proofs.operator.breaks_line.Reads as reads
-use Rattle.printing.proofs.operator.breaks_line.Lts as lts
 
 returns : tie.Need-returns
 returns c = no-break-low _ (c .if1 .taken)

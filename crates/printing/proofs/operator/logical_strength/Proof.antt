@@ -1,13 +1,11 @@
+-- The strengths of IfThenElse to LogicalOr, one case each.
 use mathlib.Core.Path.{_≡_, refl}
 use native.Mathlib.Omega.{arith}
 use Rattle.printing.specs.PrintUtil.{EndlessOperator, BindingStrength}
-use Rattle.printing.proofs.Operators.{first-operator}
+use Rattle.printing.proofs.Operators.Tables.{first-operator}
 use borrow.Author.Needs.{needs}
 use Rattle.printing.proofs.operator.logical_strength.Statement.{statement}
 use Rattle.printing.proofs.operator.logical_strength.Tie as tie
-use Rattle.printing.proofs.operator.logical_strength.Reads as reads
-use Rattle.printing.proofs.operator.logical_strength.Lts as lts
-use Rattle.printing.proofs.power.BindingPower.new.Reads as new-reads
 
 new-requires : tie.Need-new-requires
 new-requires c κs = search needs

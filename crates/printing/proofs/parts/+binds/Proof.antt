@@ -1,9 +1,9 @@
+-- The bindings by the call, which begins further on in the table; each binding is one law.
 use borrow.Author.Needs.{needs}
 use Prim.Native.Nat.{_-_, ℕ, _<_}
-use native.Mathlib.Omega.{arith}
 use lib.ListN.{length}
-use Rattle.printing.proofs.Steps.{inside, passed}
-use Rattle.printing.proofs.Names.{binds-none, binds-more}
+use Rattle.printing.proofs.PartPrints.Joins.{inside, passed}
+use Rattle.printing.proofs.PartPrints.NamePrints.{binds-none, binds-more}
 use borrow.Fn.Kinds.{In}
 use borrow.Fn.PlainCycle.{Measures, is, falls, and}
 use Rattle.printing.proofs.parts.+binds.{statement}
@@ -121,7 +121,15 @@ binds-binds-requires : (t : ℕ) → binds-lts.Need-binds-requires (
   binds-below t,
   binds.Post,
 ) (binds-at t) binds.Post
-binds-binds-requires t c κs = (passed (c .before .before .before .before .before .before .before .before .before .before .before .before .before .before .before .before .before .pre .0) (c .before .before .before .before .before .before .before .before .before .before .before .before .after .ensures) (inside (c .before .before .before .before .before .before .before .before .before .before .before .before .before .before .before .before .before .args .words .now) (c .before .before .before .before .before .before .before .before .before .before .before .get .ensures) (c .before .before .before .before .before .before .before .before .before .before .if1 .left)) (c .before .before .before .before .typed .ensures .forward), tt)
+binds-binds-requires t c κs = (
+  passed (c .before .before .before .before .before .before .before .before .before .before .before .before .before
+      .before .before .before .before .pre .0) (c .before .before .before .before .before .before .before .before .before .before .before .before
+      .after .ensures) (inside (c .before .before .before .before .before .before .before .before .before .before .before .before .before .before
+      .before .before .before .args .words .now) (c .before .before .before .before .before .before .before .before .before .before .before .get
+      .ensures) (c .before .before .before .before .before .before .before .before .before .before .if1 .left))
+      (c .before .before .before .before .typed .ensures .forward),
+  tt,
+)
 
 binds-same-length : (t : ℕ) → binds-lts.Need-same-length (
   after-reads.Asked,
@@ -149,7 +157,14 @@ binds-returns-2 : (t : ℕ) → binds-lts.Need-returns-2 (
   binds-below t,
   binds.Post,
 ) (binds-at t) binds.Post
-binds-returns-2 t c = binds-more (c .before .before .before .before .before .before .before .before .before .before .before .before .before .before .before .before .before .before .before .before .args .text .now) (c .before .before .before .before .before .before .before .before .before .before .before .before .before .before .before .before .before .before .before .before .args .prefix .now) (c .before .before .before .before .before .before .before .before .before .before .before .before .before .before .before .after .ensures) (c .before .before .before .before .before .before .before .before .before .before .before .before .before .before .get .ensures) (c .before .before .before .before .before .before .before .before .before .before .before .before .before .if1 .left) (c .before .before .before .before .before .before .before .before .before .before .before .put .ensures) (c .before .before .before .before .before .before .before .typed .ensures) (c .before .before .binds .ensures)
+binds-returns-2 t c = binds-more (c .before .before .before .before .before .before .before .before .before .before .before .before .before .before
+    .before .before .before .before .before .before .args .text .now)
+    (c .before .before .before .before .before .before .before .before .before .before .before .before .before .before .before .before .before
+    .before .before .before .args .prefix .now) (c .before .before .before .before .before .before .before .before .before .before .before .before
+    .before .before .before .after .ensures) (c .before .before .before .before .before .before .before .before .before .before .before .before
+    .before .before .get .ensures) (c .before .before .before .before .before .before .before .before .before .before .before .before .before .if1
+    .left) (c .before .before .before .before .before .before .before .before .before .before .before .put .ensures)
+    (c .before .before .before .before .before .before .before .typed .ensures) (c .before .before .binds .ensures)
 
 pub +binds-spec : {M : Type 1} → statement M
 +binds-spec = close μ-binds λ t. binds-lts.spec (

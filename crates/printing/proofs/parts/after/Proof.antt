@@ -1,9 +1,8 @@
-use Rattle.printing.proofs.Steps.{next-inside, next-past}
+-- The place after a word of the table; a place past it stays.
+use Rattle.printing.proofs.PartPrints.Joins.{next-inside, next-past}
 use borrow.Author.Needs.{needs}
 use Rattle.printing.proofs.parts.after.Statement.{statement}
 use Rattle.printing.proofs.parts.after.Tie as tie
-use Rattle.printing.proofs.parts.after.Reads as reads
-use Rattle.printing.proofs.parts.after.Lts as lts
 
 add-result : tie.Need-add-result
 add-result c = search needs

@@ -1,11 +1,8 @@
-use Rattle.printing.proofs.Heads.{call-head}
+-- A call's name and its bracket.
+use Rattle.printing.proofs.PartPrints.HeadPrints.{call-head}
 use borrow.Author.Needs.{needs}
 use Rattle.printing.proofs.parts.call_head.Statement.{statement}
 use Rattle.printing.proofs.parts.call_head.Tie as tie
-use Rattle.printing.proofs.parts.call_head.Reads as reads
-use Rattle.printing.proofs.parts.call_head.Lts as lts
-use Rattle.printing.proofs.parts.put_name.Reads as put-name-reads
-use Rattle.printing.proofs.write.put.Reads as put-reads
 
 put-name-requires : tie.Need-put-name-requires
 put-name-requires c κs = search needs

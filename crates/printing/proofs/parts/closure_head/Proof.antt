@@ -1,15 +1,10 @@
+-- The separator, the name, the parameters and the sign of a closure's binding.
 use Rattle.grammar.specs.Words.{bytes}
-use Rattle.printing.specs.Code.{unless}
-use Rattle.printing.proofs.Heads.{closure-head}
+use Rattle.printing.specs.Text.{unless}
+use Rattle.printing.proofs.PartPrints.HeadPrints.{closure-head}
 use borrow.Author.Needs.{needs}
 use Rattle.printing.proofs.parts.closure_head.Statement.{statement}
 use Rattle.printing.proofs.parts.closure_head.Tie as tie
-use Rattle.printing.proofs.parts.closure_head.Reads as reads
-use Rattle.printing.proofs.parts.closure_head.Lts as lts
-use Rattle.printing.proofs.parts.parameters.Reads as parameters-reads
-use Rattle.printing.proofs.parts.put_name.Reads as put-name-reads
-use Rattle.printing.proofs.write.put.Reads as put-reads
-use Rattle.printing.proofs.write.put_separator.Reads as put-separator-reads
 
 put-separator-requires : tie.Need-put-separator-requires
 put-separator-requires c κs = search needs
@@ -30,7 +25,13 @@ same-length : tie.Need-same-length
 same-length c = search needs
 
 returns : tie.Need-returns
-returns c = closure-head (c .before .before .before .before .before .before .before .before .before .before .before .before .before .before .before .before .before .before .before .before .args .text .now) (unless (c .before .before .before .before .before .before .before .before .before .before .before .before .before .before .before .before .before .before .before .before .args .first) (bytes ", ")) (c .before .before .before .before .before .before .before .before .before .before .before .before .before .before .before .put-separator .ensures) (c .before .before .before .before .before .before .before .before .before .before .before .put-name .ensures) (c .before .before .before .before .before .before .before .parameters .ensures) (c .before .before .put .ensures)
+returns c = closure-head (c .before .before .before .before .before .before .before .before .before .before .before .before .before .before .before
+    .before .before .before .before .before .args .text .now)
+    (unless (c .before .before .before .before .before .before .before .before .before .before .before .before .before .before .before .before
+    .before .before .before .before .args .first) (bytes ", "))
+    (c .before .before .before .before .before .before .before .before .before .before .before .before .before .before .before .put-separator
+    .ensures) (c .before .before .before .before .before .before .before .before .before .before .before .put-name .ensures)
+    (c .before .before .before .before .before .before .before .parameters .ensures) (c .before .before .put .ensures)
 
 pub closure-head-spec : {M : Type 1} → statement M
 closure-head-spec =

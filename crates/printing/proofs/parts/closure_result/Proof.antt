@@ -1,11 +1,8 @@
-use Rattle.printing.proofs.Heads.{result-prints}
+-- A closure's result variable and type between their words.
+use Rattle.printing.proofs.PartPrints.HeadPrints.{result-prints}
 use borrow.Author.Needs.{needs}
 use Rattle.printing.proofs.parts.closure_result.Statement.{statement}
 use Rattle.printing.proofs.parts.closure_result.Tie as tie
-use Rattle.printing.proofs.parts.closure_result.Reads as reads
-use Rattle.printing.proofs.parts.closure_result.Lts as lts
-use Rattle.printing.proofs.parts.typed.Reads as typed-reads
-use Rattle.printing.proofs.write.put.Reads as put-reads
 
 slice-aggregate-put : tie.Need-slice-aggregate-put
 slice-aggregate-put c = search needs

@@ -1,11 +1,8 @@
-use Rattle.printing.proofs.Heads.{custom-prints}
+-- A custom literal's text and type between bars.
+use Rattle.printing.proofs.PartPrints.HeadPrints.{custom-prints}
 use borrow.Author.Needs.{needs}
 use Rattle.printing.proofs.parts.custom_literal.Statement.{statement}
 use Rattle.printing.proofs.parts.custom_literal.Tie as tie
-use Rattle.printing.proofs.parts.custom_literal.Reads as reads
-use Rattle.printing.proofs.parts.custom_literal.Lts as lts
-use Rattle.printing.proofs.parts.typed.Reads as typed-reads
-use Rattle.printing.proofs.write.put.Reads as put-reads
 
 slice-aggregate-put : tie.Need-slice-aggregate-put
 slice-aggregate-put c = search needs

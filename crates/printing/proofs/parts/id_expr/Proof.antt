@@ -1,13 +1,8 @@
-use Rattle.printing.proofs.Leaves.{identifier-prints}
+-- `old ` by the word after the name, then the name.
+use Rattle.printing.proofs.PartPrints.LeafPrints.{identifier-prints}
 use borrow.Author.Needs.{needs}
 use Rattle.printing.proofs.parts.id_expr.Statement.{statement}
 use Rattle.printing.proofs.parts.id_expr.Tie as tie
-use Rattle.printing.proofs.parts.id_expr.Reads as reads
-use Rattle.printing.proofs.parts.id_expr.Lts as lts
-use Rattle.printing.proofs.parts.after.Reads as after-reads
-use Rattle.printing.proofs.parts.put_name.Reads as put-name-reads
-use Rattle.printing.proofs.write.put_unless.Reads as put-unless-reads
-use Rattle.tree.proofs.get.Reads as get-reads
 
 after-requires : tie.Need-after-requires
 after-requires c κs = search needs
@@ -34,7 +29,12 @@ same-length : tie.Need-same-length
 same-length c = search needs
 
 returns : tie.Need-returns
-returns c = identifier-prints (c .before .before .before .before .before .before .before .before .before .before .before .before .before .before .before .before .args .text .now) (c .before .before .before .before .before .before .before .before .before .before .before .before .after .ensures) (c .before .before .before .before .before .before .before .before .before .before .before .after2 .ensures) (c .before .before .before .before .before .before .before .before .before .get .ensures) (c .before .before .before .before .before .before .before .put-unless .ensures) (c .before .before .before .put-name .ensures) (c .after3 .ensures)
+returns c = identifier-prints (c .before .before .before .before .before .before .before .before .before .before .before .before .before .before
+    .before .before .args .text .now) (c .before .before .before .before .before .before .before .before .before .before .before .before .after
+    .ensures) (c .before .before .before .before .before .before .before .before .before .before .before .after2 .ensures)
+    (c .before .before .before .before .before .before .before .before .before .get .ensures)
+    (c .before .before .before .before .before .before .before .put-unless .ensures) (c .before .before .before .put-name .ensures)
+    (c .after3 .ensures)
 
 pub id-expr-spec : {M : Type 1} → statement M
 id-expr-spec =

@@ -1,13 +1,8 @@
-use Rattle.printing.proofs.Names.{untyped, is-typed}
+-- A name alone, or with its type, by the option's word.
+use Rattle.printing.proofs.PartPrints.NamePrints.{untyped, is-typed}
 use borrow.Author.Needs.{needs}
 use Rattle.printing.proofs.parts.id_type.Statement.{statement}
 use Rattle.printing.proofs.parts.id_type.Tie as tie
-use Rattle.printing.proofs.parts.id_type.Reads as reads
-use Rattle.printing.proofs.parts.id_type.Lts as lts
-use Rattle.printing.proofs.parts.after.Reads as after-reads
-use Rattle.printing.proofs.parts.put_name.Reads as put-name-reads
-use Rattle.printing.proofs.write.put.Reads as put-reads
-use Rattle.tree.proofs.get.Reads as get-reads
 
 put-name-requires : tie.Need-put-name-requires
 put-name-requires c κs = search needs
@@ -37,7 +32,13 @@ same-length-2 : tie.Need-same-length-2
 same-length-2 c = search needs
 
 returns-2 : tie.Need-returns-2
-returns-2 c = is-typed (c .before .before .before .before .before .before .before .before .before .before .before .before .before .before .before .before .before .before .before .args .text .now) (c .before .before .before .before .before .before .before .before .before .before .before .before .before .before .put-name .ensures) (c .before .before .before .before .before .before .before .before .before .before .before .after .ensures) (c .before .before .before .before .before .before .before .before .before .before .get .ensures) (c .before .before .before .before .before .before .before .before .before .if1 .left) (c .before .before .before .before .before .before .put .ensures) (c .before .before .put-name2 .ensures)
+returns-2 c = is-typed (c .before .before .before .before .before .before .before .before .before .before .before .before .before .before .before
+    .before .before .before .before .args .text .now)
+    (c .before .before .before .before .before .before .before .before .before .before .before .before .before .before .put-name .ensures)
+    (c .before .before .before .before .before .before .before .before .before .before .before .after .ensures)
+    (c .before .before .before .before .before .before .before .before .before .before .get .ensures)
+    (c .before .before .before .before .before .before .before .before .before .if1 .left)
+    (c .before .before .before .before .before .before .put .ensures) (c .before .before .put-name2 .ensures)
 
 pub id-type-spec : {M : Type 1} → statement M
 id-type-spec =

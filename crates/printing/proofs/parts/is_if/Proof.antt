@@ -1,11 +1,8 @@
-use Rattle.printing.proofs.Leaves.{is-if-by, is-no-if}
+-- An IfThenElse has the words 5 and 1.
+use Rattle.printing.proofs.PartPrints.LeafPrints.{is-if-by, is-no-if}
 use borrow.Author.Needs.{needs}
 use Rattle.printing.proofs.parts.is_if.Statement.{statement}
 use Rattle.printing.proofs.parts.is_if.Tie as tie
-use Rattle.printing.proofs.parts.is_if.Reads as reads
-use Rattle.printing.proofs.parts.is_if.Lts as lts
-use Rattle.printing.proofs.parts.after.Reads as after-reads
-use Rattle.tree.proofs.get.Reads as get-reads
 
 get-requires : tie.Need-get-requires
 get-requires c κs = search needs

@@ -1,12 +1,8 @@
-use Rattle.printing.proofs.Heads.{label-head}
+-- The bracket that a label needs, its name, the colon.
+use Rattle.printing.proofs.PartPrints.HeadPrints.{label-head}
 use borrow.Author.Needs.{needs}
 use Rattle.printing.proofs.parts.label_head.Statement.{statement}
 use Rattle.printing.proofs.parts.label_head.Tie as tie
-use Rattle.printing.proofs.parts.label_head.Reads as reads
-use Rattle.printing.proofs.parts.label_head.Lts as lts
-use Rattle.printing.proofs.parts.put_name.Reads as put-name-reads
-use Rattle.printing.proofs.power.BindingPower.parenthesis.Reads as parenthesis-reads
-use Rattle.printing.proofs.write.put.Reads as put-reads
 
 parenthesis-requires : tie.Need-parenthesis-requires
 parenthesis-requires c κs = search needs

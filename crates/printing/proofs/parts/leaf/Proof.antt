@@ -1,15 +1,8 @@
-use Rattle.printing.proofs.Leaves.{leaf-bool, leaf-natural, leaf-custom, leaf-identifier, no-leaf}
+-- Each of the words 1 to 4 by the function of its kind.
+use Rattle.printing.proofs.PartPrints.LeafPrints.{leaf-bool, leaf-natural, leaf-custom, leaf-identifier, no-leaf}
 use borrow.Author.Needs.{needs}
 use Rattle.printing.proofs.parts.leaf.Statement.{statement}
 use Rattle.printing.proofs.parts.leaf.Tie as tie
-use Rattle.printing.proofs.parts.leaf.Reads as reads
-use Rattle.printing.proofs.parts.leaf.Lts as lts
-use Rattle.printing.proofs.parts.after.Reads as after-reads
-use Rattle.printing.proofs.parts.custom_literal.Reads as custom-literal-reads
-use Rattle.printing.proofs.parts.id_expr.Reads as id-expr-reads
-use Rattle.printing.proofs.parts.put_bool.Reads as put-bool-reads
-use Rattle.printing.proofs.parts.put_natural.Reads as put-natural-reads
-use Rattle.tree.proofs.get.Reads as get-reads
 
 after-requires : tie.Need-after-requires
 after-requires c κs = search needs

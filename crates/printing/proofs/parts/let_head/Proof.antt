@@ -1,12 +1,8 @@
-use Rattle.printing.proofs.Heads.{let-head}
+-- The bracket that a `val` needs, its name and type, the sign.
+use Rattle.printing.proofs.PartPrints.HeadPrints.{let-head}
 use borrow.Author.Needs.{needs}
 use Rattle.printing.proofs.parts.let_head.Statement.{statement}
 use Rattle.printing.proofs.parts.let_head.Tie as tie
-use Rattle.printing.proofs.parts.let_head.Reads as reads
-use Rattle.printing.proofs.parts.let_head.Lts as lts
-use Rattle.printing.proofs.parts.id_type.Reads as id-type-reads
-use Rattle.printing.proofs.power.BindingPower.parenthesis.Reads as parenthesis-reads
-use Rattle.printing.proofs.write.put.Reads as put-reads
 
 parenthesis-requires : tie.Need-parenthesis-requires
 parenthesis-requires c κs = search needs
@@ -30,7 +26,11 @@ same-length : tie.Need-same-length
 same-length c = search needs
 
 returns : tie.Need-returns
-returns c = let-head (c .before .before .before .before .before .before .before .before .before .before .before .before .before .before .before .before .before .before .before .before .before .args .text .now) _ (c .before .before .before .before .before .before .before .before .before .before .before .before .before .before .before .before .parenthesis .ensures) (c .before .before .before .before .before .before .before .before .before .before .before .put .ensures) (c .before .before .before .before .before .before .before .id-type .ensures) (c .before .before .put2 .ensures)
+returns c = let-head (c .before .before .before .before .before .before .before .before .before .before .before .before .before .before .before
+    .before .before .before .before .before .before .args .text .now) _
+    (c .before .before .before .before .before .before .before .before .before .before .before .before .before .before .before .before .parenthesis
+    .ensures) (c .before .before .before .before .before .before .before .before .before .before .before .put .ensures)
+    (c .before .before .before .before .before .before .before .id-type .ensures) (c .before .before .put2 .ensures)
 
 pub let-head-spec : {M : Type 1} → statement M
 let-head-spec =

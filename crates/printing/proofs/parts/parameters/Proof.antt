@@ -1,13 +1,8 @@
-use Rattle.printing.proofs.Names.{no-parameters, some-parameters}
+-- No parameters print nothing; others stand in brackets.
+use Rattle.printing.proofs.PartPrints.NamePrints.{no-parameters, some-parameters}
 use borrow.Author.Needs.{needs}
 use Rattle.printing.proofs.parts.parameters.Statement.{statement}
 use Rattle.printing.proofs.parts.parameters.Tie as tie
-use Rattle.printing.proofs.parts.parameters.Reads as reads
-use Rattle.printing.proofs.parts.parameters.Lts as lts
-use Rattle.printing.proofs.parts.after.Reads as after-reads
-use Rattle.printing.proofs.parts.binds.Reads as binds-reads
-use Rattle.printing.proofs.write.put.Reads as put-reads
-use Rattle.tree.proofs.get.Reads as get-reads
 
 get-requires : tie.Need-get-requires
 get-requires c κs = search needs
@@ -40,7 +35,12 @@ same-length : tie.Need-same-length
 same-length c = search needs
 
 returns-2 : tie.Need-returns-2
-returns-2 c = some-parameters (c .before .before .before .before .before .before .before .before .before .before .before .before .before .before .before .before .before .before .before .before .args .text .now) (c .before .before .before .before .before .before .before .before .before .before .before .before .before .before .before .before .get .ensures) (c .before .before .before .before .before .before .before .before .before .before .before .before .before .before .before .if1 .left) (c .before .before .before .before .before .before .before .before .before .before .before .before .put .ensures) (c .before .before .before .before .before .before .before .binds .ensures) (c .before .before .put2 .ensures)
+returns-2 c = some-parameters (c .before .before .before .before .before .before .before .before .before .before .before .before .before .before
+    .before .before .before .before .before .before .args .text .now)
+    (c .before .before .before .before .before .before .before .before .before .before .before .before .before .before .before .before .get .ensures)
+    (c .before .before .before .before .before .before .before .before .before .before .before .before .before .before .before .if1 .left)
+    (c .before .before .before .before .before .before .before .before .before .before .before .before .put .ensures)
+    (c .before .before .before .before .before .before .before .binds .ensures) (c .before .before .put2 .ensures)
 
 pub parameters-spec : {M : Type 1} → statement M
 parameters-spec =

@@ -1,13 +1,9 @@
+-- `true` or `false` by the word.
 use mathlib.Core.Bool.{true, false}
-use Rattle.printing.proofs.Leaves.{bool-prints}
+use Rattle.printing.proofs.PartPrints.LeafPrints.{bool-prints}
 use borrow.Author.Needs.{needs}
 use Rattle.printing.proofs.parts.put_bool.Statement.{statement}
 use Rattle.printing.proofs.parts.put_bool.Tie as tie
-use Rattle.printing.proofs.parts.put_bool.Reads as reads
-use Rattle.printing.proofs.parts.put_bool.Lts as lts
-use Rattle.printing.proofs.parts.after.Reads as after-reads
-use Rattle.printing.proofs.write.put.Reads as put-reads
-use Rattle.tree.proofs.get.Reads as get-reads
 
 after-requires : tie.Need-after-requires
 after-requires c κs = search needs

@@ -1,13 +1,8 @@
-use Rattle.printing.proofs.Names.{name-prints}
+-- A name's two words give its part of the text.
+use Rattle.printing.proofs.PartPrints.NamePrints.{name-prints}
 use borrow.Author.Needs.{needs}
 use Rattle.printing.proofs.parts.put_name.Statement.{statement}
 use Rattle.printing.proofs.parts.put_name.Tie as tie
-use Rattle.printing.proofs.parts.put_name.Reads as reads
-use Rattle.printing.proofs.parts.put_name.Lts as lts
-use Rattle.printing.proofs.parts.after.Reads as after-reads
-use Rattle.printing.proofs.write.put.Reads as put-reads
-use Rattle.tree.proofs.get.Reads as get-reads
-use Rattle.tree.proofs.name.Reads as name-reads
 
 after-requires : tie.Need-after-requires
 after-requires c κs = search needs
@@ -31,7 +26,10 @@ same-length : tie.Need-same-length
 same-length c = search needs
 
 returns : tie.Need-returns
-returns c = name-prints (c .before .before .before .before .before .before .before .before .before .before .before .before .args .text .now) (c .before .before .before .before .before .before .before .before .after .ensures) (c .before .before .before .before .before .before .before .after2 .ensures) (c .before .before .before .before .before .before .get .ensures) (c .before .before .before .before .before .get2 .ensures) (c .before .before .before .before .name .ensures) (c .before .before .put .ensures)
+returns c = name-prints (c .before .before .before .before .before .before .before .before .before .before .before .before .args .text .now)
+    (c .before .before .before .before .before .before .before .before .after .ensures)
+    (c .before .before .before .before .before .before .before .after2 .ensures) (c .before .before .before .before .before .before .get .ensures)
+    (c .before .before .before .before .before .get2 .ensures) (c .before .before .before .before .name .ensures) (c .before .before .put .ensures)
 
 pub put-name-spec : {M : Type 1} → statement M
 put-name-spec =

@@ -1,12 +1,8 @@
-use Rattle.printing.proofs.Leaves.{natural-prints}
+-- A natural's two words give its value.
+use Rattle.printing.proofs.PartPrints.LeafPrints.{natural-prints}
 use borrow.Author.Needs.{needs}
 use Rattle.printing.proofs.parts.put_natural.Statement.{statement}
 use Rattle.printing.proofs.parts.put_natural.Tie as tie
-use Rattle.printing.proofs.parts.put_natural.Reads as reads
-use Rattle.printing.proofs.parts.put_natural.Lts as lts
-use Rattle.printing.proofs.parts.after.Reads as after-reads
-use Rattle.printing.proofs.write.put_decimal.Reads as put-decimal-reads
-use Rattle.tree.proofs.natural.Reads as natural-reads
 
 after-requires : tie.Need-after-requires
 after-requires c κs = search needs

@@ -1,13 +1,9 @@
+-- `forall ` or `exists ` by the Bool's word, before the first binding.
 use mathlib.Core.Bool.{true, false}
-use Rattle.printing.proofs.Names.{quantified-prints}
+use Rattle.printing.proofs.PartPrints.NamePrints.{quantified-prints}
 use borrow.Author.Needs.{needs}
 use Rattle.printing.proofs.parts.quantified.Statement.{statement}
 use Rattle.printing.proofs.parts.quantified.Tie as tie
-use Rattle.printing.proofs.parts.quantified.Reads as reads
-use Rattle.printing.proofs.parts.quantified.Lts as lts
-use Rattle.printing.proofs.parts.after.Reads as after-reads
-use Rattle.printing.proofs.parts.binds.Reads as binds-reads
-use Rattle.tree.proofs.get.Reads as get-reads
 
 after-requires : tie.Need-after-requires
 after-requires c κs = search needs

@@ -1,11 +1,8 @@
-use Rattle.printing.proofs.Heads.{quantifier-head}
+-- The bracket that a quantifier needs, its word and bindings.
+use Rattle.printing.proofs.PartPrints.HeadPrints.{quantifier-head}
 use borrow.Author.Needs.{needs}
 use Rattle.printing.proofs.parts.quantifier_head.Statement.{statement}
 use Rattle.printing.proofs.parts.quantifier_head.Tie as tie
-use Rattle.printing.proofs.parts.quantifier_head.Reads as reads
-use Rattle.printing.proofs.parts.quantifier_head.Lts as lts
-use Rattle.printing.proofs.parts.quantified.Reads as quantified-reads
-use Rattle.printing.proofs.power.BindingPower.parenthesis.Reads as parenthesis-reads
 
 parenthesis-requires : tie.Need-parenthesis-requires
 parenthesis-requires c κs = search needs

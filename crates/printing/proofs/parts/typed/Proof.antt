@@ -1,11 +1,8 @@
-use Rattle.printing.proofs.Names.{typed-prints}
+-- A name, a colon and its type.
+use Rattle.printing.proofs.PartPrints.NamePrints.{typed-prints}
 use borrow.Author.Needs.{needs}
 use Rattle.printing.proofs.parts.typed.Statement.{statement}
 use Rattle.printing.proofs.parts.typed.Tie as tie
-use Rattle.printing.proofs.parts.typed.Reads as reads
-use Rattle.printing.proofs.parts.typed.Lts as lts
-use Rattle.printing.proofs.parts.put_name.Reads as put-name-reads
-use Rattle.printing.proofs.write.put.Reads as put-reads
 
 put-name-requires : tie.Need-put-name-requires
 put-name-requires c κs = search needs

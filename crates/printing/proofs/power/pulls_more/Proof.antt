@@ -1,8 +1,7 @@
-use Rattle.printing.proofs.Strengths.{pulls-true, pulls-false}
+-- A tie counts where it is the operator's.
+use Rattle.printing.proofs.Operators.Strengths.{pulls-true, pulls-false}
 use Rattle.printing.proofs.power.pulls_more.Statement.{statement}
 use Rattle.printing.proofs.power.pulls_more.Tie as tie
-use Rattle.printing.proofs.power.pulls_more.Reads as reads
-use Rattle.printing.proofs.power.pulls_more.Lts as lts
 
 returns : tie.Need-returns
 returns c = pulls-true _ _ _ (c .if1 .taken)

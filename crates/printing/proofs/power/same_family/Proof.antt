@@ -1,10 +1,9 @@
+-- The context breaks ties for the operator, or is of its family.
 use mathlib.Core.Path.{sym, ap}
 use Rattle.printing.specs.PrintUtil.{sameFamily}
 use borrow.Author.Needs.{needs}
 use Rattle.printing.proofs.power.same_family.Statement.{statement}
 use Rattle.printing.proofs.power.same_family.Tie as tie
-use Rattle.printing.proofs.power.same_family.Reads as reads
-use Rattle.printing.proofs.power.same_family.Lts as lts
 
 enum-told : tie.Need-enum-told
 enum-told c = search needs

@@ -1,6 +1,7 @@
+-- The digits before the last by the call, whose value is smaller, then the last one.
 use borrow.Author.Needs.{needs}
 use native.Mathlib.Omega.{arith}
-use Rattle.printing.proofs.Decimal.{wrote-digit, wrote-digits}
+use Rattle.printing.proofs.Writing.Decimal.{wrote-digit, wrote-digits}
 use Prim.Native.Nat.{ℕ, _<_}
 use borrow.Fn.Kinds.{In}
 use borrow.Fn.PlainCycle.{Measures, is, falls, and}

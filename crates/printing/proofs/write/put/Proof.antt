@@ -1,13 +1,9 @@
+-- Bytes that fit are stored; bytes that do not leave the buffer as it was.
 use native.Mathlib.Omega.{arith}
-use lib.ListN.{length}
-use Prim.Native.Nat.{_+_}
-use Rattle.printing.proofs.Writes.{over, stored}
+use Rattle.printing.proofs.Writing.Bytes.{over, stored}
 use borrow.Author.Needs.{needs}
 use Rattle.printing.proofs.write.put.Statement.{statement}
 use Rattle.printing.proofs.write.put.Tie as tie
-use Rattle.printing.proofs.write.put.Reads as reads
-use Rattle.printing.proofs.write.put.Lts as lts
-use Rattle.printing.proofs.write.store.Reads as store-reads
 
 add-result : tie.Need-add-result
 add-result c = search needs

@@ -1,11 +1,10 @@
-use Prim.Native.Nat.{_-_, _+_, _<_, _≤_, ℕ}
+-- The loop stores spaces, one a turn.
+use Prim.Native.Nat.{_-_}
 use native.Mathlib.Omega.{arith}
-use lib.ListN.{length, replicate}
-use Rattle.printing.proofs.Writes.{Storing, storing-none, spaces, spaces-more, spaces-all, spaces-over, spaces-fit}
+use lib.ListN.{replicate}
+use Rattle.printing.proofs.Writing.Bytes.{Storing, storing-none, spaces, spaces-more, spaces-all, spaces-over, spaces-fit}
 use Rattle.printing.proofs.write.put_indent.Statement.{statement}
 use Rattle.printing.proofs.write.put_indent.Tie as tie
-use Rattle.printing.proofs.write.put_indent.Reads as reads
-use Rattle.printing.proofs.write.put_indent.Lts as lts
 
 abbrev Inv-loop : tie.InvT-loop
 Inv-loop out₀ pos n i₀ out i = Storing (replicate n 32) out₀ out pos i

@@ -1,10 +1,8 @@
-use Rattle.printing.proofs.Writes.{none}
+-- Nothing is written where `skip`, else the bytes.
+use Rattle.printing.proofs.Writing.Bytes.{none}
 use borrow.Author.Needs.{needs}
 use Rattle.printing.proofs.write.put_unless.Statement.{statement}
 use Rattle.printing.proofs.write.put_unless.Tie as tie
-use Rattle.printing.proofs.write.put_unless.Reads as reads
-use Rattle.printing.proofs.write.put_unless.Lts as lts
-use Rattle.printing.proofs.write.put.Reads as put-reads
 
 returns : tie.Need-returns
 returns c = rw (c .if1 .taken) (none _ _)

@@ -1,12 +1,11 @@
-use Prim.Native.Nat.{_-_, _+_}
+-- The loop stores the bytes, one a turn.
+use Prim.Native.Nat.{_-_}
 use native.Mathlib.Omega.{arith}
-use lib.ListN.{length, getD}
+use lib.ListN.{length}
 use mathlib.Core.Path.{refl}
-use Rattle.printing.proofs.Writes.{Storing, storing-none, storing-more, storing-all}
+use Rattle.printing.proofs.Writing.Bytes.{Storing, storing-none, storing-more, storing-all}
 use Rattle.printing.proofs.write.store.Statement.{statement}
 use Rattle.printing.proofs.write.store.Tie as tie
-use Rattle.printing.proofs.write.store.Reads as reads
-use Rattle.printing.proofs.write.store.Lts as lts
 
 abbrev Inv-loop : tie.InvT-loop
 Inv-loop out₀ pos bytes i₀ out i = Storing bytes out₀ out pos i

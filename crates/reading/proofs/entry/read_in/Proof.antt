@@ -18,7 +18,13 @@ expr-requires : tie.Need-expr-requires
 expr-requires c κs = led-room (at-lead (c .before .before .before .before .before .before)) (c .before .before .before .node .ensures)
 
 finish-requires : tie.Need-finish-requires
-finish-requires c κs = (led-buffers (at-lead (c .before .before .before .before .before .before .before .before .before .before .before .before)) (c .before .before .before .before .before .before .before .before .before .node .ensures) (c .before .before .before .before .before .expr .ensures .kept), run-read (c .before .before .before .before .before .expr .result) (c .before .before .before .before .before .expr .ensures))
+finish-requires c κs = (
+  led-buffers (at-lead (c .before .before .before .before .before .before .before .before .before .before .before .before))
+      (c .before .before .before .before .before .before .before .before .before .node .ensures)
+      (c .before .before .before .before .before .expr .ensures .kept),
+  run-read (c .before .before .before .before .before .expr .result)
+      (c .before .before .before .before .before .expr .ensures),
+)
 
 returns : tie.Need-returns
 unfolding parseText
@@ -26,7 +32,12 @@ returns c = blanks-unclosed treeWords (inner (c .before .before .before .before 
 
 returns-2 : tie.Need-returns-2
 unfolding parseText
-returns-2 c = finished (at-lead (c .before .before .before .before .before .before .before .before .before .before .before .before .before .before .before .before .before)) treeWords (inner (c .before .before .before .before .before .before .before .before .before .before .before .before .before .before .before .before .before .before .before .before .before .before .before .before .args .text .now) mostDepth) (c .before .before .before .before .before .before .before .before .before .before .expr .result) (c .before .before .before .before .before .before .before .before .before .before .expr .ensures) (c .before .before .before .before .finish .ensures)
+returns-2 c = finished (at-lead (c .before .before .before .before .before .before .before .before .before .before .before .before .before .before
+    .before .before .before)) treeWords (inner (c .before .before .before .before .before .before .before .before .before .before .before .before
+    .before .before .before .before .before .before .before .before .before .before .before .before .args .text .now) mostDepth)
+    (c .before .before .before .before .before .before .before .before .before .before .expr .result)
+    (c .before .before .before .before .before .before .before .before .before .before .expr .ensures)
+    (c .before .before .before .before .finish .ensures)
 
 pub read-in-spec : {M : Type 1} → statement M
 read-in-spec =

@@ -1,12 +1,10 @@
+-- One step deeper, or one line as before.
 use mathlib.Core.Path.{sym, ap}
 use Rattle.printing.specs.PrintUtil.{More}
-use Rattle.printing.proofs.Strengths.{more-lines}
+use Rattle.printing.proofs.Operators.Strengths.{more-lines}
 use borrow.Author.Needs.{needs}
 use Rattle.printing.proofs.format.ExprFormatOption.more.Statement.{statement}
 use Rattle.printing.proofs.format.ExprFormatOption.more.Tie as tie
-use Rattle.printing.proofs.format.ExprFormatOption.more.Reads as reads
-use Rattle.printing.proofs.format.ExprFormatOption.more.Lts as lts
-use Rattle.printing.proofs.format.deeper.Reads as deeper-reads
 
 enum-told : tie.Need-enum-told
 enum-told c = search needs
@@ -18,10 +16,10 @@ deeper-requires : tie.Need-deeper-requires
 deeper-requires c κs = search needs
 
 returns : tie.Need-returns
-returns c = λ h. sym (ap (More 2) (c .enum-told .given .1))
+returns c = record { deeper = λ h. sym (ap (More 2) (c .enum-told .given .1)) }
 
 returns-2 : tie.Need-returns-2
-returns-2 c = more-lines _ _ _ (c .before .before .self .given .1) (c .deeper .ensures)
+returns-2 c = record { deeper = more-lines _ _ _ (c .before .before .self .given .1) (c .deeper .ensures) }
 
 pub more-spec : {M : Type 1} → statement M
 more-spec = tie.close (tie.spec enum-told enum-known-self deeper-requires returns returns-2)

@@ -1,12 +1,9 @@
-use Rattle.printing.proofs.Writes.{then}
-use Rattle.printing.proofs.Strengths.{space-line, space-lines}
+-- A space, or a line end and the indent.
+use Rattle.printing.proofs.Writing.Bytes.{then}
+use Rattle.printing.proofs.Operators.Strengths.{space-line, space-lines}
 use borrow.Author.Needs.{needs}
 use Rattle.printing.proofs.format.ExprFormatOption.space.Statement.{statement}
 use Rattle.printing.proofs.format.ExprFormatOption.space.Tie as tie
-use Rattle.printing.proofs.format.ExprFormatOption.space.Reads as reads
-use Rattle.printing.proofs.format.ExprFormatOption.space.Lts as lts
-use Rattle.printing.proofs.write.put.Reads as put-reads
-use Rattle.printing.proofs.write.put_indent.Reads as put-indent-reads
 
 enum-told : tie.Need-enum-told
 enum-told c = search needs

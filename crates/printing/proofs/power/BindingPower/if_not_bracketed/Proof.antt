@@ -1,11 +1,10 @@
+-- Inside brackets the context is `Init`.
 use mathlib.Core.Path.{sym, ap}
 use mathlib.Core.Bool.{Bool}
 use Rattle.printing.specs.PrintUtil.{adjusted}
 use borrow.Author.Needs.{needs}
 use Rattle.printing.proofs.power.BindingPower.if_not_bracketed.Statement.{statement}
 use Rattle.printing.proofs.power.BindingPower.if_not_bracketed.Tie as tie
-use Rattle.printing.proofs.power.BindingPower.if_not_bracketed.Reads as reads
-use Rattle.printing.proofs.power.BindingPower.if_not_bracketed.Lts as lts
 
 returns : tie.Need-returns
 returns c = search needs

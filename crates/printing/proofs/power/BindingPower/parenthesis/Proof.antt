@@ -1,11 +1,8 @@
-use Rattle.printing.proofs.Strengths.{parenthesis-none, parenthesis-put}
+-- No bracket where the operator wins, else that of the side.
+use Rattle.printing.proofs.Operators.Strengths.{parenthesis-none, parenthesis-put}
 use borrow.Author.Needs.{needs}
 use Rattle.printing.proofs.power.BindingPower.parenthesis.Statement.{statement}
 use Rattle.printing.proofs.power.BindingPower.parenthesis.Tie as tie
-use Rattle.printing.proofs.power.BindingPower.parenthesis.Reads as reads
-use Rattle.printing.proofs.power.BindingPower.parenthesis.Lts as lts
-use Rattle.printing.proofs.power.BindingPower.wins_over.Reads as wins-over-reads
-use Rattle.printing.proofs.write.put.Reads as put-reads
 
 wins-over-requires : tie.Need-wins-over-requires
 wins-over-requires c κs = search needs

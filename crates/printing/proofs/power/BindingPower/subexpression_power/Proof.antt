@@ -1,12 +1,8 @@
-use Rattle.printing.proofs.Strengths.{side-power}
+-- The context of the operand at each side.
+use Rattle.printing.proofs.Operators.Strengths.{side-power}
 use borrow.Author.Needs.{needs}
 use Rattle.printing.proofs.power.BindingPower.subexpression_power.Statement.{statement}
 use Rattle.printing.proofs.power.BindingPower.subexpression_power.Tie as tie
-use Rattle.printing.proofs.power.BindingPower.subexpression_power.Reads as reads
-use Rattle.printing.proofs.power.BindingPower.subexpression_power.Lts as lts
-use Rattle.printing.proofs.power.BindingPower.if_not_bracketed.Reads as if-not-bracketed-reads
-use Rattle.printing.proofs.power.BindingPower.new.Reads as new-reads
-use Rattle.printing.proofs.power.BindingPower.wins_over.Reads as wins-over-reads
 
 wins-over-requires : tie.Need-wins-over-requires
 wins-over-requires c κs = search needs

@@ -1,11 +1,8 @@
-use Rattle.printing.proofs.Strengths.{wins-left, loses-left}
+-- The operator wins by its left and its right side.
+use Rattle.printing.proofs.Operators.Strengths.{wins-left, loses-left}
 use borrow.Author.Needs.{needs}
 use Rattle.printing.proofs.power.BindingPower.wins_over.Statement.{statement}
 use Rattle.printing.proofs.power.BindingPower.wins_over.Tie as tie
-use Rattle.printing.proofs.power.BindingPower.wins_over.Reads as reads
-use Rattle.printing.proofs.power.BindingPower.wins_over.Lts as lts
-use Rattle.printing.proofs.power.TieBreaker.break_tie_in_favor_of_operator.Reads as break-tie-in-favor-of-operator-reads
-use Rattle.printing.proofs.power.pulls_more.Reads as pulls-more-reads
 
 break-tie-in-favor-of-operator-requires : tie.Need-break-tie-in-favor-of-operator-requires
 break-tie-in-favor-of-operator-requires c κs = search needs

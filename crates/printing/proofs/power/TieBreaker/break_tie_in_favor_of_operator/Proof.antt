@@ -1,13 +1,10 @@
+-- Ties by the operator's tie breaker and then by the context's.
 use mathlib.Core.Path.{sym, ap, _∙_}
 use Rattle.printing.specs.PrintUtil.{BreakTieInFavorOfOperator}
 use Rattle.printing.specs.declared.power.TieBreaker.{TieBreaker}
 use borrow.Author.Needs.{needs}
 use Rattle.printing.proofs.power.TieBreaker.break_tie_in_favor_of_operator.Statement.{statement}
 use Rattle.printing.proofs.power.TieBreaker.break_tie_in_favor_of_operator.Tie as tie
-use Rattle.printing.proofs.power.TieBreaker.break_tie_in_favor_of_operator.Reads as reads
-use Rattle.printing.proofs.power.TieBreaker.break_tie_in_favor_of_operator.Lts as lts
-use Rattle.printing.proofs.power.is_operator_wins.Reads as is-operator-wins-reads
-use Rattle.printing.proofs.power.same_family.Reads as same-family-reads
 
 enum-told : tie.Need-enum-told
 enum-told c = search needs

@@ -66,7 +66,10 @@ module _ (t : ℕ) where
       let f = found (c .before .before .before .before .before .r .given .1) (c .before .before .before .before .before .before .before .before .before .item .ensures) in
       record {
         gathering =
-            gathering-one (comma-repetition _ (c .before .before .before .before .before .before .before .before .before .before .before .before .before .args .kind) _) _ (f .value) (s .based) (s .above) (nonempty-some _ _ (sequenceOf (c .before .before .before .before .before .before .before .before .before .before .before .before .before .args .kind)) _ _ (f .says)) (omega arith) (f .next-inside)
+            gathering-one (comma-repetition _ (c .before .before .before .before .before .before .before .before .before .before .before .before
+            .before .args .kind) _) _ (f .value) (s .based) (s .above)
+            (nonempty-some _ _ (sequenceOf (c .before .before .before .before .before .before .before .before .before .before .before .before
+            .before .args .kind)) _ _ (f .says)) (omega arith) (f .next-inside)
             (c .before .before .before .before .before .before .before .before .before .item .ensures .kept) (f .holds) (f .node-below) (f .grows) (c .before .before .node .ensures);
         forward = f .progress;
         within = omega arith;
@@ -85,7 +88,11 @@ module _ (t : ℕ) where
       (omega (arith, c .before .before .before .before .before .before .before .before .before .before .before .before .before .before .before .before .before .before .before .before .pre .0), room-on s (kept-trans k0 (i .gathering .kept)) (i .gathering .above) (k .inside) (omega arith))
 
   same-length-2 : Of lts.Need-same-length-2
-  same-length-2 c = c .before .before .before .before .item2 .ensures .kept .length-kept ∙ c .before .before .before .before .before .before .before .before .before .before .before .loop .inv .gathering .kept .length-kept ∙ c .before .before .before .before .before .before .before .before .before .before .before .before .before .before .node .ensures .kept .length-kept ∙ c .before .before .before .before .before .before .before .before .before .before .before .before .before .before .before .before .before .before .before .before .before .item .ensures .kept .length-kept
+  same-length-2 c = c .before .before .before .before .item2 .ensures .kept .length-kept ∙ c .before .before .before .before .before .before .before
+      .before .before .before .before .loop .inv .gathering .kept .length-kept ∙ c .before .before .before .before .before .before .before .before
+      .before .before .before .before .before .before .node .ensures .kept .length-kept ∙ c .before .before .before .before .before .before .before
+      .before .before .before .before .before .before .before .before .before .before .before .before .before .before .item .ensures .kept
+      .length-kept
 
   returns-2 : Of lts.Need-returns-2
   returns-2 c =
@@ -93,7 +100,10 @@ module _ (t : ℕ) where
       let k0 = kept-next (f .grows) (c .before .before .before .before .before .before .before .before .before .before .before .before .before .before .before .before .before .before .before .before .before .item .ensures .kept) (c .before .before .before .before .before .before .before .before .before .before .before .before .before .before .node .ensures .kept) in
       let i = c .before .before .before .before .before .before .before .before .before .before .before .loop .inv in
       let k = took (c .before .before .before .before .before .before .before .next .given .1) (c .before .before .before .before .before .before .before .before .before .sym .ensures) in
-      gathering-needed (comma-repetition _ (c .before .before .before .before .before .before .before .before .before .before .before .before .before .before .before .before .before .before .before .before .before .before .before .before .before .args .kind) _) (i .gathering) (c .before .before .before .before .item2 .result) (k .says) k0 (c .before .before .before .before .item2 .ensures) (c .before .match3 .keys2) (c .needed .ensures)
+      gathering-needed (comma-repetition _ (c .before .before .before .before .before .before .before .before .before .before .before .before .before
+      .before .before .before .before .before .before .before .before .before .before .before .before .args .kind) _) (i .gathering)
+      (c .before .before .before .before .item2 .result) (k .says) k0 (c .before .before .before .before .item2 .ensures)
+      (c .before .match3 .keys2) (c .needed .ensures)
 
   node-requires-2 : Of lts.Need-node-requires-2
   node-requires-2 c κs =
@@ -102,25 +112,57 @@ module _ (t : ℕ) where
       let i = c .before .before .before .before .before .before .before .before .before .before .before .before .before .loop .inv in
       let k = took (c .before .before .before .before .before .before .before .before .before .next .given .1) (c .before .before .before .before .before .before .before .before .before .before .before .sym .ensures) in
       let e = found (c .before .before .r2 .given .1) (c .before .before .before .before .before .before .item2 .ensures) in
-      omega (arith, c .before .before .before .before .before .before .before .before .before .before .before .before .before .before .before .before .before .before .before .before .before .before .before .item .ensures .kept .length-kept, c .before .before .before .before .before .before .before .before .before .before .before .before .before .before .before .before .node .ensures .kept .length-kept, i .gathering .kept .length-kept, c .before .before .before .before .before .before .item2 .ensures .kept .length-kept)
+      omega (
+        arith,
+        c .before .before .before .before .before .before .before .before .before .before .before .before .before .before .before .before
+            .before .before .before .before .before .before .before .item .ensures .kept .length-kept,
+        c .before .before .before .before .before .before .before .before .before .before .before .before .before .before .before .before .node
+            .ensures .kept .length-kept,
+        i .gathering .kept .length-kept,
+        c .before .before .before .before .before .before .item2 .ensures .kept .length-kept,
+      )
 
   cast-list-2 : Of lts.Need-cast-list-2
   cast-list-2 c =
       let s = c .before .before .before .before .before .before .before .before .before .before .before .before .before .before .before .before .before .before .before .before .before .before .before .before .before .before .before .before .before .before .pre .1 in
-      let f = found (c .before .before .before .before .before .before .before .before .before .before .before .before .before .before .before .before .before .before .before .before .before .before .r .given .1) (c .before .before .before .before .before .before .before .before .before .before .before .before .before .before .before .before .before .before .before .before .before .before .before .before .before .before .item .ensures) in
+      let f = found (c .before .before .before .before .before .before .before .before .before .before .before .before .before .before .before
+      .before .before .before .before .before .before .before .r .given .1)
+      (c .before .before .before .before .before .before .before .before .before .before .before .before .before .before .before .before .before
+      .before .before .before .before .before .before .before .before .before .item .ensures) in
       let i = c .before .before .before .before .before .before .before .before .before .before .before .before .before .before .before .before .loop .inv in
       let k = took (c .before .before .before .before .before .before .before .before .before .before .before .before .next .given .1) (c .before .before .before .before .before .before .before .before .before .before .before .before .before .before .sym .ensures) in
       let e = found (c .before .before .before .before .before .r2 .given .1) (c .before .before .before .before .before .before .before .before .before .item2 .ensures) in
-      omega (arith, c .before .before .before .before .before .before .before .before .before .before .before .before .before .before .before .before .before .before .before .before .before .before .before .before .before .before .item .ensures .kept .length-kept, c .before .before .before .before .before .before .before .before .before .before .before .before .before .before .before .before .before .before .before .node .ensures .kept .length-kept, i .gathering .kept .length-kept, c .before .before .before .before .before .before .before .before .before .item2 .ensures .kept .length-kept, c .before .before .node2 .ensures .kept .length-kept)
+      omega (
+        arith,
+        c .before .before .before .before .before .before .before .before .before .before .before .before .before .before .before .before
+            .before .before .before .before .before .before .before .before .before .before .item .ensures .kept .length-kept,
+        c .before .before .before .before .before .before .before .before .before .before .before .before .before .before .before .before .before
+            .before .before .node .ensures .kept .length-kept,
+        i .gathering .kept .length-kept,
+        c .before .before .before .before .before .before .before .before .before .item2 .ensures .kept .length-kept,
+        c .before .before .node2 .ensures .kept .length-kept,
+      )
 
   add-top-2 : Of lts.Need-add-top-2
   add-top-2 c =
       let s = c .before .before .before .before .before .before .before .before .before .before .before .before .before .before .before .before .before .before .before .before .before .before .before .before .before .before .before .before .before .before .pre .1 in
-      let f = found (c .before .before .before .before .before .before .before .before .before .before .before .before .before .before .before .before .before .before .before .before .before .before .r .given .1) (c .before .before .before .before .before .before .before .before .before .before .before .before .before .before .before .before .before .before .before .before .before .before .before .before .before .before .item .ensures) in
+      let f = found (c .before .before .before .before .before .before .before .before .before .before .before .before .before .before .before
+      .before .before .before .before .before .before .before .r .given .1)
+      (c .before .before .before .before .before .before .before .before .before .before .before .before .before .before .before .before .before
+      .before .before .before .before .before .before .before .before .before .item .ensures) in
       let i = c .before .before .before .before .before .before .before .before .before .before .before .before .before .before .before .before .loop .inv in
       let k = took (c .before .before .before .before .before .before .before .before .before .before .before .before .next .given .1) (c .before .before .before .before .before .before .before .before .before .before .before .before .before .before .sym .ensures) in
       let e = found (c .before .before .before .before .before .r2 .given .1) (c .before .before .before .before .before .before .before .before .before .item2 .ensures) in
-      omega (arith, c .before .before .before .before .before .before .before .before .before .before .before .before .before .before .before .before .before .before .before .before .before .before .before .before .before .before .item .ensures .kept .length-kept, c .before .before .before .before .before .before .before .before .before .before .before .before .before .before .before .before .before .before .before .node .ensures .kept .length-kept, i .gathering .kept .length-kept, c .before .before .before .before .before .before .before .before .before .item2 .ensures .kept .length-kept, c .before .before .node2 .ensures .kept .length-kept)
+      omega (
+        arith,
+        c .before .before .before .before .before .before .before .before .before .before .before .before .before .before .before .before
+            .before .before .before .before .before .before .before .before .before .before .item .ensures .kept .length-kept,
+        c .before .before .before .before .before .before .before .before .before .before .before .before .before .before .before .before .before
+            .before .before .node .ensures .kept .length-kept,
+        i .gathering .kept .length-kept,
+        c .before .before .before .before .before .before .before .before .before .item2 .ensures .kept .length-kept,
+        c .before .before .node2 .ensures .kept .length-kept,
+      )
 
   loop-less : Of lts.Need-loop-less
   loop-less c =
@@ -135,7 +177,12 @@ module _ (t : ℕ) where
       let k = took (c .before .before .before .before .before .before .before .before .before .before .before .before .next .given .1) (c .before .before .before .before .before .before .before .before .before .before .before .before .before .before .sym .ensures) in
       let e = found (c .before .before .before .before .before .r2 .given .1) (c .before .before .before .before .before .before .before .before .before .item2 .ensures) in
       record {
-        gathering = gathering-next (comma-repetition _ (c .before .before .before .before .before .before .before .before .before .before .before .before .before .before .before .before .before .before .before .before .before .before .before .before .before .before .before .before .before .before .args .kind) _) (i .gathering) (k .says) (omega arith) (c .before .before .before .before .before .before .before .before .before .item2 .ensures .kept) e (c .before .before .node2 .ensures);
+        gathering = gathering-next (comma-repetition _
+            (c .before .before .before .before .before .before .before .before .before .before .before .before .before .before .before .before
+            .before .before .before .before .before .before .before .before .before .before .before .before .before .before .args .kind) _)
+            (i .gathering) (k .says) (omega arith)
+            (c .before .before .before .before .before .before .before .before .before .item2 .ensures .kept) e
+            (c .before .before .node2 .ensures);
         forward = omega arith;
         within = omega arith;
       }
@@ -144,11 +191,29 @@ module _ (t : ℕ) where
   close-requires c κs =
       let s = c .before .before .before .before .before .before .before .before .before .before .before .before .before .before .before .before .before .before .before .pre .1 in
       let f = found (c .before .before .before .before .before .before .before .before .before .before .before .r .given .1) (c .before .before .before .before .before .before .before .before .before .before .before .before .before .before .before .item .ensures) in
-      let i = c .before .before .before .before .before .loop .inv in
-      (λ _. omega (arith, c .before .before .before .before .before .before .before .before .before .before .before .before .before .before .before .item .ensures .kept .length-kept, c .before .before .before .before .before .before .before .before .node .ensures .kept .length-kept, i .gathering .kept .length-kept), omega (arith, c .before .before .before .before .before .before .before .before .before .before .before .before .before .before .before .item .ensures .kept .length-kept, c .before .before .before .before .before .before .before .before .node .ensures .kept .length-kept, i .gathering .kept .length-kept))
+      let i = c .before .before .before .before .before .loop .inv in (
+        λ _. omega (
+          arith,
+          c .before .before .before .before .before .before .before .before .before .before .before .before .before .before .before
+              .item .ensures .kept .length-kept,
+          c .before .before .before .before .before .before .before .before .node .ensures .kept .length-kept,
+          i .gathering .kept .length-kept,
+        ),
+        omega (
+          arith,
+          c .before .before .before .before .before .before .before .before .before .before .before .before .before .before .before .item .ensures
+              .kept .length-kept,
+          c .before .before .before .before .before .before .before .before .node .ensures .kept .length-kept,
+          i .gathering .kept .length-kept,
+        ),
+      )
 
   same-length-3 : Of lts.Need-same-length-3
-  same-length-3 c = closes-kept _ _ (c .before .before .close .result) (c .before .before .close .ensures) .length-kept ∙ c .before .before .before .before .before .before .before .before .loop .inv .gathering .kept .length-kept ∙ c .before .before .before .before .before .before .before .before .before .before .before .node .ensures .kept .length-kept ∙ c .before .before .before .before .before .before .before .before .before .before .before .before .before .before .before .before .before .before .item .ensures .kept .length-kept
+  same-length-3 c = closes-kept _ _ (c .before .before .close .result)
+      (c .before .before .close .ensures) .length-kept ∙ c .before .before .before .before .before .before .before .before .loop .inv .gathering
+      .kept .length-kept ∙ c .before .before .before .before .before .before .before .before .before .before .before .node .ensures .kept
+      .length-kept ∙ c .before .before .before .before .before .before .before .before .before .before .before .before .before .before .before
+      .before .before .before .item .ensures .kept .length-kept
 
   returns-3 : Of lts.Need-returns-3
   returns-3 c =
@@ -156,7 +221,9 @@ module _ (t : ℕ) where
       let f = found (c .before .before .before .before .before .before .before .before .before .before .before .before .before .before .r .given .1) (c .before .before .before .before .before .before .before .before .before .before .before .before .before .before .before .before .before .before .item .ensures) in
       let k0 = kept-next (f .grows) (c .before .before .before .before .before .before .before .before .before .before .before .before .before .before .before .before .before .before .item .ensures .kept) (c .before .before .before .before .before .before .before .before .before .before .before .node .ensures .kept) in
       let i = c .before .before .before .before .before .before .before .before .loop .inv in
-      gathering-end (comma-repetition _ (c .before .before .before .before .before .before .before .before .before .before .before .before .before .before .before .before .before .before .before .before .before .before .args .kind) _) (i .gathering) (c .before .before .close .result) (rw (c .before .before .before .before .enum-told .given .1) at (c .before .before .before .before .before .before .sym .ensures)) k0
+      gathering-end (comma-repetition _ (c .before .before .before .before .before .before .before .before .before .before .before .before .before
+      .before .before .before .before .before .before .before .before .before .args .kind) _) (i .gathering) (c .before .before .close .result)
+      (rw (c .before .before .before .before .enum-told .given .1) at (c .before .before .before .before .before .before .sym .ensures)) k0
       (based-kept (kept-trans k0 (i .gathering .kept)) (s .above) (s .based)) (omega (arith, i .gathering .above)) (c .before .before .close .ensures) (i .forward)
       (λ _. omega (arith, i .within)) (λ _. omega (arith, i .within))
 

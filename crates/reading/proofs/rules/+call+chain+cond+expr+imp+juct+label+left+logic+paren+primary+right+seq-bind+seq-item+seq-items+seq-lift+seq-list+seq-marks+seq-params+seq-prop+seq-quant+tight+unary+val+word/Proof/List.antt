@@ -48,7 +48,10 @@ module _ (t : ℕ) where
   returns-2 c =
       rw (listed-none _ _ _ _ _ _ (rw (c .before .enum-told .given .1) at (c .before .before .before .before .before .items .ensures .agrees)))
       (shut-builds _ _ _ _ _ (c .shut2 .result) (c .shut2 .ensures) (c .before .before .before .before .before .before .before .before .before .before .pre .1 .1) (c .before .before .before .before .before .items .ensures .kept)
-      (nil-holds (c .before .before .before .before .before .before .before .before .before .before .args .kind) (based-kept (c .before .before .before .before .before .items .ensures .kept) (omega (arith, c .before .before .before .before .before .before .before .before .before .before .pre .1 .0)) (c .before .before .before .before .before .before .before .before .before .before .pre .1 .0 .based)))
+      (nil-holds (c .before .before .before .before .before .before .before .before .before .before .args .kind)
+      (based-kept (c .before .before .before .before .before .items .ensures .kept)
+      (omega (arith, c .before .before .before .before .before .before .before .before .before .before .pre .1 .0))
+      (c .before .before .before .before .before .before .before .before .before .before .pre .1 .0 .based)))
       (omega (arith, c .before .before .before .before .before .before .before .before .before .before .pre .1 .0)) (omega arith) (omega arith) (omega arith))
 
   same-length-3 : Of lts.Need-same-length-3

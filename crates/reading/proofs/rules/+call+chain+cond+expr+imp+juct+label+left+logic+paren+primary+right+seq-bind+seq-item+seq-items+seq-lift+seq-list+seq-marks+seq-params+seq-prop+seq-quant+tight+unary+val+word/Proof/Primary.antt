@@ -39,8 +39,13 @@ module _ (t : ℕ) where
       (builds-first _ (c .match2 .keys2) (c .before .before .before .literal .ensures))
 
   paren-requires : Of lts.Need-paren-requires
-  paren-requires c κs =
-      (omega (arith, c .before .before .before .before .before .before .before .before .before .before .before .before .pre .0), room-on (c .before .before .before .before .before .before .before .before .before .before .before .before .pre .1) (c .before .before .before .before .before .literal .ensures .kept) (omega arith) (c .before .before .before .before .before .before .before .before .before .before .before .before .pre .1 .inside) (omega arith))
+  paren-requires c κs = (
+    omega (arith, c .before .before .before .before .before .before .before .before .before .before .before .before .pre .0),
+    room-on
+        (c .before .before .before .before .before .before .before .before .before .before .before .before .pre .1)
+        (c .before .before .before .before .before .literal .ensures .kept) (omega arith)
+        (c .before .before .before .before .before .before .before .before .before .before .before .before .pre .1 .inside) (omega arith),
+  )
 
   same-length-2 : Of lts.Need-same-length-2
   same-length-2 c = c .before .before .word .ensures .kept .length-kept
@@ -53,7 +58,10 @@ module _ (t : ℕ) where
 
   returns-3 : Of lts.Need-returns-3
   returns-3 c =
-      rw (wordless (c .before .before .before .before .before .before .before .before .before .before .before .before .before .before .before .args .text .now) (c .before .before .before .before .before .before .before .before .before .before .before .before .before .before .before .args .at) _ _ (rw (c .before .before .before .before .before .before .before .before .before .before .enum-told .given .1) at (c .before .before .before .before .before .before .before .before .before .before .before .before .name .ensures)))
+      rw (wordless (c .before .before .before .before .before .before .before .before .before .before .before .before .before .before .before .args
+      .text .now) (c .before .before .before .before .before .before .before .before .before .before .before .before .before .before .before
+      .args .at) _ _ (rw (c .before .before .before .before .before .before .before .before .before .before .enum-told .given .1) at
+      (c .before .before .before .before .before .before .before .before .before .before .before .before .name .ensures)))
       (builds-else _ _ (rw (c .before .before .before .before .enum-told2 .given .1) at (c .before .before .before .before .before .before .before .before .literal .ensures .agrees))
       (builds-from (kept-trans (c .before .before .before .before .before .before .before .before .literal .ensures .kept) (c .before .before .paren .ensures .kept)) (omega arith) (omega arith) (omega arith) (c .before .before .paren .ensures)))
 

@@ -62,7 +62,11 @@ module _ (t : ℕ) where
 
   returns-2 : Of lts.Need-returns-2
   returns-2 c =
-      property-stopped (at-marked (c .before .before .before .before .before .before .before)) _ _ _ _ _ _ _ (c .before .before .before .before .before .before .before .before .before .before .before .before .before .before .keyword .result) (c .before .before .before .before .before .before .before .before .before .before .before .before .before .before .keyword .ensures) (found (c .before .before .before .before .before .before .before .marked .given .1) (c .before .before .before .before .before .before .before .before .before .before .before .marks .ensures) .says) refl
+      property-stopped (at-marked (c .before .before .before .before .before .before .before)) _ _ _ _ _ _ _
+      (c .before .before .before .before .before .before .before .before .before .before .before .before .before .before .keyword .result)
+      (c .before .before .before .before .before .before .before .before .before .before .before .before .before .before .keyword .ensures)
+      (found (c .before .before .before .before .before .before .before .marked .given .1)
+      (c .before .before .before .before .before .before .before .before .before .before .before .marks .ensures) .says) refl
       (c .before .before .before .before .expr .ensures) (c .before .match2 .keys2) (c .needed-if .ensures)
 
   over-requires : Of lts.Need-over-requires
@@ -73,7 +77,12 @@ module _ (t : ℕ) where
 
   returns-3 : Of lts.Need-returns-3
   returns-3 c =
-      property-done (at-marked (c .before .before .before .before .before .before .before .before .before .before .before .before)) (found (c .before .before .before .before .before .before .before .before .before .before .before .before .marked .given .1) (c .before .before .before .before .before .before .before .before .before .before .before .before .before .before .before .before .marks .ensures) .value) refl refl (c .before .before .before .before .before .value .given .1) (c .before .before .before .before .before .before .before .before .before .expr .ensures) (c .before .before .over .ensures .0) (c .before .before .over .ensures .1) refl
+      property-done (at-marked (c .before .before .before .before .before .before .before .before .before .before .before .before))
+      (found (c .before .before .before .before .before .before .before .before .before .before .before .before .marked .given .1)
+      (c .before .before .before .before .before .before .before .before .before .before .before .before .before .before .before .before .marks
+      .ensures) .value) refl refl (c .before .before .before .before .before .value .given .1)
+      (c .before .before .before .before .before .before .before .before .before .expr .ensures) (c .before .before .over .ensures .0)
+      (c .before .before .over .ensures .1) refl
 
   pub spec : {M : Type 1} → lts.Closed claims (prop-at t) Post M
   spec =

@@ -18,7 +18,26 @@ use fn.rules.word.Reads.{Post}
 
 module _ (t : ℕ) where
   abbrev claims : lts.Claims
-  claims = (fn.step.is_word.Reads.Asked, fn.step.is_word.Reads.Learnt, cond-below t, fn.rules.cond.Reads.Post, val-below t, fn.rules.val.Reads.Post, quant-below t, fn.rules.seq.quant.Reads.Post, lift-below t, fn.rules.seq.lift.Reads.Post, fn.leaf.constant.Reads.Asked, fn.leaf.constant.Reads.Learnt, fn.step.sym.Reads.Asked, fn.step.sym.Reads.Learnt, call-below t, fn.rules.call.Reads.Post, label-below t, fn.rules.label.Reads.Post)
+  claims = (
+    fn.step.is_word.Reads.Asked,
+    fn.step.is_word.Reads.Learnt,
+    cond-below t,
+    fn.rules.cond.Reads.Post,
+    val-below t,
+    fn.rules.val.Reads.Post,
+    quant-below t,
+    fn.rules.seq.quant.Reads.Post,
+    lift-below t,
+    fn.rules.seq.lift.Reads.Post,
+    fn.leaf.constant.Reads.Asked,
+    fn.leaf.constant.Reads.Learnt,
+    fn.step.sym.Reads.Asked,
+    fn.step.sym.Reads.Learnt,
+    call-below t,
+    fn.rules.call.Reads.Post,
+    label-below t,
+    fn.rules.label.Reads.Post,
+  )
 
   abbrev Of : (lts.Claims → In 2 lts.ps → Out 2 lts.ps lts.r → Type 0) → Type 0
   Of N = N claims (word-at t) Post
@@ -157,13 +176,37 @@ module _ (t : ℕ) where
   call-requires : Of lts.Need-call-requires
   call-requires c κs =
       let d = c .before .before .before .before .before .before .before .before .before .before .before .before .before .before .before .before .before .before .before .before .before .before .before .before .before .before .before .before .before .pre .1 .1 in
-      let k = took (c .before .before .next .given .1) (c .before .before .before .before .sym .ensures) in
-      (omega (arith, c .before .before .before .before .before .before .before .before .before .before .before .before .before .before .before .before .before .before .before .before .before .before .before .before .before .before .before .before .before .pre .0), (room-on (c .before .before .before .before .before .before .before .before .before .before .before .before .before .before .before .before .before .before .before .before .before .before .before .before .before .before .before .before .before .pre .1 .0) (c .before .before .before .before .before .before .before .before .before .before .constant .ensures .kept) (omega arith) (k .inside) (omega (arith, k, word-past d)), d))
+      let k = took (c .before .before .next .given .1) (c .before .before .before .before .sym .ensures) in (
+        omega (
+          arith,
+          c .before .before .before .before .before .before .before .before .before .before .before .before .before .before .before
+              .before .before .before .before .before .before .before .before .before .before .before .before .before .before .pre .0,
+        ),
+        (
+          room-on (c .before .before .before .before .before .before .before .before .before .before .before .before .before .before .before .before
+              .before .before .before .before .before .before .before .before .before .before .before .before .before .pre .1 .0)
+              (c .before .before .before .before .before .before .before .before .before .before .constant .ensures .kept) (omega arith) (k .inside)
+              (omega (arith, k, word-past d)),
+          d,
+        ),
+      )
 
   label-requires : Of lts.Need-label-requires
   label-requires c κs =
-      let d = c .before .before .before .before .before .before .before .before .before .before .before .before .before .before .before .before .before .before .before .before .before .before .before .before .before .before .before .before .pre .1 .1 in
-      (omega (arith, c .before .before .before .before .before .before .before .before .before .before .before .before .before .before .before .before .before .before .before .before .before .before .before .before .before .before .before .before .pre .0), (room-on (c .before .before .before .before .before .before .before .before .before .before .before .before .before .before .before .before .before .before .before .before .before .before .before .before .before .before .before .before .pre .1 .0) (c .before .before .before .before .before .before .before .before .before .constant .ensures .kept) (omega arith) (d .inside) (omega (arith, word-past d)), d))
+      let d = c .before .before .before .before .before .before .before .before .before .before .before .before .before .before .before .before .before .before .before .before .before .before .before .before .before .before .before .before .pre .1 .1 in (
+        omega (
+          arith,
+          c .before .before .before .before .before .before .before .before .before .before .before .before .before .before .before
+              .before .before .before .before .before .before .before .before .before .before .before .before .before .pre .0,
+        ),
+        (
+          room-on (c .before .before .before .before .before .before .before .before .before .before .before .before .before .before .before .before
+              .before .before .before .before .before .before .before .before .before .before .before .before .pre .1 .0)
+              (c .before .before .before .before .before .before .before .before .before .constant .ensures .kept) (omega arith) (d .inside)
+              (omega (arith, word-past d)),
+          d,
+        ),
+      )
 
   same-length-7 : Of lts.Need-same-length-7
   same-length-7 c = c .before .before .call .ensures .kept .length-kept ∙ c .before .before .before .before .before .before .before .before .before .before .before .before .before .constant .ensures .kept .length-kept
@@ -173,9 +216,18 @@ module _ (t : ℕ) where
   returns-7 c =
       let d = c .before .before .before .before .before .before .before .before .before .before .before .before .before .before .before .before .before .before .before .before .before .before .before .before .before .before .before .before .before .before .before .before .pre .1 .1 in
       let k = took (c .before .before .before .before .before .next .given .1) (c .before .before .before .before .before .before .before .sym .ensures) in
-      builds-skip _ _ (word-absent d _ (c .before .before .before .before .before .before .before .before .before .before .before .before .before .before .before .before .before .before .before .before .before .before .before .before .before .before .before .before .is-word .ensures) (c .before .before .before .before .before .before .before .before .before .before .before .before .before .before .before .before .before .before .before .before .before .before .before .before .before .before .before .if1 .left))
-      (builds-skip _ _ (word-absent d _ (c .before .before .before .before .before .before .before .before .before .before .before .before .before .before .before .before .before .before .before .before .before .before .before .before .before .is-word2 .ensures) (c .before .before .before .before .before .before .before .before .before .before .before .before .before .before .before .before .before .before .before .before .before .before .before .before .if2 .left))
-      (builds-skip _ _ (word-absent d _ (c .before .before .before .before .before .before .before .before .before .before .before .before .before .before .before .before .before .before .before .before .before .before .is-word3 .ensures) (c .before .before .before .before .before .before .before .before .before .before .before .before .before .before .before .before .before .before .before .before .before .if3 .left))
+      builds-skip _ _ (word-absent d _ (c .before .before .before .before .before .before .before .before .before .before .before .before .before
+      .before .before .before .before .before .before .before .before .before .before .before .before .before .before .before .is-word .ensures)
+      (c .before .before .before .before .before .before .before .before .before .before .before .before .before .before .before .before .before
+      .before .before .before .before .before .before .before .before .before .before .if1 .left))
+      (builds-skip _ _ (word-absent d _ (c .before .before .before .before .before .before .before .before .before .before .before .before .before
+      .before .before .before .before .before .before .before .before .before .before .before .before .is-word2 .ensures)
+      (c .before .before .before .before .before .before .before .before .before .before .before .before .before .before .before .before .before
+      .before .before .before .before .before .before .before .if2 .left))
+      (builds-skip _ _ (word-absent d _ (c .before .before .before .before .before .before .before .before .before .before .before .before .before
+      .before .before .before .before .before .before .before .before .before .is-word3 .ensures)
+      (c .before .before .before .before .before .before .before .before .before .before .before .before .before .before .before .before .before
+      .before .before .before .before .if3 .left))
       (builds-skip _ _ (word-absent d _ (c .before .before .before .before .before .before .before .before .before .before .before .before .before .before .before .before .before .before .before .is-word4 .ensures) (c .before .before .before .before .before .before .before .before .before .before .before .before .before .before .before .before .before .before .if4 .left))
       (builds-skip _ _ (word-absent d _ (c .before .before .before .before .before .before .before .before .before .before .before .before .before .before .before .before .is-word5 .ensures) (c .before .before .before .before .before .before .before .before .before .before .before .before .before .before .before .if5 .left))
       (rw (word-atomic d _ _)
@@ -190,9 +242,18 @@ module _ (t : ℕ) where
   unfolding parsePrimaryExpr afterName
   returns-8 c =
       let d = c .before .before .before .before .before .before .before .before .before .before .before .before .before .before .before .before .before .before .before .before .before .before .before .before .before .before .before .before .before .before .before .pre .1 .1 in
-      builds-skip _ _ (word-absent d _ (c .before .before .before .before .before .before .before .before .before .before .before .before .before .before .before .before .before .before .before .before .before .before .before .before .before .before .before .is-word .ensures) (c .before .before .before .before .before .before .before .before .before .before .before .before .before .before .before .before .before .before .before .before .before .before .before .before .before .before .if1 .left))
-      (builds-skip _ _ (word-absent d _ (c .before .before .before .before .before .before .before .before .before .before .before .before .before .before .before .before .before .before .before .before .before .before .before .before .is-word2 .ensures) (c .before .before .before .before .before .before .before .before .before .before .before .before .before .before .before .before .before .before .before .before .before .before .before .if2 .left))
-      (builds-skip _ _ (word-absent d _ (c .before .before .before .before .before .before .before .before .before .before .before .before .before .before .before .before .before .before .before .before .before .is-word3 .ensures) (c .before .before .before .before .before .before .before .before .before .before .before .before .before .before .before .before .before .before .before .before .if3 .left))
+      builds-skip _ _ (word-absent d _ (c .before .before .before .before .before .before .before .before .before .before .before .before .before
+      .before .before .before .before .before .before .before .before .before .before .before .before .before .before .is-word .ensures)
+      (c .before .before .before .before .before .before .before .before .before .before .before .before .before .before .before .before .before
+      .before .before .before .before .before .before .before .before .before .if1 .left))
+      (builds-skip _ _ (word-absent d _ (c .before .before .before .before .before .before .before .before .before .before .before .before .before
+      .before .before .before .before .before .before .before .before .before .before .before .is-word2 .ensures)
+      (c .before .before .before .before .before .before .before .before .before .before .before .before .before .before .before .before .before
+      .before .before .before .before .before .before .if2 .left))
+      (builds-skip _ _ (word-absent d _ (c .before .before .before .before .before .before .before .before .before .before .before .before .before
+      .before .before .before .before .before .before .before .before .is-word3 .ensures)
+      (c .before .before .before .before .before .before .before .before .before .before .before .before .before .before .before .before .before
+      .before .before .before .if3 .left))
       (builds-skip _ _ (word-absent d _ (c .before .before .before .before .before .before .before .before .before .before .before .before .before .before .before .before .before .before .is-word4 .ensures) (c .before .before .before .before .before .before .before .before .before .before .before .before .before .before .before .before .before .if4 .left))
       (builds-skip _ _ (word-absent d _ (c .before .before .before .before .before .before .before .before .before .before .before .before .before .before .before .is-word5 .ensures) (c .before .before .before .before .before .before .before .before .before .before .before .before .before .before .if5 .left))
       (rw (word-atomic d _ _)
@@ -207,8 +268,14 @@ module _ (t : ℕ) where
   unfolding parsePrimaryExpr afterName
   returns-9 c =
       let d = c .before .before .before .before .before .before .before .before .before .before .before .before .before .before .before .before .before .before .before .before .before .before .before .before .before .before .before .before .pre .1 .1 in
-      builds-skip _ _ (word-absent d _ (c .before .before .before .before .before .before .before .before .before .before .before .before .before .before .before .before .before .before .before .before .before .before .before .before .is-word .ensures) (c .before .before .before .before .before .before .before .before .before .before .before .before .before .before .before .before .before .before .before .before .before .before .before .if1 .left))
-      (builds-skip _ _ (word-absent d _ (c .before .before .before .before .before .before .before .before .before .before .before .before .before .before .before .before .before .before .before .before .before .is-word2 .ensures) (c .before .before .before .before .before .before .before .before .before .before .before .before .before .before .before .before .before .before .before .before .if2 .left))
+      builds-skip _ _ (word-absent d _ (c .before .before .before .before .before .before .before .before .before .before .before .before .before
+      .before .before .before .before .before .before .before .before .before .before .before .is-word .ensures)
+      (c .before .before .before .before .before .before .before .before .before .before .before .before .before .before .before .before .before
+      .before .before .before .before .before .before .if1 .left))
+      (builds-skip _ _ (word-absent d _ (c .before .before .before .before .before .before .before .before .before .before .before .before .before
+      .before .before .before .before .before .before .before .before .is-word2 .ensures)
+      (c .before .before .before .before .before .before .before .before .before .before .before .before .before .before .before .before .before
+      .before .before .before .if2 .left))
       (builds-skip _ _ (word-absent d _ (c .before .before .before .before .before .before .before .before .before .before .before .before .before .before .before .before .before .before .is-word3 .ensures) (c .before .before .before .before .before .before .before .before .before .before .before .before .before .before .before .before .before .if3 .left))
       (builds-skip _ _ (word-absent d _ (c .before .before .before .before .before .before .before .before .before .before .before .before .before .before .before .is-word4 .ensures) (c .before .before .before .before .before .before .before .before .before .before .before .before .before .before .if4 .left))
       (builds-skip _ _ (word-absent d _ (c .before .before .before .before .before .before .before .before .before .before .before .before .is-word5 .ensures) (c .before .before .before .before .before .before .before .before .before .before .before .if5 .left))

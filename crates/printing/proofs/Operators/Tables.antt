@@ -1,0 +1,129 @@
+-- The operators of the words 0 to 16 and above, by their ranges.
+use Prim.Native.Nat.{ℕ, zero, suc, _+_, _/_, _%_, _≤_, _<_}
+use native.Mathlib.Omega.{arith}
+use mathlib.Core.Path.{_≡_, refl, sym, ap, _∙_, subst}
+use mathlib.Core.Bool.{Bool, true, false}
+use mathlib.Core.List.{List, [], _∷_, _++_}
+use lib.ListN.{getD, List·getD-eq-default}
+use lib.Dec.{leb, ltb}
+use borrow.Author.Tests.{leb-true, leb-false, le-ltb}
+use Rattle.grammar.specs.Words.{bytes}
+use Rattle.tree.specs.Ast.{Operator, IfThenElse, Equiv, LogicalImp, LogicalAnd, LogicalOr, Eq, Neq, Less, AtMost, Plus, Minus, Times, Div, Mod, LogicalNot, UnaryMinus, ArgumentCount}
+use Rattle.tree.specs.Resolve.{part}
+use Rattle.tree.specs.Words.{operatorWord}
+use Rattle.printing.specs.declared.power.TieBreaker.the-variants.{OperatorWins, ContextWins}
+use Rattle.printing.specs.OperatorWords.{operators, operatorOf}
+use Rattle.printing.specs.PrintUtil.{power, ToString, BindingStrength}
+use Rattle.printing.specs.Printer.{breaksLine}
+use Rattle.printing.specs.Wrote.{Wrote}
+
+pub operator-of : (o : Operator) → operatorOf (operatorWord o) ≡ o
+operator-of IfThenElse = refl
+operator-of Equiv = refl
+operator-of LogicalImp = refl
+operator-of LogicalAnd = refl
+operator-of LogicalOr = refl
+operator-of Eq = refl
+operator-of Neq = refl
+operator-of Less = refl
+operator-of AtMost = refl
+operator-of Plus = refl
+operator-of Minus = refl
+operator-of Times = refl
+operator-of Div = refl
+operator-of Mod = refl
+operator-of LogicalNot = refl
+operator-of UnaryMinus = refl
+
+-- what holds of each number of a range
+abbrev Each : (ℕ → Type 0) → ℕ → ℕ → Type 0
+Each P first zero = Unit {0}
+Each P first (suc n) = P first × Each P (suc first) n
+
+each : (P : ℕ → Type 0) (first n : ℕ) → Each P first n → (w : ℕ) → first ≤ w → w < first + n → P w
+each P first zero h w a b = absurd (omega arith)
+each P first (suc n) h w a b = by-test (leb (suc first) w) refl (λ l m. each P (suc first) n (h .1) w l m)
+  where
+    by-test : (t : Bool) → leb (suc first) w ≡ t → (suc first ≤ w → w < suc first + n → P w) → P w
+    by-test true e r = r (leb-true (suc first) w e) (omega arith)
+    by-test false e r = let l = leb-false (suc first) w e in let s : first ≡ w = omega arith in subst P s (h .0)
+
+above : (P : Operator → Type 0) → P LogicalNot → P UnaryMinus → (w : ℕ) → 15 ≤ w → P (operatorOf w)
+above P x y w h = by-test (leb 16 w) refl
+  where
+    by-test : (t : Bool) → leb 16 w ≡ t → P (operatorOf w)
+    by-test true e = subst P (sym (List·getD-eq-default operators UnaryMinus (leb-true 16 w e))) y
+    by-test false e = let l = leb-false 16 w e in let s : 15 ≡ w = omega arith in subst (λ (k : ℕ). P (operatorOf k)) s x
+
+pub first-operator : (P : Operator → Type 0) (w : ℕ) → w < 2 → P IfThenElse → P (operatorOf w)
+first-operator P w h x = each (λ k. P (operatorOf k)) 0 2 (x, (x, tt)) w (omega arith) h
+
+pub count-three : (w : ℕ) → w < 2 → 3 ≡ ArgumentCount (operatorOf w)
+count-three w h = first-operator (λ o. 3 ≡ ArgumentCount o) w h refl
+
+pub count-two : (w : ℕ) → 2 ≤ w → w < 15 → 2 ≡ ArgumentCount (operatorOf w)
+count-two w a b = each (λ k. 2 ≡ ArgumentCount (operatorOf k)) 2 13 (refl, (refl, (refl, (refl, (refl, (refl, (refl, (refl, (refl, (refl, (refl, (refl, (refl, tt))))))))))))) w a b
+
+pub count-one : (w : ℕ) → 15 ≤ w → 1 ≡ ArgumentCount (operatorOf w)
+count-one w h = above (λ o. 1 ≡ ArgumentCount o) refl refl w h
+
+pub no-break-low : (w : ℕ) → w < 3 → false ≡ breaksLine (operatorOf w)
+no-break-low w h = each (λ k. false ≡ breaksLine (operatorOf k)) 0 3 (refl, (refl, (refl, tt))) w (omega arith) h
+
+-- from 3 on the test is whether the word is below 6
+pub breaks-high : (w : ℕ) → 3 ≤ w → ltb w 6 ≡ breaksLine (operatorOf w)
+breaks-high w h = by-test (leb 15 w) refl
+  where
+    by-test : (t : Bool) → leb 15 w ≡ t → ltb w 6 ≡ breaksLine (operatorOf w)
+    by-test true e =
+        let l = leb-true 15 w e in
+        le-ltb w 6 (omega arith) ∙ above (λ o. false ≡ breaksLine o) refl refl w l
+    by-test false e =
+        each (λ k. ltb k 6 ≡ breaksLine (operatorOf k)) 3 12 (refl, (refl, (refl, (refl, (refl, (refl, (refl, (refl, (refl, (refl, (refl, (refl, tt)))))))))))) w h (leb-false 15 w e)
+
+pub comparison-strength : (w : ℕ) → 6 ≤ w → w < 10 → power 50 50 ContextWins ≡ BindingStrength (operatorOf w)
+comparison-strength w a b = each (λ k. power 50 50 ContextWins ≡ BindingStrength (operatorOf k)) 6 4 (refl, (refl, (refl, (refl, tt)))) w a b
+
+pub unary-strength : (w : ℕ) → 15 ≤ w → power 80 80 OperatorWins ≡ BindingStrength (operatorOf w)
+unary-strength w h = above (λ o. power 80 80 OperatorWins ≡ BindingStrength o) refl refl w h
+
+-- ---- spellings
+
+-- the code's constants
+abbrev pub spellings : List ℕ
+spellings =
+    0x01b ∷ 0x01b ∷ 0x0d3 ∷ 0x112 ∷ 0x141 ∷ 0x161 ∷ 0x181 ∷ 0x1a1 ∷ 0x1c0 ∷ 0x1d1 ∷ 0x1f0 ∷ 0x200 ∷ 0x210 ∷ 0x222 ∷ 0x252 ∷ 0x280 ∷ []
+
+abbrev pub spellingRow : List ℕ
+spellingRow = bytes "-if-then-else<==>==>&&||==!=<<=+-*divmod!"
+
+-- an operator's spelling stands at its place of the row
+abbrev Spells : Operator → ℕ → Type 0
+Spells o place = part spellingRow (place / 16) (place % 16 + 1) ≡ bytes (ToString o)
+
+-- what holds of the entries of two lists, one beside the other
+abbrev Beside : {A B : Type 0} → (A → B → Type 0) → List A → List B → Type 0
+Beside R [] [] = Unit {0}
+Beside R [] (y ∷ ys) = ⊥
+Beside R (x ∷ xs) [] = ⊥
+Beside R (x ∷ xs) (y ∷ ys) = R x y × Beside R xs ys
+
+beside : {A B : Type 0} (R : A → B → Type 0) (xs : List A) (ys : List B) (d : A) (e : B) → Beside R xs ys → R d e → (i : ℕ) → R (getD xs i d) (getD ys i e)
+beside R [] [] d e h r i = r
+beside R [] (y ∷ ys) d e h r i = absurd h
+beside R (x ∷ xs) [] d e h r i = absurd h
+beside R (x ∷ xs) (y ∷ ys) d e h r zero = h .0
+beside R (x ∷ xs) (y ∷ ys) d e h r (suc i) = beside R xs ys d e (h .1) r i
+
+each-spelling : (w : ℕ) → Spells (operatorOf w) (getD spellings w 0)
+unfolding part
+each-spelling =
+    beside Spells operators spellings UnaryMinus 0
+    (refl, (refl, (refl, (refl, (refl, (refl, (refl, (refl, (refl, (refl, (refl, (refl, (refl, (refl, (refl, (refl, tt)))))))))))))))) refl
+
+-- what was written is the operator's spelling
+pub spelt : (w : ℕ) {place : ℕ} {x b : List ℕ} {p : ℕ} {b′ : List ℕ} {p′ : ℕ} → place ≡ getD spellings w 0 → x ≡ part spellingRow (place / 16) (place % 16 + 1)
+    → Wrote (λ rest. x ++ rest) b p b′ p′ → Wrote (λ rest. bytes (ToString (operatorOf w)) ++ rest) b p b′ p′
+spelt w {place} {x} {b} {p} {b′} {p′} e f v =
+    subst (λ (y : List ℕ). Wrote (λ rest. y ++ rest) b p b′ p′)
+    (f ∙ ap (λ (k : ℕ). part spellingRow (k / 16) (k % 16 + 1)) e ∙ each-spelling w) v

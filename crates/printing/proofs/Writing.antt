@@ -1,0 +1,3 @@
+-- Writes into a buffer.
+pub mod Bytes
+pub mod Decimal

@@ -1,0 +1,60 @@
+-- A call: its name, its arguments, the bracket.
+use Prim.Native.Nat.{ℕ}
+use native.Mathlib.Omega.{arith}
+use borrow.Author.Needs.{needs}
+use borrow.Fn.Kinds.{In, Out}
+use mathlib.Core.Path.{refl}
+use Rattle.printing.specs.declared.format.ExprFormatOption.the-variants.{SingleLine}
+use Rattle.printing.specs.PrintUtil.{Init}
+use Rattle.printing.specs.ExprParts.{aCall}
+use Rattle.printing.proofs as fn
+use fn.ExprPrints.Equations.{call-print}
+use fn.ExprPrints.Reached.{Reached, begin, sooner, ahead, seen, text, part, ready, done}
+use fn.expression.+binary+call+cond+expr+form+label+let_expr+lift+list-closures+list-exprs+list-patterns+list-properties+list-triggers+listed+oper+quant+unary as cycle
+use cycle.Lts-call as lts
+use cycle.Proof.Ranks.{call-at, exprs-below}
+use fn.expression.call.Reads.{Post}
+
+module _ (t : ℕ) where
+  abbrev claims : lts.Claims
+  claims = (
+    fn.parts.call_head.Reads.Asked,
+    fn.parts.call_head.Reads.Learnt,
+    exprs-below t,
+    fn.expression.list.exprs.Reads.Post,
+    fn.write.put.Reads.Asked,
+    fn.write.put.Reads.Learnt,
+  )
+
+  abbrev Of : (lts.Claims → In 4 lts.ps → Out 4 lts.ps lts.r → Type 0) → Type 0
+  Of N = N claims (call-at t) Post
+
+  abbrev at-start : Of lts.Start → Reached
+  at-start c =
+      seen
+      (begin (c .args .text .now) Init SingleLine (aCall (c .args .text .now) (c .args .words .now) (c .args .ends .now) (c .args .at))
+      (c .args .words .now) (c .args .at) (c .args .out .now) (c .args .pos) 0 (c .pre .1) (c .pre .0))
+      _ (λ x. call-print (c .args .text .now) (x .tree .0) (x .tree .1) Init SingleLine)
+
+  abbrev at-head : Of lts.After-call-head → Reached
+  at-head c =
+      part (ahead (at-start (c .before .before .before .before .before .before)) 1 _ (λ x. refl)) (c .call-head .ensures) (λ x. x .tree .0) (λ x. tt) _ _ (λ x. refl) (λ x. refl)
+
+  abbrev at-list : Of lts.After-exprs → Reached
+  at-list c =
+      part (at-head (c .before .before .before .before)) (c .exprs .ensures) (λ x. x .tree .1)
+      (λ x. ready (at-head (c .before .before .before .before)) (omega arith) (x .given)) _ _ (λ x. refl) (λ x. refl)
+
+  abbrev at-end : Of lts.After-put → Reached
+  at-end c = text (at-list (c .before .before .before .before .before)) (c .put .ensures) _ (λ x. refl)
+
+  exprs-requires : Of lts.Need-exprs-requires
+  exprs-requires c κs = (sooner (at-head (c .before .before .before)) 0 (omega arith) (omega arith), tt)
+
+  returns : Of lts.Need-returns
+  returns c = done (at-end (c .before .before)) (λ x. refl) (λ x. refl)
+
+  pub spec : {M : Type 1} → lts.Closed claims (call-at t) Post M
+  spec =
+      lts.spec claims (call-at t) Post
+      (λ c. omega arith) (λ c κs. tt) exprs-requires (λ c. search needs) (λ c κs. tt) (λ c. search needs) returns

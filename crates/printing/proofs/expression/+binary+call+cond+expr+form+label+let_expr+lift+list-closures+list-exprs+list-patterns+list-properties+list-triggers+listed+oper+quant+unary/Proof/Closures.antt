@@ -1,0 +1,99 @@
+-- Closure bindings: none, or a name with its parameters, its value and the others.
+use Prim.Native.Nat.{ℕ, _<_}
+use native.Mathlib.Omega.{arith}
+use borrow.Author.Needs.{needs}
+use borrow.Fn.Kinds.{In, Out}
+use mathlib.Core.Path.{refl, _≡_}
+use mathlib.Core.List.{List}
+use lib.ListN.{getD, length}
+use Rattle.grammar.specs.Words.{bytes}
+use Rattle.printing.specs.declared.format.ExprFormatOption.the-variants.{SingleLine}
+use Rattle.printing.specs.PrintUtil.{Init}
+use Rattle.printing.specs.Text.{unless}
+use Rattle.printing.specs.ExprParts.{closureList}
+use Rattle.printing.specs.Parts.{Prints}
+use Rattle.printing.specs.declared.parts.Step.{Step}
+use Rattle.tree.proofs.get.Reads as get
+use Rattle.printing.proofs as fn
+use fn.PartPrints.Joins.{inside}
+use fn.ExprPrints.Equations.{closures-print}
+use fn.ExprPrints.Reached.{Reached, begin, sooner, item, seen, part, ready, expression, done}
+use fn.ExprPrints.SequencePrints.{closures-none, someClosures, closures-more}
+use fn.expression.+binary+call+cond+expr+form+label+let_expr+lift+list-closures+list-exprs+list-patterns+list-properties+list-triggers+listed+oper+quant+unary as cycle
+use cycle.Lts-list-closures as lts
+use cycle.Proof.Ranks.{closures-at, expr-below, closures-below}
+use fn.expression.list.closures.Reads.{Post}
+
+module _ (t : ℕ) where
+  abbrev claims : lts.Claims
+  claims = (
+    fn.parts.after.Reads.Asked,
+    fn.parts.after.Reads.Learnt,
+    get.Asked,
+    get.Learnt,
+    fn.parts.closure_head.Reads.Asked,
+    fn.parts.closure_head.Reads.Learnt,
+    expr-below t,
+    fn.expression.expr.Reads.Post,
+    closures-below t,
+    fn.expression.list.closures.Reads.Post,
+  )
+
+  abbrev Of : (lts.Claims → In 4 lts.ps → Out 4 lts.ps lts.r → Type 0) → Type 0
+  Of N = N claims (closures-at t) Post
+
+  abbrev at-start : (c : Of lts.Start) → c .args .at < length (c .args .words .now) → Reached
+  at-start c h =
+      seen
+      (begin (c .args .text .now) Init SingleLine (someClosures (c .args .text .now) (c .args .words .now) (c .args .ends .now) (c .args .at) (c .args .first))
+      (c .args .words .now) (c .args .at) (c .args .out .now) (c .args .pos) 0 h (c .pre .0))
+      _ (λ x. closures-print (c .args .text .now) (unless (c .args .first) (bytes ", ")) (x .tree .0) (x .tree .1) (x .tree .2) (x .tree .3))
+
+  -- an item stands here
+  is-inside : (c : Of lts.Else1) → c .before .before .before .before .before .before .before .args .at < length (c .before .before .before .before .before .before .before .args .words .now)
+  is-inside c = inside (c .before .before .before .before .before .before .before .args .words .now) (c .before .get .ensures) (c .if1 .left)
+
+  abbrev at-item : Of lts.Else1 → Reached
+  at-item c = item (at-start (c .before .before .before .before .before .before .before) (is-inside c)) (c .before .before .after .ensures) (is-inside c) _ _ (λ x. refl)
+
+  abbrev at-head : Of lts.After-closure-head → Reached
+  at-head c =
+      part (at-item (c .before .before)) (c .closure-head .ensures) (λ x. (x .tree .0, x .tree .1)) (λ x. tt) _ _ (λ x. refl) (λ x. refl)
+
+  abbrev at-value : Of lts.After-expr → Reached
+  at-value c =
+      expression (at-head (c .before .before .before .before)) SingleLine (c .expr .ensures) (λ x. x .tree .2)
+      (λ x. ready (at-head (c .before .before .before .before)) (omega arith) (x .given)) _ _ (λ x. refl) (λ x. refl) _ _ (λ x. refl) (λ x. refl)
+
+  abbrev at-end : Of lts.After-closures → Reached
+  at-end c =
+      part (at-value (c .before .before .before .before)) (c .closures .ensures) (λ x. x .tree .3)
+      (λ x. ready (at-value (c .before .before .before .before)) (omega arith) (x .given)) _ _ (λ x. refl) (λ x. refl)
+
+  returns : Of lts.Need-returns
+  returns c = closures-none (c .before .before .before .before .before .before .before .args .text .now) (c .before .before .after .ensures)
+      (c .before .get .ensures) (c .if1 .taken) (c .before .before .before .before .before .before .before .args .first)
+
+  expr-requires : Of lts.Need-expr-requires
+  expr-requires c κs = (sooner (at-head (c .before .before .before)) 3 (omega arith) (omega arith), tt)
+
+  closures-requires : Of lts.Need-closures-requires
+  closures-requires c κs = (sooner (at-value (c .before .before .before)) 0 (omega arith) (omega arith), tt)
+
+  -- the print of an item and the others is that of the sequence
+  with-item : (c : Of lts.Start) {g : ℕ} {b : List ℕ} {s : Step} → g ≡ getD (c .args .words .now) (c .args .at) 0 → (g ≡ 0 → ⊥)
+      → Prints (someClosures (c .args .text .now) (c .args .words .now) (c .args .ends .now) (c .args .at) (c .args .first)) (c .args .words .now) (c .args .at) (c .args .out .now) (c .args .pos) b s
+      → Prints (closureList (c .args .text .now) (c .args .words .now) (c .args .ends .now) (c .args .at) (c .args .first)) (c .args .words .now) (c .args .at) (c .args .out .now) (c .args .pos) b s
+  with-item c e z p = closures-more (c .args .text .now) (c .args .words .now) (c .args .ends .now) (c .args .at) e z (c .args .first) p
+
+  returns-2 : Of lts.Need-returns-2
+  returns-2 c = with-item
+      (c .before .before .before .before .before .before .before .before .before .before .before .before .before .before .before .before .before .before .before)
+      (c .before .before .before .before .before .before .before .before .before .before .before .before .before .get .ensures)
+      (c .before .before .before .before .before .before .before .before .before .before .before .before .if1 .left)
+      (done (at-end (c .before .before)) (λ x. refl) (λ x. refl))
+
+  pub spec : {M : Type 1} → lts.Closed claims (closures-at t) Post M
+  spec =
+      lts.spec claims (closures-at t) Post
+      (λ c κs. tt) (λ c κs. tt) returns (λ c κs. tt) expr-requires closures-requires (λ c. search needs) returns-2

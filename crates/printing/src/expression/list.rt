@@ -1,0 +1,149 @@
+// The sequences that hold expressions: each function prints the items from a place on and answers the place after them and the place in
+// the output.
+use crate::expression::expr;
+use crate::format::ExprFormatOption;
+use crate::forms::pattern_head;
+use crate::parts::Step;
+use crate::parts::after;
+use crate::parts::closure_head;
+use crate::power::BindingPower;
+use crate::write::put;
+use crate::write::put_separator;
+use crate::write::put_unless;
+use tree::get;
+ghost use Rattle.printing.specs.Parts.{Prints};
+ghost use Rattle.printing.specs.ExprParts.{expressionList, patternList, triggerList, closureList, propertyList};
+
+// `ExpressionList`.
+pub(crate) fn exprs(
+    text: &[u8],
+    words: &[u32],
+    ends: &[u16],
+    at: usize,
+    first: bool,
+    out: &mut [u8],
+    pos: usize,
+) -> Step
+    ensures { λ r. ⌜ Prints (expressionList (now (text .entry)) (now (words .entry)) (now (ends .entry)) at first) (now (words .entry)) at (now (out .entry)) pos (now (out .exit)) r ⌝ }
+{
+    let inner = after(words, at);
+    if get(words, at) == 0 {
+        return Step { next: inner, pos };
+    }
+    let a = put_separator(out, pos, first);
+    let s = expr(
+        text,
+        words,
+        ends,
+        inner,
+        BindingPower::INIT,
+        ExprFormatOption::SingleLine,
+        out,
+        a,
+    );
+    exprs(text, words, ends, s.next, false, out, s.pos)
+}
+
+// A quantifier's patterns.
+pub(crate) fn patterns(
+    text: &[u8],
+    words: &[u32],
+    ends: &[u16],
+    at: usize,
+    ind: ExprFormatOption,
+    out: &mut [u8],
+    pos: usize,
+) -> Step
+    ensures { λ r. ⌜ Prints (patternList (now (text .entry)) (now (words .entry)) (now (ends .entry)) at ind) (now (words .entry)) at (now (out .entry)) pos (now (out .exit)) r ⌝ }
+{
+    let inner = after(words, at);
+    if get(words, at) == 0 {
+        return Step { next: inner, pos };
+    }
+    let a = pattern_head(ind, out, pos);
+    let s = exprs(text, words, ends, inner, true, out, a);
+    patterns(text, words, ends, s.next, ind, out, s.pos)
+}
+
+// A closure property's triggers.
+pub(crate) fn triggers(
+    text: &[u8],
+    words: &[u32],
+    ends: &[u16],
+    at: usize,
+    out: &mut [u8],
+    pos: usize,
+) -> Step
+    ensures { λ r. ⌜ Prints (triggerList (now (text .entry)) (now (words .entry)) (now (ends .entry)) at) (now (words .entry)) at (now (out .entry)) pos (now (out .exit)) r ⌝ }
+{
+    let inner = after(words, at);
+    if get(words, at) == 0 {
+        return Step { next: inner, pos };
+    }
+    let a = put(out, pos, b"trigger ");
+    let s = exprs(text, words, ends, inner, true, out, a);
+    let b = put(out, s.pos, b" ");
+    triggers(text, words, ends, s.next, out, b)
+}
+
+// A closure's bindings.
+pub(crate) fn closures(
+    text: &[u8],
+    words: &[u32],
+    ends: &[u16],
+    at: usize,
+    first: bool,
+    out: &mut [u8],
+    pos: usize,
+) -> Step
+    ensures { λ r. ⌜ Prints (closureList (now (text .entry)) (now (words .entry)) (now (ends .entry)) at first) (now (words .entry)) at (now (out .entry)) pos (now (out .exit)) r ⌝ }
+{
+    let inner = after(words, at);
+    if get(words, at) == 0 {
+        return Step { next: inner, pos };
+    }
+    let s = closure_head(text, words, inner, first, out, pos);
+    let t = expr(
+        text,
+        words,
+        ends,
+        s.next,
+        BindingPower::INIT,
+        ExprFormatOption::SingleLine,
+        out,
+        s.pos,
+    );
+    closures(text, words, ends, t.next, false, out, t.pos)
+}
+
+// A closure's properties.
+pub(crate) fn properties(
+    text: &[u8],
+    words: &[u32],
+    ends: &[u16],
+    at: usize,
+    first: bool,
+    out: &mut [u8],
+    pos: usize,
+) -> Step
+    ensures { λ r. ⌜ Prints (propertyList (now (text .entry)) (now (words .entry)) (now (ends .entry)) at first) (now (words .entry)) at (now (out .entry)) pos (now (out .exit)) r ⌝ }
+{
+    let inner = after(words, at);
+    if get(words, at) == 0 {
+        return Step { next: inner, pos };
+    }
+    let a = put_separator(out, pos, first);
+    let s = triggers(text, words, ends, inner, out, a);
+    let b = put_unless(out, s.pos, get(words, inner) == 0, b":: ");
+    let t = expr(
+        text,
+        words,
+        ends,
+        s.next,
+        BindingPower::INIT,
+        ExprFormatOption::SingleLine,
+        out,
+        b,
+    );
+    properties(text, words, ends, t.next, false, out, t.pos)
+}
