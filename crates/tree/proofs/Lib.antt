@@ -2,4 +2,6 @@
 mod Digits
 mod Numbers
 mod RunSteps
+mod Entries
+mod Marks
 mod Stack

@@ -12,10 +12,14 @@ use Rattle.tree.specs.Trees.{_▸_}
 use Rattle.tree.specs.Rows.{constructorRows, contentKinds, kindOf, digits, kindsOf}
 
 abbrev pub constructorNumbers : List ℕ
-constructorNumbers = 1 ∷ 28 ∷ 810 ∷ 56 ∷ 350 ∷ 375 ∷ 143 ∷ 101150 ∷ 109708 ∷ 413729 ∷ 108415048 ∷ 143 ∷ 11 ∷ 17 ∷ 549 ∷ 4 ∷ 4 ∷ 4 ∷ 4 ∷ 5015 ∷ 17 ∷ 4354 ∷ 19 ∷ 165 ∷ 172 ∷ 7 ∷ 0 ∷ 4 ∷ 4 ∷ 5 ∷ []
+constructorNumbers =
+    1 ∷ 28 ∷ 891 ∷ 59 ∷ 386 ∷ 411 ∷ 155 ∷ 135419 ∷ 145825 ∷ 552815 ∷ 176430139 ∷ 155 ∷ 11 ∷ 17 ∷ 603
+    ∷ 4 ∷ 4 ∷ 4 ∷ 4 ∷ 6011 ∷ 17 ∷ 5284 ∷ 19 ∷ 180 ∷ 187 ∷ 7 ∷ 0 ∷ 4 ∷ 4 ∷ 5 ∷ []
 
 abbrev pub contentNumbers : List ℕ
-contentNumbers = 27 ∷ 4 ∷ 5 ∷ 128 ∷ 346 ∷ 352 ∷ 11743 ∷ 418 ∷ 369603 ∷ 13586 ∷ 498 ∷ 15257 ∷ 16128 ∷ 586 ∷ 18471 ∷ 559321 ∷ 479023332 ∷ 20311 ∷ 17899958 ∷ 540160755 ∷ []
+contentNumbers =
+    27 ∷ 4 ∷ 5 ∷ 140 ∷ 379 ∷ 388 ∷ 14203 ∷ 460 ∷ 496059 ∷ 16526 ∷ 549 ∷ 18563
+    ∷ 19620 ∷ 646 ∷ 22395 ∷ 748603 ∷ 782495451 ∷ 24715 ∷ 26504315 ∷ 882529083 ∷ []
 
 pub constructors : map kindsOf constructorNumbers ≡ constructorRows
 unfolding kindsOf digits kindOf
@@ -26,6 +30,25 @@ unfolding kindOf
 kind-bool zero h = refl
 kind-bool (suc zero) h = refl
 kind-bool (suc (suc n)) h = absurd (omega arith)
+
+-- the kinds from 28 on
+abbrev naturals : List Kind
+naturals = natural ∷ natural ∷ natural ∷ natural ∷ []
+
+natural-of : (n : ℕ) → n < 4 → getD naturals n bool ≡ natural
+natural-of zero h = refl
+natural-of (suc zero) h = refl
+natural-of (suc (suc zero)) h = refl
+natural-of (suc (suc (suc zero))) h = refl
+natural-of (suc (suc (suc (suc n)))) h = absurd (omega arith)
+
+pub kind-natural : (n : ℕ) → 27 < n → n < 32 → kindOf n ≡ kindOf 28
+unfolding kindOf
+kind-natural n h l =
+    let m : n ≡ 28 + (n - 28) = omega arith in
+    ap kindOf m
+    ∙ getD-append-add ((bool ∷ bool ∷ operator ∷ mode ∷ expr ∷ stmt ∷ aexpr ∷ []) ++ (contentKinds ++ (name ∷ []))) naturals (n - 28) bool
+    ∙ natural-of (n - 28) (omega arith)
 
 -- the kinds of options and sequences, each with the row after its 1
 module _ (inside : ℕ → ℕ → Bool) where
@@ -51,8 +74,8 @@ module _ (inside : ℕ → ℕ → Bool) where
   kind-at : (i : ℕ) → i < 20 → kindOf (7 + i) ≡ getD contentKinds i bool
   unfolding kindOf
   kind-at i h =
-      getD-append-add (bool ∷ bool ∷ operator ∷ mode ∷ expr ∷ stmt ∷ aexpr ∷ []) (contentKinds ++ (name ∷ natural ∷ [])) i bool
-      ∙ List·getD-append contentKinds (name ∷ natural ∷ []) bool i h
+      getD-append-add (bool ∷ bool ∷ operator ∷ mode ∷ expr ∷ stmt ∷ aexpr ∷ []) (contentKinds ++ (name ∷ natural ∷ natural ∷ natural ∷ natural ∷ [])) i bool
+      ∙ List·getD-append contentKinds (name ∷ natural ∷ natural ∷ natural ∷ natural ∷ []) bool i h
 
   pub content : (kind w : ℕ) → 6 < kind → kind < 27 → turn inside (kindOf kind) w ≡ tagged 0 ([] ∷ kindsOf (getD contentNumbers (kind - 7) 0) ∷ []) w
   content kind w a b =

@@ -12,6 +12,8 @@ use Rattle.tree.specs.Resolve.{mapExpr, mapProgram}
 use Rattle.tree.specs.Words.{exprWords, programWords}
 use Rattle.tree.specs.Kind.{Kind}
 use Rattle.tree.specs.Check.{NameIn, expressionRefusal, programRefusal}
+use Rattle.tree.specs.Tally.{expressionCounts, programCounts}
+use Rattle.tree.specs.Counted.{CountedExpr, CountedProgram}
 use Rattle.tree.specs.Trees.{spans, Tree as TreeOf, words as wordsOf}
 use Rattle.tree.specs.Forms.{form}
 use Rattle.tree.specs.Opened.{Opened}
@@ -20,6 +22,7 @@ use Rattle.tree.specs.Refused
 use Rattle.tree.specs.MapWords
 use Rattle.tree.specs.WordCount
 use Rattle.tree.specs.Walk
+use Rattle.tree.specs.CountLaws
 
 -- Not refused if and only if there are at most 16,384 words and they are those of a tree whose names lie inside the text.
 pub expression-accepted : (words : List ℕ) (len : ℕ)
@@ -68,3 +71,13 @@ walk = Walk.tree-at spans
 
 pub append : (k : Kind) (t : TreeOf spans k) (rest : List ℕ) → wordsOf spans k t rest ≡ wordsOf spans k t [] ++ rest
 append = Walk.words-append spans
+
+-- After `count_expression` or `count_program` of a table that holds a tree, with a place for each word, the number of each sequence's items
+-- stands at the sequence's place.
+pub expression-counted : (table : List ℕ) (len : ℕ) (before : List ℕ) (t : Expr (NameIn len)) → exprWords (λ n. n .span) t [] ≡ table
+    → length table ≤ mostWords → length table ≤ length before → CountedExpr (λ n. n .span) (expressionCounts table len before) (length table) t []
+expression-counted = CountLaws.expression-counted
+
+pub program-counted : (table : List ℕ) (len : ℕ) (before : List ℕ) (p : Program (NameIn len)) → programWords (λ n. n .span) p [] ≡ table
+    → length table ≤ mostWords → length table ≤ length before → CountedProgram (λ n. n .span) (programCounts table len before) (length table) p []
+program-counted = CountLaws.program-counted

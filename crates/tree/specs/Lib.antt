@@ -6,13 +6,18 @@ pub mod Words
 pub mod Kind
 pub mod Limits
 pub mod Check
+pub mod Tally
+pub mod Counted
 -- what is proved, and examples
 pub mod Refused
 pub mod Claims
 mod Examples
 mod WordExamples
+mod TallyExamples
 -- the code's numbers for kinds
 pub mod Rows
+-- what is expected and its kinds
+pub mod ExpectedKinds
 -- a contradiction's consequence; the trees of each kind, the laws of a walk over a table, and the theorems' proofs
 pub mod Clash
 pub mod Trees
@@ -23,4 +28,7 @@ pub mod Walk
 pub mod MapWords
 pub mod WordCount
 pub mod Accepted
+pub mod CountedTrees
+pub mod CountPlaces
+pub mod CountLaws
 pub mod Tables

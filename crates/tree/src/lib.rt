@@ -1,5 +1,6 @@
 // The tree words of B3 (document 01, "The tree words"): the check that a table's words are one tree over a text, and the small
 // functions by which checked words are read.
+mod frames;
 mod rows;
 mod walk;
 
@@ -12,6 +13,7 @@ ghost use lib.ListN.{getD};
 ghost use Rattle.tree.specs.Resolve.{part};
 ghost use Rattle.tree.specs.Check.{check as checkOf, refusal, expressionRefusal, programRefusal};
 ghost use Rattle.tree.specs.Rows.{kindsOf};
+ghost use Rattle.tree.specs.Tally.{counts as countsOf, expressionCounts, programCounts};
 
 // The limits of a table's words and of a text's bytes.
 pub const MOST_WORDS: usize = 16384;
@@ -32,27 +34,43 @@ pub enum Checked {
 pub fn check_expression(words: &[u32], text_len: usize) -> Checked
     ensures { λ r. ⌜ refusal r ≡ expressionRefusal (now (words .entry)) «text_len» ⌝ }
 {
-    check(words, text_len, EXPR)
+    let mut counts = [0u16; 1];
+    count_expression(words, text_len, &mut counts)
 }
 
 // Whether the words are one program over a text of that length.
 pub fn check_program(words: &[u32], text_len: usize) -> Checked
     ensures { λ r. ⌜ refusal r ≡ programRefusal (now (words .entry)) «text_len» ⌝ }
 {
-    check(words, text_len, PROGRAM)
+    let mut counts = [0u16; 1];
+    count_program(words, text_len, &mut counts)
+}
+
+// The same; and at the place where a sequence of the expression starts, `counts` gets the number of its items.
+pub fn count_expression(words: &[u32], text_len: usize, counts: &mut [u16]) -> Checked
+    ensures { λ r. ⌜ (refusal r ≡ expressionRefusal (now (words .entry)) «text_len») × (now (counts .exit) ≡ expressionCounts (now (words .entry)) «text_len» (now (counts .entry))) ⌝ }
+{
+    count(words, text_len, EXPR, counts)
+}
+
+// The same of a program.
+pub fn count_program(words: &[u32], text_len: usize, counts: &mut [u16]) -> Checked
+    ensures { λ r. ⌜ (refusal r ≡ programRefusal (now (words .entry)) «text_len») × (now (counts .exit) ≡ programCounts (now (words .entry)) «text_len» (now (counts .entry))) ⌝ }
+{
+    count(words, text_len, PROGRAM, counts)
 }
 
 // A small table takes a small stack.
-fn check(words: &[u32], text_len: usize, first: u32) -> Checked
-    ensures { λ r. ⌜ r ≡ checkOf (kindsOf first) (now (words .entry)) «text_len» ⌝ }
+fn count(words: &[u32], text_len: usize, first: u32, counts: &mut [u16]) -> Checked
+    ensures { λ r. ⌜ (r ≡ checkOf (kindsOf first) (now (words .entry)) «text_len») × (now (counts .exit) ≡ countsOf (kindsOf first) (now (words .entry)) «text_len» (now (counts .entry))) ⌝ }
 {
     if words.len() < 256 {
-        let mut stack = [0u32; 256];
-        return walk(words, text_len, first, &mut stack);
+        let mut stack = [0u64; 256];
+        return walk(words, text_len, first, &mut stack, counts);
     }
     if words.len() <= MOST_WORDS {
-        let mut stack = [0u32; MOST_WORDS + 1];
-        return walk(words, text_len, first, &mut stack);
+        let mut stack = [0u64; MOST_WORDS + 1];
+        return walk(words, text_len, first, &mut stack, counts);
     }
     Checked::TooLong
 }

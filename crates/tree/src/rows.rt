@@ -1,5 +1,5 @@
 // The kinds that may be expected at a word, as numbers from 1 to 28, and the rows: the kinds of a constructor's fields as the digits
-// of a number to the base 29, the first field lowest. 0 is the row of no fields.
+// of a number to the base 32, the first field lowest. 0 is the row of no fields; no row has the digits 29 to 31, which are taken for 28.
 ghost use mathlib.Core.Path.{_≡_};
 ghost use mathlib.Core.Bool.{Bool};
 ghost use mathlib.Core.List.{[]};
@@ -7,6 +7,7 @@ ghost use Prim.Native.Nat.{ℕ, _+_, _<_, _≤_};
 ghost use lib.ListN.{replicate, take, drop};
 ghost use Rattle.tree.specs.Kind.{tagged, turn as turnOf};
 ghost use Rattle.tree.specs.Rows.{kindOf, asTurn, constructorRows};
+ghost use Rattle.tree.specs.Tally.{sequence};
 
 const BOOL: u32 = 1;
 
@@ -62,19 +63,19 @@ const PROCEDURES: u32 = 26;
 
 pub(crate) const NAME: u32 = 27;
 
-pub(crate) const NATURAL: u32 = 28;
+const NATURAL: u32 = 28;
 
-pub(crate) const BASE: u32 = 29;
+pub(crate) const BASE: u32 = 32;
 
-const B1: u32 = 29;
+const B1: u32 = 32;
 
-const B2: u32 = 29 * B1;
+const B2: u32 = 32 * B1;
 
-const B3: u32 = 29 * B2;
+const B3: u32 = 32 * B2;
 
-const B4: u32 = 29 * B3;
+const B4: u32 = 32 * B3;
 
-const B5: u32 = 29 * B4;
+const B5: u32 = 32 * B4;
 
 // The row of a program's five sequences.
 pub(crate) const PROGRAM: u32 = NAMES
@@ -175,6 +176,16 @@ const CONTENT_ROWS: [u32; 20] = [
     NAME + MODE * B1 + NAME * B2 + OPTION_EXPR * B3 + PPARAMETERS * B4,
     NAME + PPARAMETERS * B1 + AEXPRS * B2 + AEXPRS * B3 + OPTION_STMT * B4 + PROCEDURES * B5,
 ];
+
+// Whether a kind is a sequence.
+pub(crate) fn is_sequence(kind: u32) -> bool
+    ensures { λ r. ⌜ r ≡ sequence (kindOf kind) ⌝ }
+{
+    if kind < NAMES {
+        return false;
+    }
+    kind <= PROCEDURES
+}
 
 // What a word says where a kind is expected.
 pub(crate) enum Fit {

@@ -1,15 +1,24 @@
-// The walk over a table's words: a stack of rows, whose digits from the top down are the kinds that are expected.
+// The walk over a table's words: a stack of rows, whose digits from the top down are the kinds that are expected, with the marks of the
+// sequences of which items are passed.
 use crate::Checked;
+use crate::frames::frame_of;
+use crate::frames::mark_at;
+use crate::frames::note;
+use crate::frames::push;
+use crate::frames::rest;
+use crate::frames::row_of;
 use crate::get;
 use crate::rows::BASE;
 use crate::rows::Fit;
 use crate::rows::NAME;
-use crate::rows::NATURAL;
 use crate::rows::turn;
 ghost use mathlib.Core.Path.{_≡_};
 ghost use Prim.Native.Nat.{ℕ, _+_, _^_, _<_, _≤_};
+ghost use mathlib.Core.Option.{none};
 ghost use lib.ListN.{length, getD};
+ghost use Rattle.tree.specs.Limits.{mostWords};
 ghost use Rattle.tree.specs.Check.{run, within};
+ghost use Rattle.tree.specs.Tally.{marked, tally};
 ghost use Rattle.tree.specs.Rows.{kindOf, kindsOf, Stepped};
 
 // What the words at a place do where a kind is expected.
@@ -20,25 +29,33 @@ pub(crate) enum Step {
     Stop(usize),
 }
 
-// What the check finds where the kinds of the row `first` are expected at the table's start.
-pub(crate) fn walk(words: &[u32], text_len: usize, first: u32, stack: &mut [u32]) -> Checked
-    requires { ⌜ length (now words) < length (now stack) ⌝ }
-    ensures { λ r. ⌜ r ≡ run (within «text_len») (kindsOf first) 0 (now (words .entry)) ⌝ }
+// What the check finds where the kinds of the row `first` are expected at the table's start; the sequences' numbers of items are noted.
+pub(crate) fn walk(
+    words: &[u32],
+    text_len: usize,
+    first: u32,
+    stack: &mut [u64],
+    counts: &mut [u16],
+) -> Checked
+    requires { ⌜ (length (now words) < length (now stack)) × (length (now words) ≤ mostWords) ⌝ }
+    ensures { λ r. ⌜ (r ≡ run (within «text_len») (kindsOf first) 0 (now (words .entry))) × (now (counts .exit) ≡ tally (within «text_len») (marked (kindsOf first) none) 0 (now (words .entry)) (now (counts .entry))) ⌝ }
 {
-    stack[0] = first;
+    stack[0] = first as u64;
     let mut top: usize = 1;
     let mut at: usize = 0;
     while 0 < top {
-        let row = stack[top - 1];
+        let frame = stack[top - 1];
+        let row = row_of(frame);
         if row == 0 {
             top -= 1;
         } else {
             let s = next_step(words, text_len, at, row % BASE);
             match s {
                 Step::Go(next, fields) => {
-                    stack[top - 1] = row / BASE;
-                    stack[top] = fields;
-                    top += 1;
+                    let mark = mark_at(frame, at);
+                    note(counts, fields, mark);
+                    let below = push(stack, top - 1, rest(frame));
+                    top = push(stack, below, frame_of(fields, mark));
                     at = next;
                 }
                 Step::Stop(place) => {
@@ -55,7 +72,7 @@ pub(crate) fn walk(words: &[u32], text_len: usize, first: u32, stack: &mut [u32]
 
 // The words at a place, where a kind is expected.
 fn next_step(words: &[u32], text_len: usize, at: usize, kind: u32) -> Step
-    requires { ⌜ (kind < 29) × (at ≤ length (now words)) ⌝ }
+    requires { ⌜ (kind < 32) × (at ≤ length (now words)) ⌝ }
     ensures { λ r. ⌜ Stepped (now (words .entry)) «text_len» at (kindOf kind) r ⌝ }
 {
     if words.len() <= at {
@@ -64,7 +81,7 @@ fn next_step(words: &[u32], text_len: usize, at: usize, kind: u32) -> Step
     if kind == NAME {
         return name_step(words, text_len, at);
     }
-    if kind == NATURAL {
+    if NAME < kind {
         return natural_step(words, at);
     }
     let next = at + 1;

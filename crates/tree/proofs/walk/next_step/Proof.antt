@@ -5,6 +5,7 @@ use mathlib.Core.Path.{sym, _∙_, ap}
 use native.Mathlib.Omega.{arith}
 use Rattle.tree.specs.Check.{within}
 use Rattle.tree.specs.Rows.{kindOf, asTurn}
+use Rattle.tree.proofs.Numbers.{kind-natural}
 use Rattle.tree.proofs.RunSteps.{step-missing, row-fits, row-misfits}
 use Rattle.tree.proofs.walk.next_step.Statement.{statement}
 use Rattle.tree.proofs.walk.next_step.Tie as tie
@@ -29,8 +30,7 @@ natural-step-requires c κs =
 
 returns-3 : tie.Need-returns-3
 returns-3 c =
-    let a = c .before .before .before .before .before .args in
-    rw (c .before .if3 .taken) (c .natural-step .ensures (a .text-len))
+    rw (kind-natural (c .before .before .before .before .before .args .kind) (omega arith) (omega arith)) (c .natural-step .ensures (c .before .before .before .before .before .args .text-len))
 
 add-next : tie.Need-add-next
 add-next c = search needs
