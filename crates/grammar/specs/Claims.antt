@@ -17,10 +17,11 @@ use Rattle.grammar.specs.Tokens.{Token, cut}
 use Rattle.grammar.specs.Grammar.{Tree, Whole, Derives}
 use Rattle.grammar.specs.OperatorTrees.{OperatorTree, smallNaturals, wordCount, DerivesWithin}
 use Rattle.grammar.specs.Parser.{parse, whole, parseExpr}
-use Rattle.grammar.specs.Reading.{words, readTree, readExpression, readTreeOfProgram, readProgram}
+use Rattle.grammar.specs.Reading.{words, refusal, readTree, readExpression, readTreeOfProgram, readProgram}
 use Rattle.grammar.specs.TreeRead.{GivesTree}
 use Rattle.grammar.specs.Bridge.Limits.{read-derives, gives-derives, derives-gives, derives-operators, gives-same}
 use Rattle.grammar.specs.Inside.Accepted.{expression-inside, program-inside, expression-passes, program-passes}
+use Rattle.grammar.specs.Refusals.Entries.{Refused, expression-refused, program-refused}
 use Rattle.grammar.specs.Laws.Exact.{parse-sound, parse-complete, no-parse, deeper, unambiguous}
 use Rattle.grammar.specs.Laws.Every.{allLegal, legal, derived-operators}
 use Rattle.grammar.specs.Laws.Limited.{limited, parse-limited}
@@ -96,3 +97,12 @@ read-expression-accepted text n k table = expression-passes text n
 pub read-program-accepted : (text : List ℕ) (n k : ℕ) (table : List ℕ) → readProgram text n ≡ words k table
     → programRefusal (take k table) (length text) ≡ none
 read-program-accepted text n k table = program-passes text n
+
+-- A reading is refused by a number from 1 to 5, at a place of at most 32,768 (`Refused`).
+pub read-expression-refused : (text : List ℕ) (n number place : ℕ) (table : List ℕ) → readExpression text n ≡ refusal number place table
+    → Refused number place
+read-expression-refused text n number place table = expression-refused text n
+
+pub read-program-refused : (text : List ℕ) (n number place : ℕ) (table : List ℕ) → readProgram text n ≡ refusal number place table
+    → Refused number place
+read-program-refused text n number place table = program-refused text n

@@ -1,5 +1,4 @@
 -- What is proved of the grammar and its parser.
-pub mod Steps
 pub mod ParserSteps
 pub mod Looks
 pub mod Sound

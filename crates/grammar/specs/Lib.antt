@@ -15,6 +15,8 @@ pub mod Reading
 pub mod TreeRead
 pub mod Bridge
 pub mod Inside
+pub mod Refusals
+pub mod Tables
 pub mod Claims
 pub mod Examples
 pub mod ReadingExamples

@@ -76,10 +76,6 @@ fitsRight op (ClosureExpr bs w y ps) = true
 abbrev pub Faithful : Tree → Type 0
 Faithful = Operators isFaithfulName fitsRight
 
--- the limit on texts, under the name that printing uses
-abbrev pub mostBytes : ℕ
-mostBytes = mostText
-
 -- document 01's depth limit
 abbrev pub mostDepth : ℕ
 mostDepth = 200

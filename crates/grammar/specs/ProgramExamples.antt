@@ -22,9 +22,9 @@ unfolding expressions oneOf part readProgram readTreeOfProgram parseProgram Stat
     Statements.parseOptionalAutoInvariant Statements.parseCallArgument Statements.parseAExpr Statements.parseAExprSeq Statements.parseInit
     Statements.parseVariableDeclaration Statements.parseOptionalExitArgument Statements.afterForall Statements.parseOr Statements.afterChoose
     Statements.parseCase Statements.parseElse Statements.parseIfCont Statements.parseLoop Statements.afterAssign Statements.afterLabel
-    Statements.afterCall Statements.parseStmt Statements.parseBlock Statements.wordAt Statements.gallery Declarations.SeparateTopLevelDecls
-    Declarations.afterType Declarations.afterTagger Declarations.parseFunctionFormal Declarations.parseWhenClause
-    Declarations.parseFunctionDefinition Declarations.afterFunction Declarations.parseExplains Declarations.afterAxiom Declarations.parameterOf
+    Statements.afterCall Statements.parseStmt Statements.parseBlock Statements.wordOf Statements.gallery Declarations.SeparateTopLevelDecls
+    Declarations.afterType Declarations.afterTagger Declarations.parseFunctionFormal Declarations.parseTag Declarations.parseWhenClause
+    Declarations.parseFunctionDefinition Declarations.afterFunction Declarations.parseExplains Declarations.afterAxiom Declarations.parseModed
     Declarations.parseProcFormal Declarations.afterProcedure Declarations.parseTopLevelDecl Declarations.TopLevel
 computed = tt
 

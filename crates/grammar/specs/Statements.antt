@@ -2,17 +2,15 @@
 -- rule opens: "expr" of `exprGallery` and the four of `stmtGallery`, each with the levels that are left. m bounds the turns of each repetition.
 use Prim.Native.Nat.{ℕ, zero, suc}
 use Prim.Native.String.{String}
-use mathlib.Core.Bool.{Bool, true, false, _||_}
+use mathlib.Core.Bool.{Bool, true, false}
 use mathlib.Core.List.{List, [], _∷_}
 use mathlib.Core.Option.{Option, none, some}
-use lib.ListN.{drop, getD, take}
-use lib.Dec.{eqb}
+use lib.ListN.{drop}
 use Rattle.lexing.specs.Answer.{Answer, ok, refused, pick}
-use Rattle.lexing.specs.Tokens.{identifierLength}
 use Rattle.tree.specs.Ast.{Span, Binding, binding, Expr, IdExpr, Variable, CallArgument, ParameterMode, In, InOut, Out}
 use Rattle.tree.specs.Ast.{Stmt, VarDecl, Assign, Reinit, Block, Call, Check, Assume, Reach, Assert, AForall, Choose, If, IfCase, Loop, LabeledStmt, Exit, Return, Probe}
 use Rattle.tree.specs.Ast.{Stmts, noStmts, stmts, Cases, noCases, case, AExpr, aExpr, AAssertion, AExprs, noAExprs, aExprs}
-use Rattle.grammar.specs.Words.{bytes, oneOf}
+use Rattle.grammar.specs.Words.{bytes}
 use Rattle.grammar.specs.Steps.{Reader, after, need, must, _or_, mapped, T, Sym, keywordAt, parseName}
 use Rattle.grammar.specs.Rules.{Sequence, opensExpr, parseExpr, parseIdType, parseOptionalType, parseNonemptyCommaDelimitedSeq, parseListed}
 
@@ -60,6 +58,17 @@ S = Stmt Span
 abbrev E : Type 0
 E = Expr Span
 
+-- a statement for all values of a type
+abbrev pub overType : Binding Span → S → S
+overType (binding n t) s = AForall n t s
+
+-- the words that begin a statement that holds no statement, and those that begin a statement
+abbrev pub simpleWords : List String
+simpleWords = "reinit" ∷ "exit" ∷ "return" ∷ "check" ∷ "assume" ∷ "reach" ∷ "assert" ∷ "probe" ∷ []
+
+abbrev pub statementWords : List String
+statementWords = "var" ∷ "val" ∷ "forall" ∷ "choose" ∷ "if" ∷ "loop" ∷ simpleWords
+
 module _ (text : List ℕ) where
   -- ---- a name and its mark
 
@@ -70,6 +79,12 @@ module _ (text : List ℕ) where
   -- `Or([Sym(":="), Sym(":"), Sym("(")])`
   unfoldable pub mark : Reader ℕ
   mark at = Sym text ":=" at or Sym text ":" at or Sym text "(" at
+
+  -- `Lookahead(parseId.I_e(..))`: where a name with a mark follows, there is no label
+  unfoldable pub parseOptionalExitArgument : Reader (Option Span)
+  unfolding atomic mark
+  parseOptionalExitArgument at =
+      after (atomic mark at) (after (parseName text at) (ok none at) (λ n at₁. ok (some n) at₁)) (λ _ _. ok none at)
 
   module _ (m : ℕ) where
     module _ (c : Gallery) where
@@ -120,17 +135,8 @@ module _ (text : List ℕ) where
           (λ init at₄. need at₄ (rep statements m (c .stmt) at₄)
           (λ ss at₅. ok (VarDecl (record { name = n; isMutable = isMutable; optionalType = t; optionalAutoInv = i }) init (Block ss)) at₅)))))
 
-      -- `Lookahead(parseId.I_e(..))`: where a name with a mark follows, there is no label
-      unfoldable pub parseOptionalExitArgument : Reader (Option Span)
-      unfolding atomic mark
-      parseOptionalExitArgument at =
-          after (atomic mark at) (after (parseName text at) (ok none at) (λ n at₁. ok (some n) at₁)) (λ _ _. ok none at)
-
       unfoldable pub afterForall : Reader S
       afterForall at = need at (parseIdType text at) (λ b at₁. theBlock (overType b) at₁)
-        where
-          overType : Binding Span → S → S
-          overType (binding n t) s = AForall n t s
 
       -- `T("or").e_I(c("block"))`
       unfoldable pub parseOr : Reader S
@@ -206,30 +212,25 @@ module _ (text : List ℕ) where
 
   -- ---- depth
 
-  -- the words that begin a statement
-  abbrev pub statementWords : List String
-  statementWords =
-      "var" ∷ "val" ∷ "reinit" ∷ "exit" ∷ "return" ∷ "check" ∷ "assume" ∷ "reach" ∷ "assert" ∷ "probe" ∷ "forall" ∷ "choose" ∷ "if" ∷ "loop" ∷ []
+  -- one of the words
+  unfoldable pub wordOf : List String → Reader ℕ
+  wordOf [] at = Answer.none
+  wordOf (w ∷ ws) at = T text w at or wordOf ws at
 
-  -- whether the identifier at the start is one of the words
-  unfoldable pub wordAt : List String → List ℕ → Bool
-  wordAt ws s = oneOf ws (take (identifierLength s) s)
-
-  abbrev tooDeep : {A : Type 0} → Bool → ℕ → Answer A
-  tooDeep opens at = pick opens (refused 3 at) Answer.none
+  -- refusal 3 at a place where a token is kept
+  abbrev pub tooDeep : {A B : Type 0} → ℕ → Answer A → Answer B
+  tooDeep at r = after r Answer.none (λ _ _. refused 3 at)
 
   -- the rules with d levels left: where none is left, refusal 3 at the rule's first token
   unfoldable pub gallery : ℕ → ℕ → Gallery
-  unfolding wordAt atomic mark parseBlock parseStmt parseIfCont parseLoop
+  unfolding wordOf atomic mark parseBlock parseStmt parseIfCont parseLoop
   gallery m zero =
       record {
         expr = parseExpr text m zero;
-        block = λ at. tooDeep (eqb (getD text at 0) 123) at;
-        stmt = λ at.
-            tooDeep (eqb (getD text at 0) 123 || wordAt statementWords (drop at text)) at
-            or after (atomic mark at) Answer.none (λ _ _. refused 3 at);
-        ifCont = λ at. tooDeep (opensExpr (drop at text)) at;
-        loop = λ at. tooDeep (wordAt ("loop" ∷ []) (drop at text)) at;
+        block = λ at. tooDeep at (Sym text "{" at);
+        stmt = λ at. tooDeep at (Sym text "{" at) or tooDeep at (wordOf statementWords at) or tooDeep at (atomic mark at);
+        ifCont = λ at. pick (opensExpr (drop at text)) (refused 3 at) Answer.none;
+        loop = λ at. tooDeep at (T text "loop" at);
       }
   gallery m (suc d) =
       record {

@@ -46,7 +46,7 @@ module _ {text : List ℕ} (K : Keeping text) where
   -- ---- declarations
 
   module _ (m : ℕ) {c : Gallery} (k : KeptBy (K .keep) c) where
-    formals-kept : Reads (Fixed (map (mapFParameter keep))) (parseListed text m rules.formals (rules.parseFunctionFormal text m c) (bytes ")"))
+    formals-kept : Reads (Fixed (map (mapFParameter keep))) (parseListed text m rules.formals (rules.parseFunctionFormal text) (bytes ")"))
     unfolding rules.parseFunctionFormal
     formals-kept = listed-gives formals-closed _ (λ at. search (by-idType K, steps)) text m _
 
@@ -59,7 +59,7 @@ module _ {text : List ℕ} (K : Keeping text) where
         step _ (rep-gives (exprs-closed K) _ (λ at. search (by (k .expr), steps)) m at) refuses (λ es when at₁. skip _ (undefined-kept es at₁)
         (λ _ at₂. step _ (k .expr at₂) refuses (λ _ e at₃. skip _ refuses (λ _ at₄. given (λ i. some (record { when = when i; body = e i }))))))
       where
-        undefined-kept : (es : Exprs Span) → Reads DefinitionKept (rules.undefined text m c es)
+        undefined-kept : (es : Exprs Span) → Reads DefinitionKept (rules.undefined es)
         undefined-kept noExprs at = given refl
         undefined-kept (_then_ e es) at = refuses
 
@@ -69,9 +69,16 @@ module _ {text : List ℕ} (K : Keeping text) where
     unfolding rules.afterFunction
     afterFunction-kept at = search (by (name-kept K), by formals-kept, step (Fixed (mapOption keep)), by parseFunctionDefinition-kept, steps) depth 20
 
+    moded-kept : Reads (λ p. Fixed keep (p .name) × Fixed keep (p .typ)) (rules.parseModed text)
+    unfolding rules.parseModed
+    moded-kept at = search (by-idType K, steps) depth 8
+
     parameters-kept : Reads (Fixed (map (mapPParameter keep))) (parseListed text m rules.parameters (rules.parseProcFormal text m c) (bytes ")"))
     unfolding rules.parseProcFormal
-    parameters-kept = listed-gives parameters-closed _ (λ at. search (by-idType K, by (parseOptionalAutoInvariant-kept K m k), steps) depth 8) text m _
+    parameters-kept =
+        listed-gives parameters-closed _
+        (λ at. step _ (moded-kept at) nothing
+        (λ _ p at₁. step _ (parseOptionalAutoInvariant-kept K m k at₁) refuses (λ _ i _. given (p .0, p .1, i)))) text m _
 
     afterProcedure-kept : Reads
         (λ p. Fixed keep (p .name) × Fixed (map (mapPParameter keep)) (p .parameters) × Fixed (mapAExprs keep) (p .pre) × Fixed (mapAExprs keep) (p .post)

@@ -138,12 +138,10 @@ module _ {text : List ℕ} (K : Keeping text) where
   gallery-kept m zero =
       record {
         expr = parseExpr-kept K m zero;
-        block = λ at. picked (eqb (getD text at 0) 123) refuses nothing;
-        stmt = λ at.
-            either (picked (eqb (getD text at 0) 123 || rules.wordAt text (rules.statementWords text) (drop at text)) refuses nothing)
-            (skip _ nothing (λ _ _. refuses));
+        block = λ at. skip _ nothing (λ _ _. refuses);
+        stmt = λ at. either (skip _ nothing (λ _ _. refuses)) (either (skip _ nothing (λ _ _. refuses)) (skip _ nothing (λ _ _. refuses)));
         ifCont = λ at. picked (opensExpr (drop at text)) refuses nothing;
-        loop = λ at. picked (rules.wordAt text ("loop" ∷ []) (drop at text)) refuses nothing;
+        loop = λ at. skip _ nothing (λ _ _. refuses);
       }
   gallery-kept m (suc d) =
       record {
