@@ -75,11 +75,11 @@ module _ {A : Type 0} {words : A → Run} {text arena later : List ℕ} {at top 
   -- a first branch that built a node or was refused
   pub builds-first : {p : Answer A} (q : Answer A) → OneOf (0 ∷ 2 ∷ []) (tagOf built-type r) → Builds words text arena later at top least credit p r
       → Builds words text arena later at top least credit (p or q) r
-  builds-first {p} q k b = record { kept = b .kept; agrees = go r k (b .agrees) }
+  builds-first {p} q k b = record { kept = b .kept; agrees = by-result r k (b .agrees) }
     where
-      go : (r : Built) → OneOf (0 ∷ 2 ∷ []) (tagOf built-type r) → Agrees words text later at top least credit p r
+      by-result : (r : Built) → OneOf (0 ∷ 2 ∷ []) (tagOf built-type r) → Agrees words text later at top least credit p r
           → Agrees words text later at top least credit (p or q) r
-      go (Ok node next free) k f =
+      by-result (Ok node next free) k f =
           record {
             value = f .value;
             says = after-ok _ _ (f .says);
@@ -90,9 +90,9 @@ module _ {A : Type 0} {words : A → Run} {text arena later : List ℕ} {at top 
             grows = f .grows;
             within = f .within;
           }
-      go None (inl e) f = absurd (omega arith)
-      go None (inr e) f = absurd (omega arith)
-      go (Refused number place) k f = after-refused _ _ f
+      by-result None (inl e) f = absurd (omega arith)
+      by-result None (inr e) f = absurd (omega arith)
+      by-result (Refused number place) k f = after-refused _ _ f
 
 -- ---- the branches of the rules
 

@@ -20,15 +20,14 @@ use Rattle.tree.specs.Ast.{Span, Expr, BLiteral, ILiteral, IdExpr}
 use Rattle.grammar.specs.Words.{bytes}
 use Rattle.grammar.specs.Steps.{Reader, after, _or_, mapped, T, Sym, keywordAt, spanned, parseName, parseNat}
 use Rattle.grammar.specs.Rules.{opensAt, opensExpr, parseExpr, parseEquivExpr, parsePrimaryExpr, parseAtomicExpr, afterName, afterOld}
-use Rattle.reading.specs.Arena.{Holds, Agrees, Builds, Stopped}
+use Rattle.reading.specs.Arena.{Holds, Builds}
 use Rattle.reading.specs.Code.{Took, Worded, Alone, span, inner, turns, customExpr, literalExpr, constantExpr, parenExpr}
 use Rattle.grammar.specs.Reading.{treeWords}
-use Rattle.grammar.specs.Laws.Steps.{impossible}
+use Rattle.tree.specs.Clash.{impossible}
 use Rattle.grammar.specs.Bridge.Tests.{Stands, word, digits, other, nowhere, stands}
 use Rattle.reading.specs.declared.step.Word.{Word}
 use Rattle.reading.specs.declared.arena.Built.{Built}
-use Rattle.reading.specs.declared.arena.Built.the-variants.{Ok, None, Refused}
-use Rattle.reading.proofs.Laws.{Absent, absent-ok, kept-refl, after-none, after-refused, builds-node}
+use Rattle.reading.proofs.Laws.{Absent, absent-ok, after-none, after-refused, builds-node}
 use Rattle.reading.proofs.Branches.{branch, no-branch, branch-refused, or-assoc, afterName-keeps}
 use Rattle.reading.proofs.step.Tokens.{parseId-small, suffix}
 
@@ -37,11 +36,11 @@ use Rattle.reading.proofs.step.Tokens.{parseId-small, suffix}
 -- a byte from 48 on that is no sign's
 pub opensAt-digit : (b next : ℕ) → 48 ≤ b → (b ≡ 33 → ⊥) → (b ≡ 124 → ⊥) → (b ≡ 40 → ⊥) → (b ≡ 45 → ⊥) → leb b 57 ≡ opensAt b next
 unfolding opensAt isDigit
-opensAt-digit b next h n₁ n₂ n₃ n₄ = rw (opensAt, isDigit, le-leb 48 b h, ne-eqb b 33 n₁, ne-eqb b 124 n₂, ne-eqb b 40 n₃, ne-eqb b 45 n₄) (go (leb b 57))
+opensAt-digit b next h n₁ n₂ n₃ n₄ = rw (opensAt, isDigit, le-leb 48 b h, ne-eqb b 33 n₁, ne-eqb b 124 n₂, ne-eqb b 40 n₃, ne-eqb b 45 n₄) (by-case (leb b 57))
   where
-    go : (t : Bool) → t ≡ (t || false || false || false || false)
-    go true = refl
-    go false = refl
+    by-case : (t : Bool) → t ≡ (t || false || false || false || false)
+    by-case true = refl
+    by-case false = refl
 
 -- and one below
 pub opensAt-none : (b next : ℕ) → b < 48 → (b ≡ 33 → ⊥) → (b ≡ 124 → ⊥) → (b ≡ 40 → ⊥) → (b ≡ 45 → ⊥) → false ≡ opensAt b next
@@ -69,16 +68,6 @@ module _ (text : List ℕ) (at : ℕ) {r : Bool} (e : r ≡ opensExpr (take (len
   pub deep-stops : r ≡ false → inner text 0 at ≡ Answer.none
   unfolding parseExpr
   deep-stops h = rw (sym opens-here ∙ h) refl
-
--- what `expr` ensures there
-pub deep-builds : {text arena : List ℕ} {at top depth : ℕ} (r : Built) → depth ≡ 0 → Stopped (inner text 0 at) r
-    → Builds treeWords text arena arena at top 1 0 (inner text depth at) r
-deep-builds {text} {arena} {at} {top} {depth} r e s = rw e (record { kept = kept-refl; agrees = go r s })
-  where
-    go : (r : Built) → Stopped (inner text 0 at) r → Agrees treeWords text arena at top 1 0 (inner text 0 at) r
-    go (Ok node next later) s = absurd s
-    go None s = s
-    go (Refused number place) s = s
 
 -- one level is opened
 pub level-opens : (text : List ℕ) (depth at : ℕ) → (depth ≡ 0 → ⊥) → inner text depth at ≡ parseEquivExpr text (turns text) (inner text (depth - 1)) at
@@ -118,7 +107,7 @@ module _ (text : List ℕ) (at : ℕ) where
   name-inv (refused number place) {n} {next} e = impossible (cc)
 
   -- where no identifier stands
-  no-identifier : parseName text at ≡ Answer.none → identifierLength (drop at text) ≡ 0
+  pub no-identifier : parseName text at ≡ Answer.none → identifierLength (drop at text) ≡ 0
   unfolding after parseId lexeme
   no-identifier e = empty (identifierLength (drop at text)) (W (drop (identifierLength (drop at text)) (drop at text))) e
     where
@@ -154,7 +143,7 @@ module _ (text : List ℕ) (at : ℕ) where
 
   -- where its blanks are refused: a word at that place keeps nothing or is refused alike
   module _ {number place : ℕ} (e : parseName text at ≡ refused number place) where
-    abbrev Stops : {A : Type 0} → Answer A → Type 0
+    abbrev pub Stops : {A : Type 0} → Answer A → Type 0
     Stops r = (r ≡ Answer.none) ⊎ (r ≡ refused number place)
 
     blanks-refused : moved at (lexeme 0 (identifierLength (drop at text)) (drop at text)) ≡ refused number place
@@ -170,7 +159,7 @@ module _ (text : List ℕ) (at : ℕ) where
             let l : at + (suc i + k) ≡ place = cc in
             rw (h, l) refl
 
-    refused-some : 0 < identifierLength (drop at text)
+    pub refused-some : 0 < identifierLength (drop at text)
     unfolding after parseId
     refused-some = nonempty (identifierLength (drop at text)) _ e
       where
@@ -178,7 +167,7 @@ module _ (text : List ℕ) (at : ℕ) where
         nonempty zero r e = impossible (cc)
         nonempty (suc i) r e = omega arith
 
-    word-stops : (w : List ℕ) → Stops (keywordAt text w at)
+    pub word-stops : (w : List ℕ) → Stops (keywordAt text w at)
     unfolding keyword
     word-stops w = tested (sameBytes (take (identifierLength (drop at text)) (drop at text)) w) refl
       where
@@ -187,7 +176,7 @@ module _ (text : List ℕ) (at : ℕ) where
         tested false p = inl (rw p refl)
 
     -- a branch that begins with it, before one that is refused
-    stops-or : {A B : Type 0} {s : Answer A} (go : A → ℕ → Answer B) {q : Answer B} → Stops s → q ≡ refused number place
+    pub stops-or : {A B : Type 0} {s : Answer A} (go : A → ℕ → Answer B) {q : Answer B} → Stops s → q ≡ refused number place
         → (after s Answer.none go or q) ≡ refused number place
     stops-or go {q} (inl n) r = no-branch go q n ∙ r
     stops-or go {q} (inr n) r = branch-refused go q n
@@ -235,10 +224,10 @@ module _ {text : List ℕ} {w : Word} (d : Worded text w) where
   identifier-read : (k : ℕ) × (parseId (drop (w .at) text) ≡ ok (w .len) k) × (w .at + k ≡ w .next)
   identifier-read = name-inv text (w .at) (parseId (drop (w .at) text)) (d .said)
 
-  identifier-is : identifierLength (drop (w .at) text) ≡ w .len
+  pub identifier-is : identifierLength (drop (w .at) text) ≡ w .len
   identifier-is = let (k, p, q) = identifier-read in parseId-value (drop (w .at) text) p .0
 
-  identifier-some : 0 < identifierLength (drop (w .at) text)
+  pub identifier-some : 0 < identifierLength (drop (w .at) text)
   unfolding parseId
   identifier-some = let (k, p, q) = identifier-read in some-length _ _ p
 
@@ -246,7 +235,7 @@ module _ {text : List ℕ} {w : Word} (d : Worded text w) where
   word-past = omega (arith, identifier-is, identifier-some, d .past)
 
   module _ (b : List ℕ) {r : Bool} (e : r ≡ sameBytes (take (w .len) (drop (w .at) text)) b) where
-    word-is : r ≡ true → (take (w .len) (drop (w .at) text) ≡ b) × (w .len ≡ length b)
+    pub word-is : r ≡ true → (take (w .len) (drop (w .at) text) ≡ b) × (w .len ≡ length b)
     word-is h = rw identifier-is at (keyword-is b (drop (w .at) text) (rw identifier-is (sym e ∙ h)))
 
     -- its bytes are a word's

@@ -74,26 +74,7 @@ module _ {A B : Type 0} (stop : Answer B) (go : A → ℕ → Answer B) {r : Ans
   unfolding after
   after-refused e = ap (λ r. after r stop go) e
 
--- `.M(f)`: of the identity, twice, after a needed step, and of the answers
-pub mapped-same : {A : Type 0} (r : Answer A) → mapped (λ a. a) r ≡ r
-unfolding after
-mapped-same (ok a next) = refl
-mapped-same Answer.none = refl
-mapped-same (refused number place) = refl
-
-pub mapped-twice : {A B C : Type 0} (f : A → B) (g : B → C) (r : Answer A) → mapped g (mapped f r) ≡ mapped (λ a. g (f a)) r
-unfolding after
-mapped-twice f g (ok a next) = refl
-mapped-twice f g Answer.none = refl
-mapped-twice f g (refused number place) = refl
-
-pub mapped-need : {A B C : Type 0} (f : B → C) (at : ℕ) (r : Answer A) (go : A → ℕ → Answer B)
-    → mapped f (need at r go) ≡ need at r (λ a next. mapped f (go a next))
-unfolding after
-mapped-need f at (ok a next) go = refl
-mapped-need f at Answer.none go = refl
-mapped-need f at (refused number place) go = refl
-
+-- `.M(f)` of the answers
 pub mapped-ok : {A B : Type 0} (f : A → B) {r : Answer A} {a : A} {n : ℕ} → r ≡ ok a n → mapped f r ≡ ok (f a) n
 mapped-ok f e = after-ok _ _ e
 
@@ -147,10 +128,10 @@ pub builds-from : {A : Type 0} {words : A → Run} {text arena arena₁ later : 
     {answer : Answer A} {r : Built} → Kept arena later top → top ≤ top₁ → at + least ≤ at₁ + least₁ → top₁ + 8 * at + credit₁ ≤ top + 8 * at₁ + credit
     → Builds words text arena₁ later at₁ top₁ least₁ credit₁ answer r → Builds words text arena later at top least credit answer r
 builds-from {words} {text} {later} {at} {top} {least} {credit} {at₁} {top₁} {least₁} {credit₁} {answer} {r} p t l w b =
-    record { kept = p; agrees = go r (b .agrees) }
+    record { kept = p; agrees = by-result r (b .agrees) }
   where
-    go : (r : Built) → Agrees words text later at₁ top₁ least₁ credit₁ answer r → Agrees words text later at top least credit answer r
-    go (Ok node next free) f =
+    by-result : (r : Built) → Agrees words text later at₁ top₁ least₁ credit₁ answer r → Agrees words text later at top least credit answer r
+    by-result (Ok node next free) f =
         record {
           value = f .value;
           says = f .says;
@@ -161,8 +142,8 @@ builds-from {words} {text} {later} {at} {top} {least} {credit} {at₁} {top₁} 
           grows = omega arith;
           within = omega arith;
         }
-    go None e = e
-    go (Refused number place) e = e
+    by-result None e = e
+    by-result (Refused number place) e = e
 
 -- a rule goes on after a step that kept something, and after one that kept nothing
 module _ {A B : Type 0} {words : A → Run} {text arena later : List ℕ} {at top least credit : ℕ} {answer : Answer B} {r : Built}
@@ -183,6 +164,20 @@ rule-stopped (Ok node next free) (inl e) b = absurd (omega arith)
 rule-stopped (Ok node next free) (inr e) b = absurd (omega arith)
 rule-stopped None k b = b .agrees
 rule-stopped (Refused number place) k b = b .agrees
+
+-- a rule that stopped, and a rule with no level left, by what is answered then
+pub stopped-builds : {A : Type 0} {words : A → Run} {text arena : List ℕ} {at top least credit : ℕ} {answer : Answer A} (r : Built) → Stopped answer r
+    → Builds words text arena arena at top least credit answer r
+stopped-builds {words = words} {text} {arena} {at} {top} {least} {credit} {answer} r s = record { kept = kept-refl; agrees = by-answer r s }
+  where
+    by-answer : (r : Built) → Stopped answer r → Agrees words text arena at top least credit answer r
+    by-answer (Ok node next later) s = absurd s
+    by-answer None s = s
+    by-answer (Refused number place) s = s
+
+pub deep-builds : {A : Type 0} {words : A → Run} {text arena : List ℕ} {at top least credit depth : ℕ} (rule : ℕ → Answer A) (r : Built) → depth ≡ 0
+    → Stopped (rule 0) r → Builds words text arena arena at top least credit (rule depth) r
+deep-builds rule r e s = rw e (stopped-builds r s)
 
 -- a token that is not there
 pub record Absent {A : Type 0} (f : ℕ → A) (text : List ℕ) (at least : ℕ) (answer : Answer A) (r : Lexed) : Type 0 where

@@ -11,10 +11,10 @@ use Rattle.lexing.specs.Answer.{ok}
 use Rattle.tree.specs.Ast.{Span, Expr}
 use Rattle.grammar.specs.Grammar.{build, Class}
 use Rattle.grammar.specs.Steps.{after, need}
-use Rattle.grammar.specs.Rules.{leftTail}
+use Rattle.grammar.specs.Rules.{leftTail, operatorOf}
 use Rattle.grammar.specs.Reading.{treeWords}
 use Rattle.reading.specs.Arena.{Run, Holds, Kept, Room}
-use Rattle.reading.specs.Code.{turns, operatorOf, tighterOf, leftChain, Begun}
+use Rattle.reading.specs.Code.{turns, tighterOf, leftChain, Begun}
 use Rattle.reading.proofs.Laws.{kept-refl, after-ok}
 use Rattle.reading.proofs.Rooms.{room-on}
 use Rattle.reading.proofs.Reached.{Stand, Reached}
@@ -23,7 +23,7 @@ use Rattle.reading.proofs.Reached.{Stand, Reached}
 pub record Leaning (k : Class) (text : List ℕ) (depth start from free : ℕ) (before arena : List ℕ) (e at top : ℕ) : Type 0 where
   pub tree : Expr Span
   pub turns-left : ℕ
-  pub rest : leftChain k text depth start ≡ leftTail (suc turns-left) (operatorOf k text) (tighterOf k text depth) tree at
+  pub rest : leftChain k text depth start ≡ leftTail (suc turns-left) (operatorOf text k) (tighterOf k text depth) tree at
   pub enough : length text ≤ at + turns-left
   pub holds : Holds arena e (treeWords tree)
   pub node-below : e + 4 ≤ top
@@ -56,9 +56,9 @@ module _ {k : Class} {text : List ℕ} {depth start from free : ℕ} {before : L
     leaning-room m = room-on m (l .kept) (l .grows) (l .inside) (omega (arith, l))
 
     pub leaning-rule : leftChain k text depth start
-        ≡ after (operatorOf k text at) (ok (l .tree) at)
+        ≡ after (operatorOf text k at) (ok (l .tree) at)
         (λ b at₁. need at₁ (tighterOf k text depth at₁)
-        (λ e₁ at₂. leftTail (l .turns-left) (operatorOf k text) (tighterOf k text depth) (build b (l .tree) e₁) at₂))
+        (λ e₁ at₂. leftTail (l .turns-left) (operatorOf text k) (tighterOf k text depth) (build b (l .tree) e₁) at₂))
     unfolding leftTail
     leaning-rule = l .rest
 
@@ -84,9 +84,9 @@ module _ {k : Class} {text : List ℕ} {depth start from free : ℕ} {before : L
           spare = 0;
           bytes = at - from;
           rest =
-              after (operatorOf k text at) (ok (l .tree) at)
+              after (operatorOf text k at) (ok (l .tree) at)
               (λ b at₁. need at₁ (tighterOf k text depth at₁)
-              (λ e₁ at₂. leftTail (l .turns-left) (operatorOf k text) (tighterOf k text depth) (build b (l .tree) e₁) at₂));
+              (λ e₁ at₂. leftTail (l .turns-left) (operatorOf text k) (tighterOf k text depth) (build b (l .tree) e₁) at₂));
           made = (e, treeWords (l .tree)) ∷ [];
           depth = depth;
           rank = rank;
@@ -104,7 +104,7 @@ module _ {k : Class} {text : List ℕ} {depth start from free : ℕ} {before : L
 -- where a turn ends the next one begins
 pub leaning-again : {k : Class} {depth start e : ℕ} {ns : List (ℕ × Run)} (p : Reached (Expr Span)) (turns-left : ℕ) (tree : Expr Span)
     → p .answer ≡ leftChain k (p .text) depth start
-    → p .rest ≡ leftTail turns-left (operatorOf k (p .text)) (tighterOf k (p .text) depth) tree (p .at) → p .made ≡ (e, treeWords tree) ∷ ns
+    → p .rest ≡ leftTail turns-left (operatorOf (p .text) k) (tighterOf k (p .text) depth) tree (p .at) → p .made ≡ (e, treeWords tree) ∷ ns
     → leb (p .lent) (p .spare) ≡ true → length (p .text) < p .at + turns-left
     → Leaning k (p .text) depth start (p .start) (p .free) (p .first) (p .arena) e (p .at) (p .top)
 leaning-again p zero tree a r m w h = absurd (omega (arith, p .room .inside))

@@ -14,10 +14,10 @@ use denote.Enum.Declared.{tagOf}
 use Rattle.lexing.specs.Answer.{Answer, ok, refused}
 use Rattle.lexing.specs.declared.token.Lexed.{Lexed}
 use Rattle.grammar.specs.Steps.{after, need}
-use Rattle.reading.specs.Arena.{Run, Node, Holds, Kept, Noted, Room, Found, Builds, neededAt}
+use Rattle.reading.specs.Arena.{Run, Holds, Kept, Noted, Room, Found, Builds, neededAt}
 use Rattle.reading.specs.Code.{Took, Four, Choice, missingAt, untakenAt}
 use Rattle.reading.specs.declared.arena.Built.{Built}
-use Rattle.reading.specs.declared.arena.Built.the-variants.{Ok}
+use Rattle.reading.specs.declared.arena.Built.the-variants.{Ok, Refused}
 use Rattle.reading.proofs.arena.Built.{the-type as built-type}
 use Rattle.reading.proofs.Laws.{Absent, kept-refl, kept-next, holds-kept, after-ok, found, builds-node, rule-failed, rule-needed, token-untaken, token-missing}
 use Rattle.reading.proofs.Rooms.{room-on, choice-holds, four-holds}
@@ -118,6 +118,9 @@ rule-advance f l = record { onward = f .progress; inside = f .next-inside; grows
 pub words-advance : {text : List ℕ} {at top spare : ℕ} (n : ℕ) → at ≤ length text → n ≤ spare → Advance text at top spare 0 at (top + n) (spare - n)
 words-advance n i l = record { onward = omega arith; inside = i; grows = omega arith; paid = omega arith }
 
+pub no-advance : {text : List ℕ} {at top spare : ℕ} → at ≤ length text → Advance text at top spare 0 at top spare
+no-advance i = record { onward = omega arith; inside = i; grows = le-refl _; paid = le-refl _ }
+
 -- the sums of a place and a step
 module _ {text : List ℕ} {at top spare k at₁ top₁ spare₁ : ℕ} (a : Advance text at top spare k at₁ top₁ spare₁) where
   pub above-on : {free : ℕ} → free ≤ top → free ≤ top₁
@@ -138,6 +141,10 @@ pub pair-standing : {arena later : List ℕ} {top a b : ℕ} {f g : Run} → Not
 pair-standing n x y =
     Holds.pair (n .node) (x .below) (y .below) (holds-kept (n .kept) (x .below) (x .holds)) (holds-kept (n .kept) (y .below) (y .holds))
 
+pub headed-standing : {arena later : List ℕ} {top word a z : ℕ} {f : Run} → Noted arena later top 10 word a z → Standing arena top a f
+    → Holds later top (λ r. word ∷ f r)
+headed-standing n x = Holds.headed (n .node) (x .below) (holds-kept (n .kept) (x .below) (x .holds))
+
 pub four-standing : {arena later : List ℕ} {top a b c d : ℕ} {f g h i : Run} (ns : List (ℕ × Run))
     → Stand arena top ((d, i) ∷ (c, h) ∷ (b, g) ∷ (a, f) ∷ ns) → Four arena later top a b c d → Standing later (top + 12) (top + 8) (λ r. f (g (h (i r))))
 four-standing ns (w, (z, (y, (x, s)))) n =
@@ -151,7 +158,7 @@ choice-standing ns (z, (y, (x, s))) n =
 
 module _ {A : Type 0} (p : Reached A) where
   -- a step that makes no node
-  abbrev step : (later : List ℕ) (k at₁ top₁ spare₁ : ℕ) (rest₁ : Answer A) → p .rest ≡ rest₁ → Kept (p .arena) later (p .top)
+  abbrev pub step : (later : List ℕ) (k at₁ top₁ spare₁ : ℕ) (rest₁ : Answer A) → p .rest ≡ rest₁ → Kept (p .arena) later (p .top)
       → Advance (p .text) (p .at) (p .top) (p .spare) k at₁ top₁ spare₁ → Reached A
   step later k at₁ top₁ spare₁ rest₁ e q a =
       record {
@@ -182,7 +189,7 @@ module _ {A : Type 0} (p : Reached A) where
       }
 
   -- a node more
-  abbrev with-node : (n : ℕ) (f : Run) → Standing (p .arena) (p .top) n f → Reached A
+  abbrev pub with-node : (n : ℕ) (f : Run) → Standing (p .arena) (p .top) n f → Reached A
   with-node n f s =
       record {
         text = p .text;
@@ -228,6 +235,10 @@ module _ {A : Type 0} (p : Reached A) where
       (rule-advance (found o b) (leb-true credit (p .spare) l)))
       n (words (found o b .value)) (record { holds = found o b .holds; below = found o b .node-below })
 
+  -- a branch that kept nothing was passed over
+  abbrev pub skipped : {later : List ℕ} (rest₁ : Answer A) → p .rest ≡ rest₁ → Kept (p .arena) later (p .top) → Reached A
+  skipped {later} rest₁ e q = step p later 0 (p .at) (p .top) (p .spare) rest₁ e q (no-advance (p .room .inside))
+
   -- n words were written
   abbrev wrote : {later : List ℕ} (n : ℕ) → Kept (p .arena) later (p .top) → leb n (p .spare) ≡ true → Reached A
   wrote {later} n q l = step p later 0 (p .at) (p .top + n) (p .spare - n) (p .rest) refl q (words-advance n (p .room .inside) (leb-true n (p .spare) l))
@@ -242,6 +253,11 @@ module _ {A : Type 0} (p : Reached A) where
   abbrev pub paired : {later : List ℕ} {a b : ℕ} {f g : Run} → Noted (p .arena) later (p .top) 8 0 a b → Standing (p .arena) (p .top) a f
       → Standing (p .arena) (p .top) b g → leb 4 (p .spare) ≡ true → Reached A
   paired {f = f} {g} n x y l = noted {f = λ r. f (g r)} n (pair-standing n x y) l
+
+  -- a node was written for a word and a run that stands
+  abbrev pub headed : {later : List ℕ} {word a z : ℕ} {f : Run} → Noted (p .arena) later (p .top) 10 word a z → Standing (p .arena) (p .top) a f
+      → leb 4 (p .spare) ≡ true → Reached A
+  headed {word = word} {f = f} n x l = noted {f = λ r. word ∷ f r} n (headed-standing n x) l
 
   -- the nodes of `four` and of `choice` were written over the last ones
   abbrev pub four-made : {later : List ℕ} {a b c d : ℕ} {f g h i : Run} {ns : List (ℕ × Run)} → p .made ≡ (d, i) ∷ (c, h) ∷ (b, g) ∷ (a, f) ∷ ns
@@ -285,6 +301,10 @@ module _ {A : Type 0} (p : Reached A) where
         stands = stand-respelt ns q (subst (Stand (p .arena) (p .top)) e (p .stands));
       }
 
+  -- the node of an empty sequence, which is also that of a missing option
+  pub end-standing : Standing (p .arena) (p .top) 4 (λ r. 0 ∷ r)
+  end-standing = record { holds = Holds.one (p .room .based .end-run); below = p .room .above }
+
   -- ---- what the function calls and what it answers
 
   -- room for a rule that is called
@@ -298,26 +318,31 @@ module _ {A : Type 0} (p : Reached A) where
   pub length-after : {later : List ℕ} → Kept (p .arena) later (p .top) → length later ≡ length (p .first)
   length-after k = k .length-kept ∙ p .kept .length-kept
 
-  module _ {B : Type 0} {words : A → Run} {least credit : ℕ} where
+  -- a step was refused
+  pub refuses : {words : A → Run} {from least credit number place : ℕ} → p .rest ≡ refused number place
+      → Builds words (p .text) (p .first) (p .arena) from (p .free) least credit (p .answer) (Refused number place)
+  refuses e = record { kept = p .kept; agrees = p .says ∙ e }
+
+  module _ {B : Type 0} {words : A → Run} {from least credit : ℕ} where
     -- a token that must follow, or may, is not there
     module _ {f : ℕ → B} {least₁ : ℕ} {answer : Answer B} {q : Built} (go : B → ℕ → Answer A) (r : Lexed)
         (a : Absent f (p .text) (p .at) least₁ answer r) where
       pub missing : p .rest ≡ need (p .at) answer go → q ≡ missingAt (p .at) r
-          → Builds words (p .text) (p .first) (p .arena) (p .start) (p .free) least credit (p .answer) q
+          → Builds words (p .text) (p .first) (p .arena) from (p .free) least credit (p .answer) q
       missing e o = rw (p .says ∙ e) (token-missing go (p .kept) r (p .at) a o)
 
       pub untaken : p .rest ≡ after answer Answer.none go → q ≡ untakenAt r
-          → Builds words (p .text) (p .first) (p .arena) (p .start) (p .free) least credit (p .answer) q
+          → Builds words (p .text) (p .first) (p .arena) from (p .free) least credit (p .answer) q
       untaken e o = rw (p .says ∙ e) (token-untaken go (p .kept) r a o)
 
     -- a rule that must follow, or may, keeps nothing or is refused
-    module _ {words₁ : B → Run} {later : List ℕ} {least₁ credit₁ : ℕ} {answer : Answer B} (go : B → ℕ → Answer A) (r : Built)
-        (b : Builds words₁ (p .text) (p .arena) later (p .at) (p .top) least₁ credit₁ answer r) (k : OneOf (1 ∷ 2 ∷ []) (tagOf built-type r)) where
+    module _ {words₁ : B → Run} {later : List ℕ} {at₁ least₁ credit₁ : ℕ} {answer : Answer B} (go : B → ℕ → Answer A) (r : Built)
+        (b : Builds words₁ (p .text) (p .arena) later at₁ (p .top) least₁ credit₁ answer r) (k : OneOf (1 ∷ 2 ∷ []) (tagOf built-type r)) where
       pub needed : {q : Built} → p .rest ≡ need (p .at) answer go → q ≡ neededAt (p .at) r
-          → Builds words (p .text) (p .first) later (p .start) (p .free) least credit (p .answer) q
+          → Builds words (p .text) (p .first) later from (p .free) least credit (p .answer) q
       needed e o = rw (p .says ∙ e) (rule-needed go (kept-next (p .above) (p .kept) (b .kept)) r k (p .at) b o)
 
-      pub failed : p .rest ≡ after answer Answer.none go → Builds words (p .text) (p .first) later (p .start) (p .free) least credit (p .answer) r
+      pub failed : p .rest ≡ after answer Answer.none go → Builds words (p .text) (p .first) later from (p .free) least credit (p .answer) r
       failed e = rw (p .says ∙ e) (rule-failed go (kept-next (p .above) (p .kept) (b .kept)) r k b)
 
   -- the rule ends with the last node that was made

@@ -11,15 +11,16 @@ use Rattle.lexing.specs.Answer.{Answer, ok, refused}
 use Rattle.tree.specs.Ast.{Span, Expr, LogicalImp}
 use Rattle.grammar.specs.Grammar.{Build, straight, build, implication}
 use Rattle.grammar.specs.Steps.{after, need, mapped, Sym}
-use Rattle.grammar.specs.Rules.{rightTail, impliesOperator}
+use Rattle.grammar.specs.Rules.{rightTail, impliesOperator, operatorOf}
 use Rattle.grammar.specs.Reading.{treeWords}
 use Rattle.reading.specs.Arena.{Holds, Kept, Noted, Room, Found, Builds, neededAt}
-use Rattle.reading.specs.Code.{turns, operatorOf, tighterOf, rightChain, Begun, Stands, wordOf, swapOf}
+use Rattle.reading.specs.Code.{turns, tighterOf, rightChain, Begun, Stands, wordOf, swapOf}
 use Rattle.reading.specs.Code.{Layer, binaryLayer, foldLayers, Links, Folds, Foldable, FoldedAt}
 use Rattle.reading.specs.declared.arena.Built.{Built}
 use Rattle.reading.specs.declared.arena.Built.the-variants.{Refused}
 use Rattle.reading.proofs.arena.Built.{the-type as built-type}
-use Rattle.reading.proofs.Laws.{mapped-same, mapped-twice, mapped-need, mapped-ok, mapped-refused, kept-refl, kept-next, node-kept, holds-kept, after-ok, after-none, after-refused, rule-needed}
+use Rattle.grammar.specs.StepLaws.{mapped-same, mapped-twice, mapped-need}
+use Rattle.reading.proofs.Laws.{mapped-ok, mapped-refused, kept-refl, kept-next, node-kept, holds-kept, after-ok, after-none, after-refused, rule-needed}
 use Rattle.reading.proofs.Folds.{links-kept}
 use Rattle.reading.proofs.Rooms.{room-on}
 use Rattle.reading.proofs.Folds.{folded-builds}
@@ -46,7 +47,7 @@ pub record Waiting (text : List ℕ) (depth start from free : ℕ) (before arena
   pub layers : List Layer
   pub turns-left : ℕ
   pub rest : rightChain text depth start
-      ≡ mapped (foldLayers layers) (rightTail (suc turns-left) (operatorOf implication text) (tighterOf implication text depth) tree at)
+      ≡ mapped (foldLayers layers) (rightTail (suc turns-left) (operatorOf text implication) (tighterOf implication text depth) tree at)
   pub enough : length text ≤ at + turns-left
   pub links : Links arena link layers
   pub links-below : link + 4 ≤ top
@@ -115,7 +116,7 @@ module _ {text : List ℕ} {depth start from free : ℕ} {before : List ℕ} whe
       after-implies : rightChain text depth start
           ≡ need next (tighterOf implication text depth next)
           (λ e₁ at₂. mapped (foldLayers (w .layers)) (mapped (build (s .value) (w .tree))
-          (rightTail (w .turns-left) (operatorOf implication text) (tighterOf implication text depth) e₁ at₂)))
+          (rightTail (w .turns-left) (operatorOf text implication) (tighterOf implication text depth) e₁ at₂)))
       unfolding rightTail
       after-implies = w .rest ∙ ap (mapped (foldLayers (w .layers))) (after-ok _ _ (s .says)) ∙ mapped-need (foldLayers (w .layers)) next _ _
 
@@ -143,7 +144,7 @@ module _ {text : List ℕ} {depth start from free : ℕ} {before : List ℕ} whe
             with-turns : (turns-left : ℕ) → length text ≤ at + turns-left
                 → rightChain text depth start
                 ≡ mapped (λ x. foldLayers (w .layers) (build (s .value) (w .tree) x))
-                (rightTail turns-left (operatorOf implication text) (tighterOf implication text depth) (f .value) next₁)
+                (rightTail turns-left (operatorOf text implication) (tighterOf implication text depth) (f .value) next₁)
                 → Waiting text depth start from free before later e₁ next₁ top₁ top
             with-turns zero h c = absurd (omega (arith, s, f))
             with-turns (suc turns-left) h c =

@@ -17,9 +17,11 @@ use Rattle.reading.specs.Code.{ItemOf, ListOf, sequenceOf, Shuts, Ended,
 use Rattle.reading.specs.declared.arena.Built.{Built}
 use Rattle.reading.specs.declared.rules.seq.Kind.{Kind}
 use Rattle.reading.specs.declared.rules.seq.Kind.the-variants.{Exprs as ExprItems, Bindings as BindingItems, Closures as ClosureItems, Properties as PropertyItems}
+use Rattle.reading.specs.declared.rules.seq.Kind.the-variants.{Names as NameItems, Formals as FormalItems, Parameters as ParameterItems, Arguments as ArgumentItems}
 use Rattle.reading.specs.declared.arena.Built.the-variants.{Ok, None, Refused}
 use Rattle.reading.proofs.arena.Built.{the-type as built-type}
-use Rattle.reading.proofs.Laws.{kept-refl, kept-trans, kept-next, node-kept, holds-kept, after-ok, after-none, after-refused, mapped-same, mapped-twice, mapped-need, builds-node, rule-needed}
+use Rattle.grammar.specs.StepLaws.{mapped-same, mapped-twice, mapped-need}
+use Rattle.reading.proofs.Laws.{kept-refl, kept-trans, kept-next, node-kept, holds-kept, after-ok, after-none, after-refused, builds-node, rule-needed}
 
 -- ---- a list and the sign that closes it
 
@@ -46,6 +48,10 @@ nil-words ExprItems r = refl
 nil-words BindingItems r = refl
 nil-words ClosureItems r = refl
 nil-words PropertyItems r = refl
+nil-words NameItems r = refl
+nil-words FormalItems r = refl
+nil-words ParameterItems r = refl
+nil-words ArgumentItems r = refl
 
 pub nil-holds : (k : Kind) {arena : List ℕ} → Based arena → Holds arena 4 (listWords k (sequenceOf k .nil))
 nil-holds k {arena} b = subst (Holds arena 4) (sym (fun-ext (nil-words k))) (Holds.one (b .end-run))
@@ -96,6 +102,10 @@ cons-words ExprItems a l r = refl
 cons-words BindingItems a l r = refl
 cons-words ClosureItems a l r = refl
 cons-words PropertyItems a l r = refl
+cons-words NameItems a l r = refl
+cons-words FormalItems a l r = refl
+cons-words ParameterItems a l r = refl
+cons-words ArgumentItems a l r = refl
 
 pub comma-repetition : (text : List ℕ) (k : Kind) (item : Reader (ItemOf k))
     → Repetition (Sym text ",") item (sequenceOf k .cons) (sequenceOf k .nil) (λ n. commaTail text (sequenceOf k) n item) (itemWords k) (listWords k)
@@ -119,7 +129,7 @@ pub record Gathered {L : Type 0} (words : L → Run) (arena : List ℕ) (list to
   pub says : whole ≡ mapped more rest
 
 -- no item yet: the empty run
-gathered-none : {L : Type 0} {words : L → Run} {arena : List ℕ} {top : ℕ} {whole : Answer L} → Based arena → 8 ≤ top → Gathered words arena 0 top whole whole
+pub gathered-none : {L : Type 0} {words : L → Run} {arena : List ℕ} {top : ℕ} {whole : Answer L} → Based arena → 8 ≤ top → Gathered words arena 0 top whole whole
 gathered-none {whole} e b =
     record {
       run = λ r. r;
@@ -132,7 +142,7 @@ gathered-none {whole} e b =
     }
 
 -- one item more
-gathered-item : {L : Type 0} {words : L → Run} {arena later last : List ℕ} {list top n e : ℕ} {whole rest rest₁ : Answer L} {each : Run} (put : L → L)
+pub gathered-item : {L : Type 0} {words : L → Run} {arena later last : List ℕ} {list top n e : ℕ} {whole rest rest₁ : Answer L} {each : Run} (put : L → L)
     → Gathered words arena list top whole rest → rest ≡ mapped put rest₁ → ((l : L) (r : List ℕ) → words (put l) r ≡ 1 ∷ each (words l r))
     → Kept arena later top → top ≤ n → Holds later e each → e + 4 ≤ n → Noted later last n 7 0 list e → Gathered words last n (n + 4) whole rest₁
 gathered-item {rest₁} {each} put g p w k t h b o =
@@ -147,6 +157,31 @@ gathered-item {rest₁} {each} put g p w k t h b o =
       joins = λ l r. ap (g .run) (sym (w l r)) ∙ g .joins (put l) r;
       says = g .says ∙ ap (mapped (g .more)) p ∙ mapped-twice put (g .more) rest₁;
     }
+
+-- a sequence's node with its end, where the sequence without a node is empty
+pub ended-holds : {arena last : List ℕ} {top list next node n free : ℕ} {f : Run} → Based arena → 8 ≤ top → Holds arena list f → list + 4 ≤ top
+    → (list ≡ 0 → f ≡ (λ r. r)) → Ended arena last top list next node n free → Holds last node (λ r. f (0 ∷ r))
+ended-holds {last = last} {top} {list} {node = node} {f = f} b l s d bare h = by-list list refl
+  where
+    by-list : (k : ℕ) → list ≡ k → Holds last node (λ r. f (0 ∷ r))
+    by-list zero z =
+        let (x, y) = h .empty z in
+        let same : _≡_ {A = Run} (λ r. 0 ∷ r) (λ r. f (0 ∷ r)) = ap (λ f r. f (0 ∷ r)) (sym (bare z)) in
+        let stands : Holds last 4 (λ r. 0 ∷ r) = Holds.one (node-kept (h .kept) l (b .end-run)) in
+        rw x (subst (Holds last 4) same stands)
+    by-list (suc k) z =
+        let (x, y, q) = h .some (λ e. absurd (omega arith)) in
+        let stands : Holds last top (λ r. f (0 ∷ r)) = Holds.closed q d (holds-kept (h .kept) d s) in
+        rw x stands
+
+-- where it stands: it takes four words at most
+pub ended-bounds : {arena last : List ℕ} {top list next node n free : ℕ} → 8 ≤ top → Ended arena last top list next node n free
+    → (node + 4 ≤ free) × (top ≤ free) × (free ≤ top + 4)
+ended-bounds {top = top} {list} {node = node} {free = free} l h = by-list list refl
+  where
+    by-list : (k : ℕ) → list ≡ k → (node + 4 ≤ free) × (top ≤ free) × (free ≤ top + 4)
+    by-list zero z = let (x, y) = h .empty z in (omega arith, omega arith, omega arith)
+    by-list (suc k) z = let (x, y, q) = h .some (λ e. absurd (omega arith)) in (omega arith, omega arith, omega arith)
 
 -- where a turn of the loop begins, at `at` and `top`, with more turns left than bytes
 pub record Gathering {L : Type 0} (words : L → Run) (text : List ℕ) (whole : Answer L) (rest : ℕ → Reader L) (first : List ℕ) (free : ℕ)
@@ -188,12 +223,12 @@ module _ {A L : Type 0} {mark : Reader ℕ} {item : Reader A} {put : A → L →
     pub gathering-next : {v next least credit e next₁ top₁ : ℕ} {later last : List ℕ} → mark at ≡ ok v next → at < next₁ → Kept arena later top
         → Found each text later next top least credit (item next) e next₁ top₁ → Noted later last top₁ 7 0 list e
         → Gathering words text whole rest first free last top₁ next₁ (top₁ + 4)
-    gathering-next {next₁} {top₁} {last} m p k f n = go (g .left) (g .enough) (marked-turn m ∙ after-ok _ _ (f .says))
+    gathering-next {next₁} {top₁} {last} m p k f n = by-turns (g .left) (g .enough) (marked-turn m ∙ after-ok _ _ (f .says))
       where
-        go : (left : ℕ) → length text ≤ at + left → rest (suc (g .left)) at ≡ mapped (put (f .value)) (rest left next₁)
+        by-turns : (left : ℕ) → length text ≤ at + left → rest (suc (g .left)) at ≡ mapped (put (f .value)) (rest left next₁)
             → Gathering words text whole rest first free last top₁ next₁ (top₁ + 4)
-        go zero l s = absurd (omega (arith, f .next-inside))
-        go (suc left) l s =
+        by-turns zero l s = absurd (omega (arith, f .next-inside))
+        by-turns (suc left) l s =
             record {
               kept = kept-next (g .above) (g .kept) (kept-next (f .grows) k (n .kept));
               left = left;
@@ -212,19 +247,9 @@ module _ {A L : Type 0} {mark : Reader ℕ} {item : Reader A} {put : A → L →
 
     end-holds : {last : List ℕ} {node n free₁ : ℕ} → Based arena → 8 ≤ top → Ended arena last top list at node n free₁
         → (Holds last node (words (g .gathered .more end))) × (node + 4 ≤ free₁) × (top ≤ free₁)
-    end-holds {last} {node} {n} {free₁} b l h = by-list list refl
-      where
-        by-list : (k : ℕ) → list ≡ k → (Holds last node (words (g .gathered .more end))) × (node + 4 ≤ free₁) × (top ≤ free₁)
-        by-list zero z =
-            let (x, y) = h .empty z in
-            let same : (λ r. 0 ∷ r) ≡ words (g .gathered .more end) = ap (λ f r. f (0 ∷ r)) (sym (g .gathered .bare z)) ∙ end-run in
-            let stands : Holds last 4 (λ r. 0 ∷ r) = Holds.one (node-kept (h .kept) l (b .end-run)) in
-            (rw x (subst (Holds last 4) same stands), omega arith, omega arith)
-        by-list (suc k) z =
-            let (x, y, q) = h .some (λ e. absurd (omega arith)) in
-            let stands : Holds last top (λ r. g .gathered .run (0 ∷ r)) =
-            Holds.closed q (g .gathered .below) (holds-kept (h .kept) (g .gathered .below) (g .gathered .holds)) in
-            (rw x (subst (Holds last top) end-run stands), omega arith, omega arith)
+    end-holds {last} {node} b l h =
+        let (x, y, _) = ended-bounds l h in
+        (subst (Holds last node) end-run (ended-holds b l (g .gathered .holds) (g .gathered .below) (g .gathered .bare) h), x, y)
 
     pub gathering-end : {start least credit : ℕ} {before last : List ℕ} (b : Built) → mark at ≡ Answer.none → Kept before first free → Based arena
         → 8 ≤ top → Closes arena last top list at b → start + least ≤ at → (list ≡ 0 → top + 8 * start ≤ free + 8 * at + credit)
@@ -272,11 +297,16 @@ pub nonempty-some : {A L : Type 0} (text : List ℕ) (m : ℕ) (q : Sequence A L
 unfolding parseNonemptyCommaDelimitedSeq
 nonempty-some text m q item at e = after-ok _ _ e
 
--- a turn of `marks`: nothing was read from `start` on, or patterns, which leave room for their end
-pub record Marking (text : List ℕ) (c : Reader (Expr Span)) (w : List ℕ) (start : ℕ) (first : List ℕ) (free : ℕ) (arena : List ℕ) (list at top : ℕ)
-    : Type 0 where
-  pub gathering : Gathering (patternsWords same) text (parseMarked text (turns text) c (turns text) w start) (λ k. parseMarked text (turns text) c k w) first
-      free arena list at top
+-- a turn of a loop that repeats a mark and an item: nothing was read from `start` on, or items, which leave room for their end
+pub record Repeating {L : Type 0} (words : L → Run) (text : List ℕ) (whole : Answer L) (rest : ℕ → Reader L) (start : ℕ) (first : List ℕ) (free : ℕ)
+    (arena : List ℕ) (list at top : ℕ) : Type 0 where
+  pub gathering : Gathering words text whole rest first free arena list at top
   pub forward : start ≤ at
   pub within : top + 8 * start ≤ free + 8 * at
   pub begun : (list ≡ 0 → ⊥) → top + 4 + 8 * start ≤ free + 8 * at
+
+-- a turn of `marks`
+abbrev pub Marking : List ℕ → Reader (Expr Span) → List ℕ → ℕ → List ℕ → ℕ → List ℕ → ℕ → ℕ → ℕ → Type 0
+Marking text c w start first free arena list at top =
+    Repeating (patternsWords same) text (parseMarked text (turns text) c (turns text) w start) (λ k. parseMarked text (turns text) c k w) start first free arena
+    list at top

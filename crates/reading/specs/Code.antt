@@ -1,7 +1,7 @@
 -- What the code of the rules promises, in terms of the rules.
 use Prim.Native.Nat.{ℕ, zero, suc, _+_, _*_, _^_, _≤_, _<_}
 use mathlib.Core.Path.{_≡_}
-use mathlib.Core.Bool.{Bool, true, false}
+use mathlib.Core.Bool.{cond, Bool, true, false}
 use mathlib.Core.List.{List, [], _∷_}
 use mathlib.Core.Option.{Option, none, some}
 use lib.ListN.{length}
@@ -9,12 +9,16 @@ use lib.Dec.{eqb}
 use Rattle.lexing.specs.Answer.{Answer, ok, refused}
 use Rattle.lexing.specs.declared.token.Lexed.{Lexed}
 use Rattle.lexing.specs.declared.token.Lexed.the-variants.{Ok as LexedOk, None as LexedNone, Refused as LexedRefused}
-use Rattle.tree.specs.Ast.{Span, Expr, BLiteral, ILiteral, Operator, OperatorExpr, noExprs, _then_, Patterns, Binding, Exprs, ClosureBindings, ClosureProperties}
+use Rattle.tree.specs.Ast.{Span, Expr, BLiteral, ILiteral, Operator, OperatorExpr, noExprs, _then_, Patterns, Binding, binding, Exprs, ClosureBindings, ClosureProperties}
+use Rattle.tree.specs.Ast.{IdExpr, ParameterMode, InOut, Out, CallArgument, FParameter, PParameter}
 use Rattle.tree.specs.Words.{operatorWord, exprWords, exprsWords, patternsWords, closureBindingsWords, closurePropertiesWords, nameWords, bindingWords, seqWords, optionWords}
+use Rattle.tree.specs.Words.{modeWord, callArgumentWords, fParameterWords, pParameterWords}
 use Rattle.grammar.specs.Grammar.{Build, straight, swapped, single, Class, product, sum, comparison, conjunction, disjunction, implication, explication, equivalence}
-use Rattle.grammar.specs.Steps.{Reader, after, need, mapped, _or_, Sym, T, signAt, parseName, parseNat}
-use Rattle.grammar.specs.Rules.{Sequence, exprs, bindings, closures, properties, ClosureItem, PropertyItem, leftTail, rightTail, equivOperator, impliesOperator, expliesOperator, andOperator, orOperator, parseComparisonOperator}
-use Rattle.grammar.specs.Rules.{termOperator, factorOperator, parseIdType, parseClosureBinding, parseClosureProperty, parseUnaryExpr, parseFactorExpr, parseTermExpr, parseJuctExpr, parseLogicalExpr, parseImpExpExpr, parseExpr, afterParen, afterBar, afterOld}
+use Rattle.grammar.specs.Steps.{Reader, after, need, must, mapped, _or_, Sym, T, signAt, parseName, parseNat}
+use Rattle.grammar.specs.Rules.{Sequence, exprs, bindings, closures, properties, ClosureItem, PropertyItem, leftTail, rightTail, operatorOf}
+use Rattle.grammar.specs.Rules.{parseIdType, parseClosureBinding, parseClosureProperty, parseUnaryExpr, parseFactorExpr, parseTermExpr, parseJuctExpr, parseLogicalExpr, parseImpExpExpr, parseExpr, afterParen, afterBar, afterOld}
+use Rattle.grammar.specs.Statements.{Gallery, gallery, names, arguments, parseCallArgument}
+use Rattle.grammar.specs.Declarations.{formals, parameters, parseFunctionFormal, parseProcFormal}
 use Rattle.grammar.specs.Reading.{Outcome, words, refusal, treeWords}
 use Rattle.reading.specs.Arena.{Run, Node, Holds, Kept, Builds, neededAt}
 use Rattle.reading.specs.declared.arena.Built.{Built}
@@ -28,6 +32,7 @@ use Rattle.reading.specs.declared.entry.Reading.{Reading}
 use Rattle.reading.specs.declared.entry.Reading.the-variants.{Words as ReadWords, Refused as ReadRefused}
 use Rattle.reading.specs.declared.rules.seq.Kind.{Kind}
 use Rattle.reading.specs.declared.rules.seq.Kind.the-variants.{Exprs as ExprItems, Bindings as BindingItems, Closures as ClosureItems, Properties as PropertyItems}
+use Rattle.reading.specs.declared.rules.seq.Kind.the-variants.{Names as NameItems, Formals as FormalItems, Parameters as ParameterItems, Arguments as ArgumentItems}
 
 -- ---- tokens
 
@@ -131,18 +136,30 @@ ItemOf ExprItems = Expr Span
 ItemOf BindingItems = Binding Span
 ItemOf ClosureItems = ClosureItem
 ItemOf PropertyItems = PropertyItem
+ItemOf NameItems = Span
+ItemOf FormalItems = FParameter Span
+ItemOf ParameterItems = PParameter Span
+ItemOf ArgumentItems = CallArgument Span
 
 abbrev pub ListOf : Kind → Type 0
 ListOf ExprItems = Exprs Span
 ListOf BindingItems = List (Binding Span)
 ListOf ClosureItems = ClosureBindings Span
 ListOf PropertyItems = ClosureProperties Span
+ListOf NameItems = List Span
+ListOf FormalItems = List (FParameter Span)
+ListOf ParameterItems = List (PParameter Span)
+ListOf ArgumentItems = List (CallArgument Span)
 
 abbrev pub sequenceOf : (k : Kind) → Sequence (ItemOf k) (ListOf k)
 sequenceOf ExprItems = exprs
 sequenceOf BindingItems = bindings
 sequenceOf ClosureItems = closures
 sequenceOf PropertyItems = properties
+sequenceOf NameItems = names
+sequenceOf FormalItems = formals
+sequenceOf ParameterItems = parameters
+sequenceOf ArgumentItems = arguments
 
 -- the words of a tree whose names are spans
 abbrev pub same : Span → Span
@@ -154,17 +171,41 @@ closureWords c r = nameWords same (c .0) (seqWords (bindingWords same) (c .1) (e
 abbrev pub propertyWords : PropertyItem → Run
 propertyWords p r = patternsWords same (p .0) (exprWords same (p .1) r)
 
+-- the third word of a node of three words
+abbrev pub marked : ℕ → ℕ → Run
+marked tag word r = cond (eqb tag 3) (word ∷ r) r
+
+-- a name with its type, and a word between them where the name's node is of three words
+abbrev pub betweenWords : ℕ → ℕ → Binding Span → Run
+betweenWords tag word (binding n t) r = nameWords same n (marked tag word (nameWords same t r))
+
+-- a parameter without its invariant
+abbrev pub modedWords : PParameter Span → Run
+modedWords p r = nameWords same (p .name) (modeWord (p .mode) ∷ nameWords same (p .typ) r)
+
+-- a variable that is given by name: a word, and the identifier
+abbrev pub referenceWords : ℕ → Span → Run
+referenceWords word n r = word ∷ treeWords (IdExpr n false) r
+
 abbrev pub itemWords : (k : Kind) → ItemOf k → Run
 itemWords ExprItems = exprWords same
 itemWords BindingItems = bindingWords same
 itemWords ClosureItems = closureWords
 itemWords PropertyItems = propertyWords
+itemWords NameItems = nameWords same
+itemWords FormalItems = fParameterWords same
+itemWords ParameterItems = pParameterWords same
+itemWords ArgumentItems = callArgumentWords same
 
 abbrev pub listWords : (k : Kind) → ListOf k → Run
 listWords ExprItems = exprsWords same
 listWords BindingItems = seqWords (bindingWords same)
 listWords ClosureItems = closureBindingsWords same
 listWords PropertyItems = closurePropertiesWords same
+listWords NameItems = seqWords (nameWords same)
+listWords FormalItems = seqWords (fParameterWords same)
+listWords ParameterItems = seqWords (pParameterWords same)
+listWords ArgumentItems = seqWords (callArgumentWords same)
 
 -- ---- rules
 
@@ -176,15 +217,9 @@ turns text = suc (length text)
 abbrev pub inner : List ℕ → ℕ → Reader (Expr Span)
 inner text depth = parseExpr text (turns text) depth
 
-abbrev pub operatorOf : Class → List ℕ → Reader Build
-operatorOf product text = factorOperator text
-operatorOf sum text = termOperator text
-operatorOf comparison text = parseComparisonOperator text
-operatorOf conjunction text = andOperator text
-operatorOf disjunction text = orOperator text
-operatorOf implication text = impliesOperator text
-operatorOf explication text = expliesOperator text
-operatorOf equivalence text = equivOperator text
+-- and the rules that a statement opens
+abbrev pub opened : List ℕ → ℕ → Gallery
+opened text depth = gallery text (turns text) depth
 
 -- the rule of a level's operands
 abbrev pub tighterOf : Class → List ℕ → ℕ → Reader (Expr Span)
@@ -200,18 +235,22 @@ tighterOf equivalence text depth = parseImpExpExpr text (turns text) (inner text
 -- a chain from its first operand's place on
 abbrev pub leftChain : Class → List ℕ → ℕ → Reader (Expr Span)
 leftChain k text depth start =
-    after (tighterOf k text depth start) Answer.none (leftTail (turns text) (operatorOf k text) (tighterOf k text depth))
+    after (tighterOf k text depth start) Answer.none (leftTail (turns text) (operatorOf text k) (tighterOf k text depth))
 
 abbrev pub rightChain : List ℕ → ℕ → Reader (Expr Span)
 rightChain text depth start =
     after (tighterOf implication text depth start) Answer.none
-    (rightTail (turns text) (operatorOf implication text) (tighterOf implication text depth))
+    (rightTail (turns text) (operatorOf text implication) (tighterOf implication text depth))
 
 abbrev pub itemRule : (k : Kind) → List ℕ → ℕ → Reader (ItemOf k)
 itemRule ExprItems text depth = inner text depth
 itemRule BindingItems text depth = parseIdType text
 itemRule ClosureItems text depth = parseClosureBinding text (turns text) (inner text depth)
 itemRule PropertyItems text depth = parseClosureProperty text (turns text) (inner text depth)
+itemRule NameItems text depth = parseName text
+itemRule FormalItems text depth = parseFunctionFormal text
+itemRule ParameterItems text depth = parseProcFormal text (turns text) (opened text depth)
+itemRule ArgumentItems text depth = parseCallArgument text (turns text) (opened text depth)
 
 -- a rule of expressions was followed, with `credit` more words
 abbrev pub Follows : (List ℕ → ℕ → Reader (Expr Span) → Reader (Expr Span)) → ℕ → List ℕ → List ℕ → List ℕ → ℕ → ℕ → ℕ → Built → Type 0
@@ -245,6 +284,14 @@ constantExpr text at =
 
 abbrev pub parenExpr : List ℕ → Reader (Expr Span) → Reader (Expr Span)
 parenExpr text c at = after (Sym text "(" at) Answer.none (λ _ at₁. afterParen text c at₁)
+
+-- `out` or `inout` and a name
+abbrev pub referenceArgument : List ℕ → Reader (CallArgument Span)
+referenceArgument text at =
+    after (T text "out" at) Answer.none (λ _ at₁. named Out at₁) or after (T text "inout" at) Answer.none (λ _ at₁. named InOut at₁)
+  where
+    named : ParameterMode → Reader (CallArgument Span)
+    named d at = must at (mapped (λ n. record { mode = d; arg = IdExpr n false }) (parseName text at))
 
 abbrev pub universalOf : ℕ → Bool
 universalOf u = eqb u 1

@@ -1,6 +1,8 @@
 -- What the code of the reader promises, and that it reads by the operator grammar.
 pub mod Arena
 pub mod Code
+pub mod Statements
+pub mod Declarations
 pub mod Flat
 pub mod Entry
 pub mod TreeRead

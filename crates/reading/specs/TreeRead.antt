@@ -6,7 +6,7 @@ use lib.ListN.{length, replicate}
 use Rattle.tree.specs.Ast.{Span, Expr}
 use Rattle.tree.specs.Resolve.{resolveExpr}
 use Rattle.grammar.specs.Grammar.{Tree}
-use Rattle.grammar.specs.Reading.{treeWords, readExpression}
+use Rattle.grammar.specs.Reading.{treeWords, readExpression, readProgram}
 use Rattle.reading.specs.Code.{outcomeOf}
 use Rattle.reading.specs.declared.entry.Reading.{Reading}
 use Rattle.reading.specs.declared.entry.Reading.the-variants.{Words}
@@ -14,6 +14,10 @@ use Rattle.reading.specs.declared.entry.Reading.the-variants.{Words}
 -- What `read_expression` ensures of its answer r and of the table of n words after it.
 abbrev pub Answered : List ℕ → ℕ → Reading → List ℕ → Type 0
 Answered text n r table = outcomeOf r table ≡ readExpression text n
+
+-- What `read_program` ensures of them.
+abbrev pub ProgramAnswered : List ℕ → ℕ → Reading → List ℕ → Type 0
+ProgramAnswered text n r table = outcomeOf r table ≡ readProgram text n
 
 -- The answer and the table are those of the tree t: some tree over the text's spans, t once its names are bytes, has so many words as the
 -- answer says, and the table holds them and zeros after them.

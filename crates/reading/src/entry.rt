@@ -1,9 +1,10 @@
-// Read expression.
+// Read expression and read program.
 use crate::arena::Built;
 use crate::arena::END;
 use crate::arena::ONE;
 use crate::arena::node;
 use crate::flat::flatten;
+use crate::program::program;
 use crate::rules::expr;
 use lexing::Reach;
 use lexing::UNCLOSED_COMMENT;
@@ -17,12 +18,12 @@ ghost use lib.ListN.{length, replicate};
 ghost use Rattle.lexing.specs.Answer.{Answer};
 ghost use Rattle.tree.specs.Limits.{mostText};
 ghost use Rattle.grammar.specs.Steps.{need};
-ghost use Rattle.grammar.specs.Reading.{outcome, outcomeBy, stored, toEnd, parseText};
-ghost use Rattle.reading.specs.Arena.{Run, Holds};
+ghost use Rattle.grammar.specs.Reading.{outcomeBy, stored, toEnd};
+ghost use Rattle.reading.specs.Arena.{Run, Holds, Room, Builds};
 ghost use Rattle.reading.specs.Code.{outcomeOf};
-ghost use Rattle.reading.specs.Entry.{Buffers, RunAnswer, RunRead};
+ghost use Rattle.reading.specs.Entry.{Buffers, RunAnswer, RunRead, wholeRule, wholeOutcome, readOutcome};
 ghost use Rattle.reading.specs.Flat.{Rooted};
-ghost use Rattle.reading.specs.TreeRead.{Answered};
+ghost use Rattle.reading.specs.TreeRead.{Answered, ProgramAnswered};
 
 // What reading answers: `outcomeOf` in specs/Code.antt gives document 01's number and values of each case.
 pub enum Reading {
@@ -30,6 +31,12 @@ pub enum Reading {
     Words(usize),
     // The refusal's number and place.
     Refused(u64, usize),
+}
+
+// What a text is read as.
+pub(crate) enum Whole {
+    Expression,
+    Program,
 }
 
 // Document 01's depth limit.
@@ -93,59 +100,96 @@ fn finish(
     }
 }
 
-// Reads a text over an arena of eight words and eight for each byte, and a stack of two words and two for each byte.
-fn read_in(text: &[u8], arena: &mut [u32], stack: &mut [u32], table: &mut [u32]) -> Reading
+// The rule of a whole text.
+fn rule(text: &[u8], at: usize, arena: &mut [u32], whole: Whole) -> Built
+    requires { ⌜ Room (now text) (now arena) at 8 36 ⌝ }
+    ensures { λ r. ⌜ Builds (λ f. f) (now (text .entry)) (now (arena .entry)) (now (arena .exit)) at 8 0 36 (wholeRule whole (now (text .entry)) at) r ⌝ }
+{
+    match whole {
+        Whole::Expression => expr(text, at, arena, 8, MOST_DEPTH),
+        Whole::Program => program(text, at, arena, 8, MOST_DEPTH),
+    }
+}
+
+// Reads a text over an arena of 44 words and eight for each byte, and a stack of eleven words and two for each byte.
+fn read_in(
+    text: &[u8],
+    arena: &mut [u32],
+    stack: &mut [u32],
+    table: &mut [u32],
+    whole: Whole,
+) -> Reading
     requires { ⌜ Buffers (now text) (now arena) (now stack) (now table) ⌝ }
-    ensures { λ r. ⌜ outcomeOf r (now (table .exit)) ≡ outcome (length (now (table .entry))) (parseText (now (text .entry))) ⌝ }
+    ensures { λ r. ⌜ outcomeOf r (now (table .exit)) ≡ wholeOutcome whole (length (now (table .entry))) (now (text .entry)) ⌝ }
 {
     match blanks(text) {
         Reach::Unclosed(at) => Reading::Refused(UNCLOSED_COMMENT, at),
         Reach::Passed(at) => {
             node(arena, END as usize, ONE, 0, 0, 0);
-            let built = expr(text, at, arena, 8, MOST_DEPTH);
+            let built = rule(text, at, arena, whole);
             finish(text, at, built, arena, stack, table)
         }
     }
 }
 
 // A text of at most 512 bytes.
-fn read_small(text: &[u8], table: &mut [u32]) -> Reading
+fn read_small(text: &[u8], table: &mut [u32], whole: Whole) -> Reading
     requires { ⌜ (length (now text) ≤ 512) × (now table ≡ replicate (length (now table)) 0) ⌝ }
-    ensures { λ r. ⌜ outcomeOf r (now (table .exit)) ≡ outcome (length (now (table .entry))) (parseText (now (text .entry))) ⌝ }
+    ensures { λ r. ⌜ outcomeOf r (now (table .exit)) ≡ wholeOutcome whole (length (now (table .entry))) (now (text .entry)) ⌝ }
 {
-    let mut arena = [0u32; 4104];
-    let mut stack = [0u32; 1026];
-    read_in(text, &mut arena, &mut stack, table)
+    let mut arena = [0u32; 4140];
+    let mut stack = [0u32; 1035];
+    read_in(text, &mut arena, &mut stack, table, whole)
 }
 
 // A text of at most 4,096 bytes.
-fn read_medium(text: &[u8], table: &mut [u32]) -> Reading
+fn read_medium(text: &[u8], table: &mut [u32], whole: Whole) -> Reading
     requires { ⌜ (length (now text) ≤ 4096) × (now table ≡ replicate (length (now table)) 0) ⌝ }
-    ensures { λ r. ⌜ outcomeOf r (now (table .exit)) ≡ outcome (length (now (table .entry))) (parseText (now (text .entry))) ⌝ }
+    ensures { λ r. ⌜ outcomeOf r (now (table .exit)) ≡ wholeOutcome whole (length (now (table .entry))) (now (text .entry)) ⌝ }
 {
-    let mut arena = [0u32; 32776];
-    let mut stack = [0u32; 8194];
-    read_in(text, &mut arena, &mut stack, table)
+    let mut arena = [0u32; 32812];
+    let mut stack = [0u32; 8203];
+    read_in(text, &mut arena, &mut stack, table, whole)
 }
 
 // A text of at most 12,288 bytes.
-fn read_large(text: &[u8], table: &mut [u32]) -> Reading
+fn read_large(text: &[u8], table: &mut [u32], whole: Whole) -> Reading
     requires { ⌜ (length (now text) ≤ 12288) × (now table ≡ replicate (length (now table)) 0) ⌝ }
-    ensures { λ r. ⌜ outcomeOf r (now (table .exit)) ≡ outcome (length (now (table .entry))) (parseText (now (text .entry))) ⌝ }
+    ensures { λ r. ⌜ outcomeOf r (now (table .exit)) ≡ wholeOutcome whole (length (now (table .entry))) (now (text .entry)) ⌝ }
 {
-    let mut arena = [0u32; 98312];
-    let mut stack = [0u32; 24578];
-    read_in(text, &mut arena, &mut stack, table)
+    let mut arena = [0u32; 98348];
+    let mut stack = [0u32; 24587];
+    read_in(text, &mut arena, &mut stack, table, whole)
 }
 
 // A text of at most 32,768 bytes.
-fn read_longest(text: &[u8], table: &mut [u32]) -> Reading
+fn read_longest(text: &[u8], table: &mut [u32], whole: Whole) -> Reading
     requires { ⌜ (length (now text) ≤ mostText) × (now table ≡ replicate (length (now table)) 0) ⌝ }
-    ensures { λ r. ⌜ outcomeOf r (now (table .exit)) ≡ outcome (length (now (table .entry))) (parseText (now (text .entry))) ⌝ }
+    ensures { λ r. ⌜ outcomeOf r (now (table .exit)) ≡ wholeOutcome whole (length (now (table .entry))) (now (text .entry)) ⌝ }
 {
-    let mut arena = [0u32; 262152];
-    let mut stack = [0u32; 65538];
-    read_in(text, &mut arena, &mut stack, table)
+    let mut arena = [0u32; 262188];
+    let mut stack = [0u32; 65547];
+    read_in(text, &mut arena, &mut stack, table, whole)
+}
+
+// Reads a text with buffers by its length.
+fn read(text: &[u8], table: &mut [u32], whole: Whole) -> Reading
+    ensures { λ r. ⌜ outcomeOf r (now (table .exit)) ≡ readOutcome whole (now (text .entry)) (length (now (table .entry))) ⌝ }
+{
+    clear(table);
+    if MOST_TEXT < text.len() {
+        return Reading::Refused(1, MOST_TEXT);
+    }
+    if text.len() <= 512 {
+        return read_small(text, table, whole);
+    }
+    if text.len() <= 4096 {
+        return read_medium(text, table, whole);
+    }
+    if text.len() <= 12288 {
+        return read_large(text, table, whole);
+    }
+    read_longest(text, table, whole)
 }
 
 // Reads an expression: the words of its tree in the table, with zeros after them, and how many they are. Refusals 1 to 5 leave the table all
@@ -153,18 +197,12 @@ fn read_longest(text: &[u8], table: &mut [u32]) -> Reading
 pub fn read_expression(text: &[u8], table: &mut [u32]) -> Reading
     ensures { λ r. ⌜ Answered (now (text .entry)) (length (now (table .entry))) r (now (table .exit)) ⌝ }
 {
-    clear(table);
-    if MOST_TEXT < text.len() {
-        return Reading::Refused(1, MOST_TEXT);
-    }
-    if text.len() <= 512 {
-        return read_small(text, table);
-    }
-    if text.len() <= 4096 {
-        return read_medium(text, table);
-    }
-    if text.len() <= 12288 {
-        return read_large(text, table);
-    }
-    read_longest(text, table)
+    read(text, table, Whole::Expression)
+}
+
+// Reads a program, in the same way.
+pub fn read_program(text: &[u8], table: &mut [u32]) -> Reading
+    ensures { λ r. ⌜ ProgramAnswered (now (text .entry)) (length (now (table .entry))) r (now (table .exit)) ⌝ }
+{
+    read(text, table, Whole::Program)
 }

@@ -1,6 +1,7 @@
 // Rules that open no expression, and what a rule answers where a step is missing.
 use crate::arena::Built;
 use crate::arena::END;
+use crate::arena::HEADED;
 use crate::arena::IDENT;
 use crate::arena::PAIR;
 use crate::arena::THREE;
@@ -9,6 +10,7 @@ use crate::arena::node;
 use crate::build::over;
 use crate::step::Word;
 use crate::step::is_word;
+use crate::step::keyword;
 use crate::step::literal_text;
 use crate::step::name;
 use crate::step::sym;
@@ -17,16 +19,19 @@ use lexing::Lexed;
 use lexing::identifier_length;
 use lexing::natural;
 ghost use mathlib.Core.Path.{_≡_};
+ghost use mathlib.Core.List.{[], _∷_};
+ghost use types.Run.{OneOf};
 ghost use Prim.Native.Nat.{_+_, _≤_};
 ghost use lib.ListN.{length, getD};
 ghost use Rattle.tree.specs.Ast.{ILiteral};
 ghost use Rattle.tree.specs.Limits.{mostText};
-ghost use Rattle.tree.specs.Words.{bindingWords, optionWords, nameWords};
+ghost use Rattle.tree.specs.Words.{bindingWords, optionWords, nameWords, fParameterWords, callArgumentWords};
 ghost use Rattle.reading.specs.Arena.{Room, Builds, Stopped, neededAt};
-ghost use Rattle.reading.specs.Code.{missingAt, untakenAt, neededIf, same, inner, Shuts, Alone, Worded, literalExpr, customExpr, constantExpr};
+ghost use Rattle.reading.specs.Code.{missingAt, untakenAt, neededIf, same, inner, betweenWords, modedWords, referenceWords, referenceArgument, Shuts, Alone, Worded, literalExpr, customExpr, constantExpr};
 ghost use Rattle.grammar.specs.Reading.{treeWords};
-ghost use Rattle.grammar.specs.Steps.{mapped, parseNat};
+ghost use Rattle.grammar.specs.Steps.{must, mapped, parseName, parseNat};
 ghost use Rattle.grammar.specs.Rules.{opensExpr, opensAt, parseIdType, parseOptionalType, someType, afterOld};
+ghost use Rattle.grammar.specs.Declarations.{parseFunctionFormal, parseModed};
 
 // A rule that must follow at `at`: refusal 2 there where it keeps nothing.
 pub(crate) fn needed(r: Built, at: usize) -> Built
@@ -77,21 +82,7 @@ pub(crate) fn id_type(text: &[u8], at: usize, arena: &mut [u32], top: usize) -> 
     requires { ⌜ Room (now text) (now arena) at top 0 ⌝ }
     ensures { λ r. ⌜ Builds (bindingWords same) (now (text .entry)) (now (arena .entry)) (now (arena .exit)) at top 1 0 (parseIdType (now (text .entry)) at) r ⌝ }
 {
-    let r = name(text, at);
-    let Lexed::Ok(len, at1) = r else {
-        return untaken(r);
-    };
-    let r = sym(text, at1, b":");
-    let Lexed::Ok(_, at2) = r else {
-        return missing(r, at1);
-    };
-    let r = name(text, at2);
-    let Lexed::Ok(len2, at3) = r else {
-        return missing(r, at2);
-    };
-    node(arena, top, TWO, at as u32, len as u32, 0);
-    node(arena, top + 4, TWO, at2 as u32, len2 as u32, 0);
-    over(arena, top + 8, PAIR, 0, top as u32, (top + 4) as u32, at3)
+    between(text, at, arena, top, TWO, 0)
 }
 
 // The type of `parseIdOptionalType`.
@@ -107,7 +98,7 @@ pub(crate) fn optional_type(text: &[u8], at: usize, arena: &mut [u32], top: usiz
 }
 
 // A type that must follow.
-fn typed(text: &[u8], at: usize, arena: &mut [u32], top: usize) -> Built
+pub(crate) fn typed(text: &[u8], at: usize, arena: &mut [u32], top: usize) -> Built
     requires { ⌜ Room (now text) (now arena) at top 0 ⌝ }
     ensures { λ r. ⌜ Builds (optionWords (nameWords same)) (now (text .entry)) (now (arena .entry)) (now (arena .exit)) at top 1 0 (someType (now (text .entry)) at) r ⌝ }
 {
@@ -116,6 +107,97 @@ fn typed(text: &[u8], at: usize, arena: &mut [u32], top: usize) -> Built
         return missing(r, at);
     };
     over(arena, top, THREE, 1, at as u32, len as u32, at1)
+}
+
+// A name.
+pub(crate) fn identifier(text: &[u8], at: usize, arena: &mut [u32], top: usize) -> Built
+    requires { ⌜ Room (now text) (now arena) at top 0 ⌝ }
+    ensures { λ r. ⌜ Builds (nameWords same) (now (text .entry)) (now (arena .entry)) (now (arena .exit)) at top 1 0 (parseName (now (text .entry)) at) r ⌝ }
+{
+    let r = name(text, at);
+    let Lexed::Ok(len, at1) = r else {
+        return untaken(r);
+    };
+    over(arena, top, TWO, at as u32, len as u32, 0, at1)
+}
+
+// `parseIdType`, with the word `word` between name and type where the name's node is of three words.
+fn between(text: &[u8], at: usize, arena: &mut [u32], top: usize, tag: u32, word: u32) -> Built
+    requires { ⌜ Room (now text) (now arena) at top 0 × OneOf (2 ∷ 3 ∷ []) tag ⌝ }
+    ensures { λ r. ⌜ Builds (betweenWords tag word) (now (text .entry)) (now (arena .entry)) (now (arena .exit)) at top 1 0 (parseIdType (now (text .entry)) at) r ⌝ }
+{
+    let bound = name(text, at);
+    let Lexed::Ok(len, at1) = bound else {
+        return untaken(bound);
+    };
+    let colon = sym(text, at1, b":");
+    let Lexed::Ok(_, at2) = colon else {
+        return missing(colon, at1);
+    };
+    let typ = name(text, at2);
+    let Lexed::Ok(len2, at3) = typ else {
+        return missing(typ, at2);
+    };
+    node(arena, top, tag, at as u32, len as u32, word);
+    node(arena, top + 4, TWO, at2 as u32, len2 as u32, 0);
+    over(arena, top + 8, PAIR, 0, top as u32, (top + 4) as u32, at3)
+}
+
+// `parseFunctionFormal`.
+pub(crate) fn formal(text: &[u8], at: usize, arena: &mut [u32], top: usize) -> Built
+    requires { ⌜ Room (now text) (now arena) at top 0 ⌝ }
+    ensures { λ r. ⌜ Builds (fParameterWords same) (now (text .entry)) (now (arena .entry)) (now (arena .exit)) at top 1 0 (parseFunctionFormal (now (text .entry)) at) r ⌝ }
+{
+    match keyword(text, at, b"injective") {
+        Lexed::Ok(_, at1) => needed(between(text, at1, arena, top, THREE, 1), at1),
+        Lexed::None => between(text, at, arena, top, THREE, 0),
+        Lexed::Refused(number, place) => Built::Refused(number, place),
+    }
+}
+
+// `parseParameterMode`, and the name and the type of a parameter.
+pub(crate) fn moded(text: &[u8], at: usize, arena: &mut [u32], top: usize) -> Built
+    requires { ⌜ Room (now text) (now arena) at top 0 ⌝ }
+    ensures { λ r. ⌜ Builds modedWords (now (text .entry)) (now (arena .entry)) (now (arena .exit)) at top 1 0 (parseModed (now (text .entry)) at) r ⌝ }
+{
+    match keyword(text, at, b"inout") {
+        Lexed::Ok(_, at1) => needed(between(text, at1, arena, top, THREE, 2), at1),
+        Lexed::None => match keyword(text, at, b"out") {
+            Lexed::Ok(_, at1) => needed(between(text, at1, arena, top, THREE, 3), at1),
+            Lexed::None => between(text, at, arena, top, THREE, 1),
+            Lexed::Refused(number, place) => Built::Refused(number, place),
+        },
+        Lexed::Refused(number, place) => Built::Refused(number, place),
+    }
+}
+
+// `out` or `inout` and a name.
+pub(crate) fn by_name(text: &[u8], at: usize, arena: &mut [u32], top: usize) -> Built
+    requires { ⌜ Room (now text) (now arena) at top 0 ⌝ }
+    ensures { λ r. ⌜ Builds (callArgumentWords same) (now (text .entry)) (now (arena .entry)) (now (arena .exit)) at top 1 0 (referenceArgument (now (text .entry)) at) r ⌝ }
+{
+    match keyword(text, at, b"out") {
+        Lexed::Ok(_, at1) => named(text, at1, arena, top, 3),
+        Lexed::None => match keyword(text, at, b"inout") {
+            Lexed::Ok(_, at1) => named(text, at1, arena, top, 2),
+            Lexed::None => Built::None,
+            Lexed::Refused(number, place) => Built::Refused(number, place),
+        },
+        Lexed::Refused(number, place) => Built::Refused(number, place),
+    }
+}
+
+// The name that must follow `out` or `inout`, after the word of its mode.
+fn named(text: &[u8], at: usize, arena: &mut [u32], top: usize, mode: u32) -> Built
+    requires { ⌜ Room (now text) (now arena) at top 0 ⌝ }
+    ensures { λ r. ⌜ Builds (referenceWords mode) (now (text .entry)) (now (arena .entry)) (now (arena .exit)) at top 1 0 (must at (parseName (now (text .entry)) at)) r ⌝ }
+{
+    let r = name(text, at);
+    let Lexed::Ok(len, at1) = r else {
+        return missing(r, at);
+    };
+    node(arena, top, IDENT, at as u32, len as u32, 0);
+    over(arena, top + 4, HEADED, mode, top as u32, 0, at1)
 }
 
 // A natural or a custom literal.

@@ -3,8 +3,8 @@ ghost use mathlib.Core.Path.{_≡_};
 ghost use Prim.Native.Nat.{_≤_};
 ghost use lib.ListN.{length};
 ghost use Rattle.tree.specs.Words.{operatorWord};
-ghost use Rattle.reading.specs.Code.{Signs, whereRead, wordOf, swapOf, noSwap, operatorOf, classOf};
-ghost use Rattle.grammar.specs.Rules.{unaryOperator, equalityOperator, lessOperator, moreOperator, parseComparisonOperator, termOperator, factorOperator};
+ghost use Rattle.reading.specs.Code.{Signs, whereRead, wordOf, swapOf, noSwap, classOf};
+ghost use Rattle.grammar.specs.Rules.{unaryOperator, equalityOperator, lessOperator, moreOperator, parseComparisonOperator, termOperator, factorOperator, operatorOf};
 use crate::step::keyword;
 use crate::step::sym;
 use crate::step::sym_not_prefix;
@@ -118,7 +118,7 @@ pub(crate) fn factor(text: &[u8], at: usize) -> Sign
 // The operator of a level.
 pub(crate) fn operator(text: &[u8], at: usize, level: Level) -> Sign
     requires { ⌜ at ≤ length (now text) ⌝ }
-    ensures { λ r. ⌜ Signs wordOf swapOf (now (text .entry)) at (operatorOf (classOf level) (now (text .entry)) at) r ⌝ }
+    ensures { λ r. ⌜ Signs wordOf swapOf (now (text .entry)) at (operatorOf (now (text .entry)) (classOf level) at) r ⌝ }
 {
     match level {
         Level::Product => factor(text, at),

@@ -7,6 +7,7 @@ ghost use Rattle.lexing.specs.Answer.{moved as movedBy};
 ghost use Rattle.lexing.specs.Bytes.{sameBytes};
 ghost use Rattle.lexing.specs.Tokens.{signNotPrefix};
 ghost use Rattle.grammar.specs.Steps.{keywordAt, signAt, parseName, parseLiteralText};
+ghost use Rattle.grammar.specs.Statements.{mark as markRule};
 ghost use Rattle.reading.specs.Code.{Tells, span, movedOf, placed};
 
 // A word or name at `at`, of `len` bytes, and the place after its blanks.
@@ -47,6 +48,22 @@ pub(crate) fn sym_not_prefix(text: &[u8], at: usize, s: &[u8], longer: &[u8]) ->
     ensures { λ r. ⌜ Tells (λ v. v) (now (text .entry)) at (length (now (s .entry))) (movedBy at (signNotPrefix (now (s .entry)) (now (longer .entry)) (drop at (now (text .entry))))) r ⌝ }
 {
     moved(at, lexing::sym_not_prefix(&text[at..], s, longer))
+}
+
+// `:=`, `:` or `(`.
+pub(crate) fn mark(text: &[u8], at: usize) -> Lexed
+    requires { ⌜ at ≤ length (now text) ⌝ }
+    ensures { λ r. ⌜ Tells (λ v. v) (now (text .entry)) at 1 (markRule (now (text .entry)) at) r ⌝ }
+{
+    let becomes = sym(text, at, b":=");
+    let Lexed::None = becomes else {
+        return becomes;
+    };
+    let colon = sym(text, at, b":");
+    let Lexed::None = colon else {
+        return colon;
+    };
+    sym(text, at, b"(")
 }
 
 pub(crate) fn name(text: &[u8], at: usize) -> Lexed

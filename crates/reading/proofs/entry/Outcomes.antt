@@ -1,4 +1,4 @@
--- The outcomes of `store`, `finish`, `read_in` and `read_expression`, over plain lists and any kind of tree.
+-- The outcomes of `store`, `finish`, `read_in` and `read`, over plain lists and any kind of tree.
 use Prim.Native.Nat.{ℕ, _+_, _*_, _-_, _≤_, _<_, min}
 use native.Mathlib.Omega.{arith}
 use mathlib.Core.Path.{_≡_, refl, sym, ap, _∙_}
@@ -8,21 +8,25 @@ use lib.ListN.{length, replicate, length-replicate, getD-replicate}
 use lib.Dec.{leb, eqb}
 use borrow.Author.Tests.{le-leb, lt-leb, leb-true, eq-eqb, ne-eqb}
 use Rattle.lexing.specs.Answer.{Answer, ok, refused, unclosedComment, pick}
-use Rattle.lexing.specs.Blanks.{W, passed}
+use Rattle.lexing.specs.Blanks.{Blanks, W, passed, unclosed}
 use Rattle.lexing.specs.BlankLaws.{reach, W-inside}
 use Rattle.lexing.specs.CodeAnswers.{reachOf}
 use Rattle.lexing.specs.declared.blank.Reach.{Reach}
 use Rattle.lexing.specs.declared.blank.Reach.the-variants.{Passed, Unclosed}
 use Rattle.tree.specs.Limits.{mostText, mostWords}
 use Rattle.grammar.specs.Steps.{Reader, after, need, mapped}
-use Rattle.grammar.specs.Reading.{Outcome, words, refusal, stored, outcome, outcomeBy, toEnd, wholeText, parseText, readTree, readExpression}
-use Rattle.reading.specs.Arena.{Run, Node, Holds, Kept, Noted, Room, Found, Agrees, Builds}
-use Rattle.reading.specs.Code.{outcomeOf}
-use Rattle.reading.specs.Entry.{Buffers, RunAnswer, RunRead}
+use Rattle.tree.specs.Words.{programWords}
+use Rattle.grammar.specs.OperatorTrees.{mostDepth}
+use Rattle.grammar.specs.Declarations.{TopLevel}
+use Rattle.grammar.specs.Reading.{Outcome, words, refusal, stored, outcomeBy, leading, toEnd, wholeText, treeWords, parseText, parseProgram, readTree, readTreeOfProgram, readExpression, readProgram}
+use Rattle.reading.specs.Arena.{Run, Node, Holds, Kept, Noted, Room, Found, Agrees}
+use Rattle.reading.specs.Code.{same, turns, inner, opened, outcomeOf}
+use Rattle.reading.specs.Entry.{Buffers, RunAnswer, RunRead, wholeRule, wholeOutcome, readOutcome}
 use Rattle.reading.specs.Flat.{Rooted, Flattened}
-use Rattle.reading.specs.TreeRead.{Answered}
 use Rattle.reading.specs.declared.arena.Built.{Built}
 use Rattle.reading.specs.declared.arena.Built.the-variants.{Ok, None, Refused as BuiltRefused}
+use Rattle.reading.specs.declared.entry.Whole.{Whole}
+use Rattle.reading.specs.declared.entry.Whole.the-variants.{Expression, Program}
 use Rattle.reading.specs.declared.entry.Reading.the-variants.{Words, Refused}
 use Rattle.reading.proofs.Laws.{node-kept, after-ok, after-none, after-refused}
 use Rattle.reading.proofs.flat.Words.{fill-all}
@@ -61,7 +65,7 @@ module _ {text arena stack table : List ℕ} (q : Buffers text arena stack table
   -- the node that the rule built
   pub finish-rooted : {root next top : ℕ} → b ≡ Ok root next top → RunRead text arena at b → Rooted arena stack table root
   finish-rooted {root} {next} {top} k o =
-      let found : Found (λ f. f) text arena at 8 0 0 (o .answer) root next top = rw k at (o .agrees) in
+      let found : Found (λ f. f) text arena at 8 0 36 (o .answer) root next top = rw k at (o .agrees) in
       record {
         run = found .value;
         top = top;
@@ -84,7 +88,7 @@ module _ {text arena stack table : List ℕ} (q : Buffers text arena stack table
     finish-refused k = refused-as _ (q .clear) (after-refused _ _ (rw k at o))
 
     module _ {root next top : ℕ} (k : b ≡ Ok root next top) where
-      found : Found (λ f. f) text arena at 8 0 0 answer root next top
+      found : Found (λ f. f) text arena at 8 0 36 answer root next top
       found = rw k at o
 
       ends : need at answer (toEnd text) ≡ toEnd text (found .value) next
@@ -100,28 +104,6 @@ module _ {text arena stack table : List ℕ} (q : Buffers text arena stack table
 
 -- ---- `read_in`
 
--- a rule's answer by the runs of its trees' words
-run-answer : {A : Type 0} {wordsOf : A → Run} {text arena later : List ℕ} {at least : ℕ} {answer : Answer A} (b : Built)
-    → Builds wordsOf text arena later at 8 least 0 answer b → RunAnswer text later at (mapped wordsOf answer) b
-run-answer {wordsOf = wordsOf} (Ok root next top) o =
-    let f = o .agrees in
-    record {
-      value = wordsOf (f .value);
-      says = after-ok _ _ (f .says);
-      holds = f .holds;
-      node-below = f .node-below;
-      progress = omega (arith, f .progress);
-      next-inside = f .next-inside;
-      grows = f .grows;
-      within = f .within;
-    }
-run-answer None o = after-none _ _ (o .agrees)
-run-answer (BuiltRefused number place) o = after-refused _ _ (o .agrees)
-
-pub run-read : {A : Type 0} {wordsOf : A → Run} {text arena later : List ℕ} {at least : ℕ} {answer : Answer A} (b : Built)
-    → Builds wordsOf text arena later at 8 least 0 answer b → RunRead text later at b
-run-read {wordsOf = wordsOf} {answer = answer} b o = record { answer = mapped wordsOf answer; agrees = run-answer b o }
-
 -- the outcome is the same by the runs as by the trees
 run-outcome : {A : Type 0} (wordsOf : A → Run) (text : List ℕ) (n at : ℕ) (answer : Answer A)
     → outcomeBy (λ f. f []) n (need at (mapped wordsOf answer) (toEnd text)) ≡ outcomeBy (λ a. wordsOf a []) n (need at answer (toEnd text))
@@ -135,14 +117,28 @@ run-outcome wordsOf text n at (ok a next) = either (eqb next (length text))
 run-outcome wordsOf text n at Answer.none = refl
 run-outcome wordsOf text n at (refused number place) = refl
 
--- `blanks` was refused
-pub blanks-unclosed : {A : Type 0} (wordsOf : A → Run) (rule : Reader A) {text arena stack table : List ℕ} {at : ℕ} (r : Reach)
-    → Buffers text arena stack table → reachOf r ≡ W text → r ≡ Unclosed at
-    → outcomeOf (Refused unclosedComment at) table ≡ outcomeBy (λ a. wordsOf a []) (length table) (wholeText text rule)
+runs-outcome : {A : Type 0} (wordsOf : A → Run) (rule : Reader A) (text : List ℕ) (n : ℕ)
+    → outcomeBy (λ f. f []) n (wholeText text (λ at. mapped wordsOf (rule at))) ≡ outcomeBy (λ a. wordsOf a []) n (wholeText text rule)
 unfolding after
-blanks-unclosed wordsOf rule {text = text} {at = at} r q e p =
-    let t : wholeText text rule ≡ refused unclosedComment at = rw (sym e ∙ ap reachOf p) in
-    refused-as _ (q .clear) t
+runs-outcome wordsOf rule text n = by-blanks (W text)
+  where
+    by-blanks : (b : Blanks) → outcomeBy (λ f. f []) n (after (leading b) Answer.none (λ at _. need at (mapped wordsOf (rule at)) (toEnd text)))
+        ≡ outcomeBy (λ a. wordsOf a []) n (after (leading b) Answer.none (λ at _. need at (rule at) (toEnd text)))
+    by-blanks (passed at) = run-outcome wordsOf text n at (rule at)
+    by-blanks (unclosed at) = refl
+
+whole-outcome : (k : Whole) (text : List ℕ) (n : ℕ) → outcomeBy (λ f. f []) n (wholeText text (wholeRule k text)) ≡ wholeOutcome k n text
+unfolding parseText parseProgram
+whole-outcome Expression text n = runs-outcome treeWords (inner text mostDepth) text n
+whole-outcome Program text n = runs-outcome (programWords same) (TopLevel text (turns text) (opened text mostDepth)) text n
+
+-- `blanks` was refused
+pub blanks-unclosed : (k : Whole) {text arena stack table : List ℕ} {at : ℕ} (r : Reach) → Buffers text arena stack table → reachOf r ≡ W text
+    → r ≡ Unclosed at → outcomeOf (Refused unclosedComment at) table ≡ wholeOutcome k (length table) text
+unfolding after
+blanks-unclosed k {text = text} {table = table} {at} r q e p =
+    let t : wholeText text (wholeRule k text) ≡ refused unclosedComment at = rw (sym e ∙ ap reachOf p) in
+    refused-as _ (q .clear) t ∙ whole-outcome k text (length table)
 
 -- the place where `blanks` has passed the text's first blanks
 pub record Led : Type 0 where
@@ -161,7 +157,7 @@ led {text = text} {arena} {stack} {table} {at} r q e p =
 module _ (l : Led) where
   -- the rule begins there, once the end of a sequence stands at 4
   module _ {one : List ℕ} (n : Noted (l .arena) one 4 1 0 0 0) where
-    pub led-room : Room (l .text) one (l .at) 8 0
+    pub led-room : Room (l .text) one (l .at) 8 36
     led-room =
         let q = l .buffers in
         let i : l .at ≤ length (l .text) = omega (arith, W-inside (l .text), ap reach (l .blanks)) in
@@ -188,46 +184,47 @@ module _ (l : Led) where
         }
 
   -- what `finish` answers is the outcome of the whole text
-  pub finished : {A : Type 0} (wordsOf : A → Run) (rule : Reader A) {one later : List ℕ} {least : ℕ} (b : Built)
-      → Builds wordsOf (l .text) one later (l .at) 8 least 0 (rule (l .at)) b → {w : Outcome}
+  pub finished : (k : Whole) (later : List ℕ) (b : Built) → RunAnswer (l .text) later (l .at) (wholeRule k (l .text) (l .at)) b → {w : Outcome}
       → ((answer : Answer Run) → RunAnswer (l .text) later (l .at) answer b
       → w ≡ outcomeBy (λ f. f []) (length (l .table)) (need (l .at) answer (toEnd (l .text))))
-      → w ≡ outcomeBy (λ a. wordsOf a []) (length (l .table)) (wholeText (l .text) rule)
+      → w ≡ wholeOutcome k (length (l .table)) (l .text)
   unfolding after
-  finished wordsOf rule b o h =
-      let t : wholeText (l .text) rule ≡ need (l .at) (rule (l .at)) (toEnd (l .text)) = rw (l .blanks) in
-      h (mapped wordsOf (rule (l .at))) (run-answer b o) ∙ run-outcome wordsOf (l .text) (length (l .table)) (l .at) (rule (l .at))
-      ∙ sym (ap (outcomeBy (λ a. wordsOf a []) (length (l .table))) t)
+  finished k later b o h =
+      let t : wholeText (l .text) (wholeRule k (l .text)) ≡ need (l .at) (wholeRule k (l .text) (l .at)) (toEnd (l .text)) = rw (l .blanks) in
+      h (wholeRule k (l .text) (l .at)) o ∙ sym (ap (outcomeBy (λ f. f []) (length (l .table))) t) ∙ whole-outcome k (l .text) (length (l .table))
 
 -- ---- `read_small` to `read_longest`
 
 -- buffers for a text of at most n bytes
 pub buffers : (n : ℕ) {text table : List ℕ} → n ≤ mostText → (length text ≤ n) × (table ≡ replicate (length table) 0)
-    → Buffers text (replicate (8 + 8 * n) 0) (replicate (2 + 2 * n) 0) table
+    → Buffers text (replicate (44 + 8 * n) 0) (replicate (11 + 2 * n) 0) table
 buffers n {text} {table} h q =
-    let a : length (replicate {A = ℕ} (8 + 8 * n) 0) ≡ 8 + 8 * n = length-replicate (8 + 8 * n) 0 in
-    let s : length (replicate {A = ℕ} (2 + 2 * n) 0) ≡ 2 + 2 * n = length-replicate (2 + 2 * n) 0 in
+    let a : length (replicate {A = ℕ} (44 + 8 * n) 0) ≡ 44 + 8 * n = length-replicate (44 + 8 * n) 0 in
+    let s : length (replicate {A = ℕ} (11 + 2 * n) 0) ≡ 11 + 2 * n = length-replicate (11 + 2 * n) 0 in
     record {
       short = omega (arith, q .0);
       small = omega (arith, a);
       arena-room = omega (arith, a, q .0);
       stack-room = omega (arith, s, q .0);
       empty-run = record {
-        tagged = getD-replicate (8 + 8 * n) 0 0 0 (omega arith);
-        first = getD-replicate (8 + 8 * n) 1 0 0 (omega arith);
-        second = getD-replicate (8 + 8 * n) 2 0 0 (omega arith);
-        third = getD-replicate (8 + 8 * n) 3 0 0 (omega arith);
+        tagged = getD-replicate (44 + 8 * n) 0 0 0 (omega arith);
+        first = getD-replicate (44 + 8 * n) 1 0 0 (omega arith);
+        second = getD-replicate (44 + 8 * n) 2 0 0 (omega arith);
+        third = getD-replicate (44 + 8 * n) 3 0 0 (omega arith);
       };
       clear = q .1;
     }
 
--- ---- `read_expression`
+-- ---- `read`
 
 -- a text within the limit, and one that is too long
-pub answered : (text : List ℕ) {n m : ℕ} {w : Outcome} → w ≡ outcome n (parseText text) → n ≡ m → length text ≤ mostText → w ≡ readExpression text m
-unfolding readExpression readTree
-answered text e k h = e ∙ ap (λ n. outcome n (parseText text)) k ∙ simp (le-leb _ _ h)
+pub answered : (k : Whole) (text : List ℕ) {n m : ℕ} {w : Outcome} → w ≡ wholeOutcome k n text → n ≡ m → length text ≤ mostText → w ≡ readOutcome k text m
+unfolding readExpression readTree readProgram readTreeOfProgram
+answered Expression text e k h = e ∙ ap (λ n. wholeOutcome Expression n text) k ∙ simp (le-leb _ _ h)
+answered Program text e k h = e ∙ ap (λ n. wholeOutcome Program n text) k ∙ simp (le-leb _ _ h)
 
-pub answered-long : (text table : List ℕ) (n : ℕ) → mostText < length text → table ≡ replicate n 0 → Answered text n (Refused 1 mostText) table
-unfolding readExpression readTree
-answered-long text table n h z = simp (lt-leb _ _ h) (ap (refusal 1 mostText) z)
+pub answered-long : (k : Whole) (text table : List ℕ) (n : ℕ) → mostText < length text → table ≡ replicate n 0
+    → outcomeOf (Refused 1 mostText) table ≡ readOutcome k text n
+unfolding readExpression readTree readProgram readTreeOfProgram
+answered-long Expression text table n h z = simp (lt-leb _ _ h) (ap (refusal 1 mostText) z)
+answered-long Program text table n h z = simp (lt-leb _ _ h) (ap (refusal 1 mostText) z)

@@ -3,16 +3,25 @@ use Prim.Native.Nat.{ℕ, _+_}
 use native.Mathlib.Omega.{arith}
 use mathlib.Core.Path.{_≡_, subst, _∙_}
 use mathlib.Core.Bool.{true}
-use mathlib.Core.List.{List}
+use mathlib.Core.List.{List, [], _∷_}
+use types.Run.{OneOf}
 use lib.Dec.{leb}
 use borrow.Author.Tests.{leb-true}
+use mathlib.Core.Logic.{inl, inr}
 use Rattle.lexing.specs.Answer.{ok}
-use Rattle.reading.specs.Arena.{Run, Holds, Noted, Builds}
+use Rattle.reading.specs.Arena.{Run, Node, Holds, Noted, Builds}
+use Rattle.reading.specs.Code.{marked}
 use Rattle.reading.specs.declared.arena.Built.{Built}
 use Rattle.reading.specs.declared.arena.Built.the-variants.{Ok}
 use Rattle.reading.proofs.Laws.{kept-next, builds-node}
 use Rattle.reading.proofs.arena.Nodes.{pair-noted}
 use Rattle.reading.proofs.Reached.{Reached}
+
+-- the node of a name of two words, or of one with a word after it
+pub name-holds : {arena : List ℕ} {n tag x y z : ℕ} → OneOf (2 ∷ 3 ∷ []) tag → Node arena n tag x y z
+    → Holds arena n (λ r. x ∷ y ∷ marked tag z r)
+name-holds (inl e) h = rw e (Holds.two (rw e at h))
+name-holds (inr e) h = rw e (Holds.three (rw e at h))
 
 -- each run is a node that is written last, and so is the pair
 pub pair-done : {A : Type 0} (p : Reached A) {words : A → Run} {least credit : ℕ} {one two last : List ℕ} {t x y z t₁ x₁ y₁ z₁ : ℕ} {f g : Run}

@@ -1,6 +1,7 @@
 // Sequences that commas part, and the rules that have them.
 use crate::arena::Built;
 use crate::arena::END;
+use crate::arena::HEADED;
 use crate::arena::ITEM;
 use crate::arena::ONE;
 use crate::arena::PAIR;
@@ -19,11 +20,13 @@ use crate::step::sym;
 use lexing::Lexed;
 ghost use Prim.Native.Nat.{_≤_};
 ghost use lib.ListN.{length};
-ghost use Rattle.tree.specs.Words.{patternsWords, seqWords, bindingWords};
+ghost use Rattle.tree.specs.Words.{patternsWords, seqWords, bindingWords, pParameterWords, callArgumentWords};
 ghost use Rattle.reading.specs.Arena.{Room, Builds};
-ghost use Rattle.reading.specs.Code.{Follows, same, turns, inner, sequenceOf, itemWords, listWords, itemRule, closureWords, propertyWords, universalOf};
+ghost use Rattle.reading.specs.Code.{Follows, same, turns, inner, opened, sequenceOf, itemWords, listWords, itemRule, closureWords, propertyWords, universalOf};
 ghost use Rattle.grammar.specs.Reading.{treeWords};
 ghost use Rattle.grammar.specs.Rules.{afterQuantifier, afterLift, parseNonemptyCommaDelimitedSeq, parseListed, parseMarked, parseParameters, parseClosureBinding, parseClosureProperty};
+ghost use Rattle.grammar.specs.Statements.{parseCallArgument};
+ghost use Rattle.grammar.specs.Declarations.{parseProcFormal};
 
 // The sequences that commas part.
 pub(crate) enum Kind {
@@ -31,6 +34,10 @@ pub(crate) enum Kind {
     Bindings,
     Closures,
     Properties,
+    Names,
+    Formals,
+    Parameters,
+    Arguments,
 }
 
 fn item(text: &[u8], at: usize, arena: &mut [u32], top: usize, depth: usize, kind: Kind) -> Built
@@ -42,11 +49,15 @@ fn item(text: &[u8], at: usize, arena: &mut [u32], top: usize, depth: usize, kin
         Kind::Bindings => leaf::id_type(text, at, arena, top),
         Kind::Closures => bind(text, at, arena, top, depth),
         Kind::Properties => prop(text, at, arena, top, depth),
+        Kind::Names => leaf::identifier(text, at, arena, top),
+        Kind::Formals => leaf::formal(text, at, arena, top),
+        Kind::Parameters => param(text, at, arena, top, depth),
+        Kind::Arguments => arg(text, at, arena, top, depth),
     }
 }
 
 // `parseNonemptyCommaDelimitedSeq`.
-fn items(
+pub(crate) fn items(
     text: &[u8],
     start: usize,
     arena: &mut [u32],
@@ -261,4 +272,43 @@ fn prop(text: &[u8], at: usize, arena: &mut [u32], top: usize, depth: usize) -> 
         return leaf::needed_if(mark, value, at1);
     };
     over(arena, top2, PAIR, 0, triggers, body, at2)
+}
+
+// `parseProcFormal`.
+fn param(text: &[u8], at: usize, arena: &mut [u32], top: usize, depth: usize) -> Built
+    requires { ⌜ Room (now text) (now arena) at top 4 ⌝ }
+    ensures { λ r. ⌜ Builds (pParameterWords same) (now (text .entry)) (now (arena .entry)) (now (arena .exit)) at top 1 4 (parseProcFormal (now (text .entry)) (turns (now (text .entry))) (opened (now (text .entry)) depth) at) r ⌝ }
+{
+    let bound = leaf::moded(text, at, arena, top);
+    let Built::Ok(moded, at1, top1) = bound else {
+        return bound;
+    };
+    match keyword(text, at1, b"autoinv") {
+        Lexed::Ok(_, at2) => {
+            let invariant = expr(text, at2, arena, top1, depth);
+            let Built::Ok(e, at3, top2) = invariant else {
+                return needed(invariant, at2);
+            };
+            node(arena, top2, HEADED, 1, e, 0);
+            over(arena, top2 + 4, PAIR, 0, moded, top2 as u32, at3)
+        }
+        Lexed::None => over(arena, top1, PAIR, 0, moded, END, at1),
+        Lexed::Refused(number, place) => Built::Refused(number, place),
+    }
+}
+
+// `parseCallArgument`.
+fn arg(text: &[u8], at: usize, arena: &mut [u32], top: usize, depth: usize) -> Built
+    requires { ⌜ Room (now text) (now arena) at top 4 ⌝ }
+    ensures { λ r. ⌜ Builds (callArgumentWords same) (now (text .entry)) (now (arena .entry)) (now (arena .exit)) at top 1 4 (parseCallArgument (now (text .entry)) (turns (now (text .entry))) (opened (now (text .entry)) depth) at) r ⌝ }
+{
+    let named = leaf::by_name(text, at, arena, top);
+    let Built::None = named else {
+        return named;
+    };
+    let value = expr(text, at, arena, top, depth);
+    let Built::Ok(e, at1, top1) = value else {
+        return value;
+    };
+    over(arena, top1, HEADED, 1, e, 0, at1)
 }

@@ -1,10 +1,7 @@
--- `entry::read_in` meets its contract, by those of `blanks`, `expr` and `finish` (Outcomes).
+-- `entry::read_in` meets its contract, by those of `blanks`, `rule` and `finish` (Outcomes).
 use native.Mathlib.Omega.{arith}
 use borrow.Author.Needs.{needs}
-use Rattle.grammar.specs.OperatorTrees.{mostDepth}
-use Rattle.grammar.specs.Reading.{treeWords, parseText}
-use Rattle.reading.specs.Code.{inner}
-use Rattle.reading.proofs.entry.Outcomes.{run-read, blanks-unclosed, Led, led, led-room, led-buffers, finished}
+use Rattle.reading.proofs.entry.Outcomes.{blanks-unclosed, Led, led, led-room, led-buffers, finished}
 use Rattle.reading.proofs.entry.read_in.Statement.{statement}
 use Rattle.reading.proofs.entry.read_in.Tie as tie
 
@@ -14,29 +11,27 @@ at-lead c = led (c .before .before .blanks .result) (c .before .before .before .
 node-requires : tie.Need-node-requires
 node-requires c κs = omega (arith, c .before .before .before .before .before .before .before .before .before .pre .arena-room)
 
-expr-requires : tie.Need-expr-requires
-expr-requires c κs = led-room (at-lead (c .before .before .before .before .before .before)) (c .before .before .before .node .ensures)
+rule-requires : tie.Need-rule-requires
+rule-requires c κs = led-room (at-lead (c .before .before .before .before .before .before)) (c .before .before .before .node .ensures)
 
 finish-requires : tie.Need-finish-requires
 finish-requires c κs = (
-  led-buffers (at-lead (c .before .before .before .before .before .before .before .before .before .before .before .before))
-      (c .before .before .before .before .before .before .before .before .before .node .ensures)
-      (c .before .before .before .before .before .expr .ensures .kept),
-  run-read (c .before .before .before .before .before .expr .result)
-      (c .before .before .before .before .before .expr .ensures),
+  led-buffers (at-lead (c .before .before .before .before .before .before .before .before .before .before .before .before)) (c .before .before .before .before .before .before .before .before .before .node .ensures)
+      (c .before .before .before .before .before .rule .ensures .kept),
+  record {
+    answer = _;
+    agrees = c .before .before .before .before .before .rule .ensures .agrees;
+  },
 )
 
 returns : tie.Need-returns
-unfolding parseText
-returns c = blanks-unclosed treeWords (inner (c .before .before .before .before .before .before .before .before .args .text .now) mostDepth) (c .before .before .before .blanks .result) (c .before .before .before .before .before .before .before .before .pre) (c .before .before .before .blanks .ensures) (c .before .at .given .1)
+returns c = blanks-unclosed (c .before .before .before .before .before .before .before .before .args .whole) (c .before .before .before .blanks .result) (c .before .before .before .before .before .before .before .before .pre)
+    (c .before .before .before .blanks .ensures) (c .before .at .given .1)
 
 returns-2 : tie.Need-returns-2
-unfolding parseText
-returns-2 c = finished (at-lead (c .before .before .before .before .before .before .before .before .before .before .before .before .before .before
-    .before .before .before)) treeWords (inner (c .before .before .before .before .before .before .before .before .before .before .before .before
-    .before .before .before .before .before .before .before .before .before .before .before .before .args .text .now) mostDepth)
-    (c .before .before .before .before .before .before .before .before .before .before .expr .result)
-    (c .before .before .before .before .before .before .before .before .before .before .expr .ensures)
+returns-2 c = finished (at-lead (c .before .before .before .before .before .before .before .before .before .before .before .before .before .before .before .before .before))
+    (c .before .before .before .before .before .before .before .before .before .before .before .before .before .before .before .before .before .before .before .before .before .before .before .before .args .whole)
+    _ (c .before .before .before .before .before .before .before .before .before .before .rule .result) (c .before .before .before .before .before .before .before .before .before .before .rule .ensures .agrees)
     (c .before .before .before .before .finish .ensures)
 
 pub read-in-spec : {M : Type 1} → statement M
@@ -48,7 +43,7 @@ read-in-spec =
     (λ c. search needs)
     (λ c. search needs)
     node-requires
-    expr-requires
+    rule-requires
     finish-requires
     returns
     (λ c. search needs)
