@@ -1,9 +1,9 @@
 -- What the entries answer: a print in a buffer handed to the output, and the refusals.
 use Prim.Native.Nat.{ℕ, _+_, _≤_, _<_, min}
 use native.Mathlib.Omega.{arith}
-use mathlib.Core.Path.{_≡_, refl, sym, ap, _∙_}
+use mathlib.Core.Path.{_≡_, refl, sym, ap, _∙_, subst}
 use mathlib.Core.Bool.{Bool, true, false, _&&_}
-use mathlib.Core.Option.{none, some}
+use mathlib.Core.Option.{Option, none, some}
 use mathlib.Core.List.{List, [], _++_, append-nil}
 use lib.ListN.{length, take, drop}
 use lib.Seq.{length-take-le}
@@ -11,31 +11,32 @@ use lib.Dec.{leb}
 use borrow.Author.Tests.{leb-true, leb-false, le-leb, lt-leb}
 use Rattle.lexing.specs.Answer.{pick}
 use Rattle.tree.specs.Limits.{mostText, mostWords}
-use Rattle.tree.specs.Check.{expressionRefusal}
-use Rattle.tree.specs.Refused.{expression-unrefused}
+use Rattle.tree.specs.Check.{Refusal}
+use Rattle.tree.specs.CountLaws.{expression-counted, program-counted}
 use Rattle.printing.specs.declared.parts.Step.{Step}
-use Rattle.printing.specs.declared.format.ExprFormatOption.{ExprFormatOption}
 use Rattle.printing.specs.declared.Printed.{Printed}
-use Rattle.printing.specs.PrintUtil.{Init}
-use Rattle.printing.specs.Entries.{mostPrint, mostIndent, startIndent, written, refusal, outcomeOf, stored, printOf, printChecked, printExpression}
-use Rattle.printing.specs.EntryLaws.{prints, refuses}
-use Rattle.printing.specs.Ends.{Known}
+use Rattle.printing.specs.declared.entry.Root.{Root}
+use Rattle.printing.specs.declared.entry.Root.the-variants.{AnExpression, AProgram}
+use Rattle.printing.specs.Entries.{mostPrint, mostIndent, written, refusal, outcomeOf, stored, Printable, printOf, programPrintOf, printChecked, printTable}
+use Rattle.printing.specs.EntryLaws.{Lawful, expression-laws, program-laws, prints, refuses}
 use Rattle.printing.specs.Wrote.{Wrote}
 use Rattle.printing.specs.Parts.{Prints}
-use Rattle.printing.specs.ExprParts.{anExpr}
-use Rattle.printing.specs.Stores.{Stores, delivered}
+use Rattle.printing.specs.Stores.{rooted, rootCounts, rootPart, RootCounted, Numbered, Stores, delivered}
 
 -- ---- from a buffer to the output
 
 module _ (buffer : List ℕ) (n : ℕ) (out : List ℕ) where
+  -- a print longer than the buffer is refused
   pub short-buffer : length buffer < n → refusal 8 0 out ≡ delivered buffer n out
   unfolding delivered
   short-buffer h = sym (simp (lt-leb n (length buffer) h))
 
+  -- a print longer than the output is refused
   pub short-output : n ≤ length buffer → length out < n → refusal 8 0 out ≡ delivered buffer n out
   unfolding delivered
   short-output g h = sym (simp (le-leb n (length buffer) g, lt-leb n (length out) h))
 
+  -- a print that fits both is copied
   pub copied : {out′ : List ℕ} → n ≤ length buffer → n ≤ length out → out′ ≡ take 0 out ++ take n buffer ++ drop (0 + length (take n buffer)) out
       → written n out′ ≡ delivered buffer n out
   unfolding delivered
@@ -89,45 +90,83 @@ handed {X} {b} {b′} {n} out w h k = by-test (leb n (length b′)) refl (leb n 
 
 -- ---- the print of a table's tree
 
-pub through : {text words ends : List ℕ} {format : ExprFormatOption} {b b₁ : List ℕ} {s : Step} {out out′ : List ℕ} {r : Printed} → startIndent format ≤ mostIndent
-    → ((len : ℕ) → Known len words ends) → length b ≤ mostPrint → min (length out) mostPrint ≤ length b
-    → Prints (anExpr text words ends 0 Init format) words 0 b 0 b₁ s → outcomeOf r out′ ≡ delivered b₁ (s .pos) out → Stores text words format out out′ r
-unfolding printOf
-through {text} {words} {out = out} i known h k x e =
-    record {
-      stores = λ t f.
-          let u = x .prints (record { known = known (length text); room = omega arith }) t [] (sym f) in
-          e ∙ handed out (u .wrote) h k;
-    }
+-- an accepted table is no longer than a table may be
+few : (P : Printable) (words : List ℕ) → P .refused words ≡ none → length words ≤ mostWords
+few P words e = P .unrefused words .0 e .0
+
+-- what the check that accepts a table notes are the numbers of items
+pub numbered : (text words before : List ℕ) (root : Root) {after : List ℕ} → (length words ≤ mostWords → length words ≤ length before)
+    → rooted text root .refused words ≡ none → after ≡ rootCounts root words (length text) before → Numbered text words after root
+numbered text words before root {after} h e f =
+    let l : length words ≤ mostWords = few (rooted text root) words e in
+    record { few = l; counted = λ t d. subst (λ (c : List ℕ). RootCounted text words c root t) (sym f) (by-root root t d l (h l)) }
+  where
+    by-root : (r : Root) (t : rooted text r .Tree) → rooted text r .words t ≡ words → length words ≤ mostWords → length words ≤ length before
+        → RootCounted text words (rootCounts r words (length text) before) r t
+    by-root (AnExpression format) t d l m = expression-counted words (length text) before t d l m
+    by-root AProgram t d l m = program-counted words (length text) before t d l m
+
+-- the print of a tree in a buffer is handed over
+handed-tree : (text words counts out : List ℕ) (root : Root) {b b₁ : List ℕ} {s : Step} → rooted text root .indent ≤ mostIndent → length words ≤ mostWords
+    → length b ≤ mostPrint → min (length out) mostPrint ≤ length b → Prints (rootPart text words counts root) words 0 b 0 b₁ s
+    → (t : rooted text root .Tree) → RootCounted text words counts root t → rooted text root .words t ≡ words
+    → delivered b₁ (s .pos) out ≡ stored (rooted text root .print t) out
+unfolding printOf programPrintOf
+handed-tree text words counts out (AnExpression format) i l h k x t c f =
+    handed out (x .prints t [] (record { few = l; room = omega arith }, c) (sym f) .wrote) h k
+handed-tree text words counts out AProgram i l h k x t c f =
+    handed out (x .prints t [] (record { few = l; room = omega arith }, c) (sym f) .wrote) h k
+
+-- the print of the tree is delivered, for every tree with the table's words
+pub through : (text : List ℕ) (root : Root) {words counts : List ℕ} {b b₁ : List ℕ} {s : Step} {out out′ : List ℕ} {r : Printed}
+    → rooted text root .indent ≤ mostIndent → Numbered text words counts root → length b ≤ mostPrint → min (length out) mostPrint ≤ length b
+    → Prints (rootPart text words counts root) words 0 b 0 b₁ s → outcomeOf r out′ ≡ delivered b₁ (s .pos) out → Stores (rooted text root) words out out′ r
+through text root {words} {counts} {out = out} i n h k x e =
+    record { stores = λ t f. e ∙ handed-tree text words counts out root i (n .few) h k x t (n .counted t f) f }
+
+-- ---- by the root
+
+-- each root's trees are lawful
+pub root-laws : (text : List ℕ) (root : Root) → Lawful (rooted text root)
+root-laws text (AnExpression format) = expression-laws 2 text format
+root-laws text AProgram = program-laws 2 text
+
+-- the check of a table by its root
+pub checked-by : (text words before : List ℕ) {root k : Root} {q : Option Refusal} {after : List ℕ} → root ≡ k
+    → (q ≡ rooted text k .refused words) × (after ≡ rootCounts k words (length text) before)
+    → (q ≡ rooted text root .refused words) × (after ≡ rootCounts root words (length text) before)
+checked-by text words before {q = q} {after = after} e x =
+    subst (λ (r : Root). (q ≡ rooted text r .refused words) × (after ≡ rootCounts r words (length text) before)) (sym e) x
+
+-- the print of a table by its root
+pub printed-by : (text words counts : List ℕ) {root k : Root} {b b₁ : List ℕ} {s : Step} → root ≡ k
+    → Prints (rootPart text words counts k) words 0 b 0 b₁ s → Prints (rootPart text words counts root) words 0 b 0 b₁ s
+printed-by text words counts {b = b} {b₁ = b₁} {s = s} e x = subst (λ (r : Root). Prints (rootPart text words counts r) words 0 b 0 b₁ s) (sym e) x
 
 -- ---- the refusals, and the print of an accepted table
 
-module _ (text words : List ℕ) (format : ExprFormatOption) (out : List ℕ) where
-  pub long-text : mostText < length text → refusal 6 0 out ≡ printExpression 2 text words format out
-  unfolding printExpression
+module _ (P : Printable) (text words out : List ℕ) where
+  -- a text that is too long is refused by 6
+  pub long-text : mostText < length text → refusal 6 0 out ≡ printTable P text words out
+  unfolding printTable
   long-text h = sym (simp (lt-leb (length text) mostText h))
 
-  pub deep-indent : mostIndent < startIndent format → refusal 6 0 out ≡ printExpression 2 text words format out
-  unfolding printExpression
+  -- a start indent that is too large is refused by 6
+  pub deep-indent : mostIndent < P .indent → refusal 6 0 out ≡ printTable P text words out
+  unfolding printTable
   deep-indent h = by-test (leb (length text) mostText)
     where
-      by-test : (v : Bool) → refusal 6 0 out
-          ≡ pick (v && leb (startIndent format) mostIndent) (printChecked 2 text words format out (expressionRefusal words (length text)) refl) (refusal 6 0 out)
-      by-test true = sym (simp (lt-leb (startIndent format) mostIndent h))
+      by-test : (v : Bool) → refusal 6 0 out ≡ pick (v && leb (P .indent) mostIndent) (printChecked P words out (P .refused words) refl) (refusal 6 0 out)
+      by-test true = sym (simp (lt-leb (P .indent) mostIndent h))
       by-test false = refl
 
-  module _ (t : length text ≤ mostText) (i : startIndent format ≤ mostIndent) where
+  module _ (t : length text ≤ mostText) (i : P .indent ≤ mostIndent) where
     -- the check's refusal is the print's
-    pub refused : {number place : ℕ} → expressionRefusal words (length text) ≡ some (record { number = number; place = place })
-        → refusal number place out ≡ printExpression 2 text words format out
-    refused e = sym (refuses 2 text words format out t i _ e)
+    pub refused : {number place : ℕ} → P .refused words ≡ some (record { number = number; place = place }) → refusal number place out ≡ printTable P text words out
+    refused e = sym (refuses P text words out t i _ e)
 
-    pub accepted : {out′ : List ℕ} {r : Printed} → expressionRefusal words (length text) ≡ none → Stores text words format out out′ r
-        → outcomeOf r out′ ≡ printExpression 2 text words format out
-    accepted e x =
-        let a = expression-unrefused words (length text) .0 e in
-        x .stores (a .1 .0) (a .1 .1) ∙ sym (prints text words (a .1 .0) (a .1 .1) 2 format out t (a .0) i)
-
--- an accepted table is no longer than a table may be
-pub few : (words : List ℕ) (len : ℕ) → expressionRefusal words len ≡ none → length words ≤ mostWords
-few words len e = expression-unrefused words len .0 e .0
+    -- an unrefused table's print is stored
+    pub accepted : Lawful P → {out′ : List ℕ} {r : Printed} → P .refused words ≡ none → Stores P words out out′ r → outcomeOf r out′ ≡ printTable P text words out
+    accepted L e x =
+        let a = P .unrefused words .0 e in
+        x .stores (a .1 .0) (a .1 .1) ∙ sym (prints P text words out L (a .1 .0) (a .1 .1) t (a .0) i)

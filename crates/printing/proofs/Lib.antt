@@ -2,6 +2,9 @@
 pub mod Writing
 pub mod Operators
 pub mod PartPrints
-pub mod EndTable
 pub mod ExprPrints
 pub mod EntryAnswers
+pub mod Places
+pub mod Sequences
+pub mod StmtPrints
+pub mod DeclPrints

@@ -3,7 +3,7 @@ use Prim.Native.Nat.{ℕ, _+_, _*_, _≤_, _<_}
 use mathlib.Core.Path.{_≡_}
 use mathlib.Core.Bool.{Bool}
 use mathlib.Core.Option.{Option}
-use mathlib.Core.List.{List}
+use mathlib.Core.List.{List, []}
 use lib.ListN.{length, drop}
 use lib.Dec.{eqb}
 use Rattle.lexing.specs.Answer.{pick}
@@ -11,7 +11,9 @@ use Rattle.grammar.specs.Words.{bytes}
 use Rattle.tree.specs.Ast.{Binding, Operator, Expr, OperatorExpr, FunctionCallExpr, LabeledExpr, LetExpr, QuantifierExpr, ClosureExpr, ArgumentCount}
 use Rattle.tree.specs.Ast.{Exprs, noExprs, _then_, Patterns, ClosureBindings, ClosureProperties}
 use Rattle.tree.specs.Words.{exprWords, exprsWords, patternsWords, closureBindingsWords, closurePropertiesWords}
+use Rattle.tree.specs.Limits.{mostWords}
 use Rattle.tree.specs.Check.{NameIn}
+use Rattle.tree.specs.Counted.{exprCount, CountedExpr, CountedExprs, CountedPatterns, CountedClosureBindings, CountedClosureProperties}
 use Rattle.printing.specs.declared.power.BindingPower.{BindingPower}
 use Rattle.printing.specs.declared.format.ExprFormatOption.{ExprFormatOption}
 use Rattle.printing.specs.declared.format.ExprFormatOption.the-variants.{SingleLine}
@@ -21,7 +23,6 @@ use Rattle.printing.specs.Entries.{nameIn, startIndent}
 use Rattle.printing.specs.Text.{_▹_, _▸_}
 use Rattle.printing.specs.Wrote.{Wrote}
 use Rattle.printing.specs.Text.{unless}
-use Rattle.printing.specs.Ends.{Known, upTo}
 use Rattle.printing.specs.Parts.{Part}
 
 -- an operand of an operator
@@ -30,11 +31,11 @@ operand text e = record { print = λ c f r. Expression (nameIn text) 2 e c f r; 
 
 -- the number of the alternative that prints an operator: its operands where they are as many as it takes, else 0
 abbrev pub formNumber : {N : Type 0} → Operator → Exprs N → ℕ
-formNumber o es = pick (eqb (upTo 4 es) (ArgumentCount o)) (upTo 4 es) 0
+formNumber o es = pick (eqb (exprCount es) (ArgumentCount o)) (exprCount es) 0
 
-pub record FormIs (table ends : List ℕ) (at r : ℕ) : Type 0 where
-  pub form-is : (len : ℕ) → Known len table ends → (o : Operator) (es : Exprs (NameIn len)) (rest : List ℕ) → drop at table ≡ exprWords (λ n. n .span) (OperatorExpr o es) rest
-      → r ≡ formNumber o es
+pub record FormIs (table counts : List ℕ) (at r : ℕ) : Type 0 where
+  pub form-is : (len : ℕ) (o : Operator) (es : Exprs (NameIn len)) (rest : List ℕ) → CountedExpr (λ n. n .span) counts (length table) (OperatorExpr o es) rest
+      → drop at table ≡ exprWords (λ n. n .span) (OperatorExpr o es) rest → r ≡ formNumber o es
 
 -- a format one step deeper; no print has an indent of 65,536 or more
 pub record Deeper (format r : ExprFormatOption) : Type 0 where
@@ -49,12 +50,12 @@ pub record ElseHead (text table : List ℕ) (at : ℕ) (format : ExprFormatOptio
   pub else-head : startIndent format < 65536 → (t : Expr (NameIn (length text))) (rest : List ℕ) → drop at table ≡ exprWords (λ n. n .span) t rest
       → Wrote (λ r. Space format ▹ "else" ▸ Space (pick (isIf t) SingleLine (More 2 format)) ▹ r) b p b′ p′
 
--- what the prints need: the ends of the expressions, and an indent that grows no faster than the place
-pub record Ready (len : ℕ) (table ends : List ℕ) (at indent : ℕ) : Type 0 where
-  pub known : Known len table ends
+-- what the prints need beside the numbers of items: a table no longer than a checked one, and an indent that grows no faster than the place
+pub record Ready (table : List ℕ) (at indent : ℕ) : Type 0 where
+  pub few : length table ≤ mostWords
   pub room : indent ≤ 255 + 2 * at
 
-module _ (text table ends : List ℕ) (at : ℕ) where
+module _ (text table counts : List ℕ) (at : ℕ) where
   abbrev N : Type 0
   N = NameIn (length text)
 
@@ -63,7 +64,7 @@ module _ (text table ends : List ℕ) (at : ℕ) where
   made {A} make context format =
       record {
         Tree = A;
-        given = Ready (length text) table ends at (startIndent format);
+        given = λ a rest. Ready table at (startIndent format) × CountedExpr (λ n. n .span) counts (length table) (make a) rest;
         words = λ a rest. exprWords (λ n. n .span) (make a) rest;
         print = λ a rest. Expression (nameIn text) 2 (make a) context format rest;
       }
@@ -94,7 +95,7 @@ module _ (text table ends : List ℕ) (at : ℕ) where
   operators {A} op es print context format =
       record {
         Tree = A;
-        given = Ready (length text) table ends at (startIndent format);
+        given = λ a rest. Ready table at (startIndent format) × CountedExpr (λ n. n .span) counts (length table) (OperatorExpr (op a) (es a)) rest;
         words = λ a rest. exprWords (λ n. n .span) (OperatorExpr (op a) (es a)) rest;
         print = λ a rest. print a context format rest;
       }
@@ -119,20 +120,21 @@ module _ (text table ends : List ℕ) (at : ℕ) where
       (λ a. conditional 2 (a .0) (operand text (a .1)) (operand text (a .2)) (operand text (a .3)))
 
   -- sequences
-  abbrev pub sequence : {A : Type 0} → (A → List ℕ → List ℕ) → (A → List ℕ → List ℕ) → ExprFormatOption → Part
-  sequence {A} words print format = record { Tree = A; given = Ready (length text) table ends at (startIndent format); words = words; print = print }
+  abbrev pub sequence : {A : Type 0} → (A → List ℕ → Type 0) → (A → List ℕ → List ℕ) → (A → List ℕ → List ℕ) → ExprFormatOption → Part
+  sequence {A} counted words print format =
+      record { Tree = A; given = λ a rest. Ready table at (startIndent format) × counted a rest; words = words; print = print }
 
   abbrev pub expressionList : (first : Bool) → Part
-  expressionList first = sequence (exprsWords (λ n. n .span)) (λ es rest. ExpressionList (unless first (bytes ", ")) (operands (nameIn text) 2 es) rest) SingleLine
+  expressionList first = sequence (CountedExprs (λ n. n .span) counts (length table)) (exprsWords (λ n. n .span)) (λ es rest. ExpressionList (unless first (bytes ", ")) (operands (nameIn text) 2 es) rest) SingleLine
 
   abbrev pub patternList : ExprFormatOption → Part
-  patternList ind = sequence (patternsWords (λ n. n .span)) (λ ps rest. patterns (nameIn text) 2 ps ind rest) ind
+  patternList ind = sequence (CountedPatterns (λ n. n .span) counts (length table)) (patternsWords (λ n. n .span)) (λ ps rest. patterns (nameIn text) 2 ps ind rest) ind
 
   abbrev pub triggerList : Part
-  triggerList = sequence (patternsWords (λ n. n .span)) (λ ps rest. triggers (nameIn text) 2 ps rest) SingleLine
+  triggerList = sequence (CountedPatterns (λ n. n .span) counts (length table)) (patternsWords (λ n. n .span)) (λ ps rest. triggers (nameIn text) 2 ps rest) SingleLine
 
   abbrev pub closureList : (first : Bool) → Part
-  closureList first = sequence (closureBindingsWords (λ n. n .span)) (λ bs rest. closureBindings (nameIn text) 2 bs (unless first (bytes ", ")) rest) SingleLine
+  closureList first = sequence (CountedClosureBindings (λ n. n .span) counts (length table)) (closureBindingsWords (λ n. n .span)) (λ bs rest. closureBindings (nameIn text) 2 bs (unless first (bytes ", ")) rest) SingleLine
 
   abbrev pub propertyList : (first : Bool) → Part
-  propertyList first = sequence (closurePropertiesWords (λ n. n .span)) (λ ps rest. properties (nameIn text) 2 ps (unless first (bytes ", ")) rest) SingleLine
+  propertyList first = sequence (CountedClosureProperties (λ n. n .span) counts (length table)) (closurePropertiesWords (λ n. n .span)) (λ ps rest. properties (nameIn text) 2 ps (unless first (bytes ", ")) rest) SingleLine

@@ -15,6 +15,7 @@ use Rattle.printing.specs.Examples.{computed, line, lines, list}
 abbrev Prints : Expr String → String → String → Type 0
 Prints e short broken = (line e ≡ bytes short) × (lines 4 e ≡ bytes broken)
 
+-- a name
 abbrev v : String → Expr String
 v n = IdExpr n false
 

@@ -9,5 +9,6 @@ abbrev pub operators : List Operator
 operators =
     IfThenElse ∷ IfThenElse ∷ Equiv ∷ LogicalImp ∷ LogicalAnd ∷ LogicalOr ∷ Eq ∷ Neq ∷ Less ∷ AtMost ∷ Plus ∷ Minus ∷ Times ∷ Div ∷ Mod ∷ LogicalNot ∷ []
 
+-- the operator of a word; UnaryMinus past the list
 abbrev pub operatorOf : ℕ → Operator
 operatorOf w = getD operators w UnaryMinus

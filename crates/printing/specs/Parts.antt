@@ -19,10 +19,10 @@ use Rattle.printing.specs.Printer.{boolText, oldText, quantifierText, Id
 use Rattle.printing.specs.Entries.{nameIn}
 use Rattle.printing.specs.Wrote.{Wrote}
 
--- trees with their words and their prints, each before what follows, and what the print of one needs
+-- trees with their words and their prints, each before what follows, and what the print of one needs, by the tree and the words that follow
 pub record Part : Type 1 where
   pub Tree : Type 0
-  pub given : Type 0
+  pub given : Tree → List ℕ → Type 0
   pub words : Tree → List ℕ → List ℕ
   pub print : Tree → List ℕ → List ℕ
 
@@ -34,7 +34,7 @@ pub record Done (table : List ℕ) (X : List ℕ → List ℕ) (rest b : List �
 -- the tree at a place of the table was printed
 pub record Prints (P : Part) (table : List ℕ) (at : ℕ) (b : List ℕ) (p : ℕ) (b′ : List ℕ) (s : Step) : Type 0 where
   pub forward : at ≤ s .next
-  pub prints : P .given → (t : P .Tree) (rest : List ℕ) → drop at table ≡ P .words t rest → Done table (P .print t) rest b p b′ s
+  pub prints : (t : P .Tree) (rest : List ℕ) → P .given t rest → drop at table ≡ P .words t rest → Done table (P .print t) rest b p b′ s
 
 -- the place after a word; a place past the table stays
 pub record Next (table : List ℕ) (at next : ℕ) : Type 0 where
@@ -43,24 +43,24 @@ pub record Next (table : List ℕ) (at next : ℕ) : Type 0 where
   pub after : (w : ℕ) (ws : List ℕ) → drop at table ≡ w ∷ ws → drop next table ≡ ws
 
 abbrev pub aBool : Part
-aBool = record { Tree = Bool; given = Unit {0}; words = λ b rest. boolWord b ∷ rest; print = λ b rest. boolText b ▸ rest }
+aBool = record { Tree = Bool; given = λ _ _. Unit {0}; words = λ b rest. boolWord b ∷ rest; print = λ b rest. boolText b ▸ rest }
 
 abbrev pub aNatural : Part
-aNatural = record { Tree = ℕ; given = Unit {0}; words = naturalWords; print = decimal }
+aNatural = record { Tree = ℕ; given = λ _ _. Unit {0}; words = naturalWords; print = decimal }
 
 module _ (text : List ℕ) where
   abbrev N : Type 0
   N = NameIn (length text)
 
   abbrev pub aName : Part
-  aName = record { Tree = N; given = Unit {0}; words = nameWords (λ n. n .span); print = λ n rest. nameIn text n ▹ rest }
+  aName = record { Tree = N; given = λ _ _. Unit {0}; words = nameWords (λ n. n .span); print = λ n rest. nameIn text n ▹ rest }
 
   -- a name and its type
   abbrev pub typedName : Part
   typedName =
       record {
         Tree = N × N;
-        given = Unit {0};
+        given = λ _ _. Unit {0};
         words = λ a rest. nameWords (λ n. n .span) (a .0) (nameWords (λ n. n .span) (a .1) rest);
         print = λ a rest. nameIn text (a .0) ▹ ": " ▸ nameIn text (a .1) ▹ rest;
       }
@@ -69,7 +69,7 @@ module _ (text : List ℕ) where
   idType =
       record {
         Tree = N × Option N;
-        given = Unit {0};
+        given = λ _ _. Unit {0};
         words = λ a rest. nameWords (λ n. n .span) (a .0) (optionWords (nameWords (λ n. n .span)) (a .1) rest);
         print = λ a rest. IdTypeDecl (nameIn text) 2 [] (a .0) (a .1) rest;
       }
@@ -78,7 +78,7 @@ module _ (text : List ℕ) where
   bindings prefix =
       record {
         Tree = List (Binding N);
-        given = Unit {0};
+        given = λ _ _. Unit {0};
         words = seqWords (bindingWords (λ n. n .span));
         print = λ bs rest. Bindings (nameIn text) 2 prefix bs rest;
       }
@@ -88,7 +88,7 @@ module _ (text : List ℕ) where
   quantified =
       record {
         Tree = Bool × List (Binding N);
-        given = Unit {0};
+        given = λ _ _. Unit {0};
         words = λ a rest. boolWord (a .0) ∷ seqWords (bindingWords (λ n. n .span)) (a .1) rest;
         print = λ a rest. Bindings (nameIn text) 2 (bytes (quantifierText (a .0))) (a .1) rest;
       }
@@ -97,7 +97,7 @@ module _ (text : List ℕ) where
   closureParameters =
       record {
         Tree = List (Binding N);
-        given = Unit {0};
+        given = λ _ _. Unit {0};
         words = seqWords (bindingWords (λ n. n .span));
         print = λ bs rest. parameters (nameIn text) 2 bs rest;
       }
@@ -108,7 +108,7 @@ module _ (text : List ℕ) where
   customLiteral =
       record {
         Tree = N × N;
-        given = Unit {0};
+        given = λ _ _. Unit {0};
         words = λ a rest. nameWords (λ n. n .span) (a .0) (nameWords (λ n. n .span) (a .1) rest);
         print = λ a rest. "|" ▸ nameIn text (a .0) ▹ ": " ▸ nameIn text (a .1) ▹ "|" ▸ rest;
       }
@@ -117,7 +117,7 @@ module _ (text : List ℕ) where
   identifier =
       record {
         Tree = N × Bool;
-        given = Unit {0};
+        given = λ _ _. Unit {0};
         words = λ a rest. nameWords (λ n. n .span) (a .0) (boolWord (a .1) ∷ rest);
         print = λ a rest. oldText (a .1) ▸ nameIn text (a .0) ▹ rest;
       }
@@ -127,7 +127,7 @@ module _ (text : List ℕ) where
   leaf table at =
       record {
         Tree = Expr N × BindingPower × ExprFormatOption;
-        given = getD table at 0 < 5;
+        given = λ _ _. getD table at 0 < 5;
         words = λ a rest. exprWords (λ n. n .span) (a .0) rest;
         print = λ a rest. Expression (nameIn text) 2 (a .0) (a .1) (a .2) rest;
       }
@@ -143,7 +143,7 @@ module _ (text : List ℕ) where
   labelHead context =
       record {
         Tree = N;
-        given = Unit {0};
+        given = λ _ _. Unit {0};
         words = nameWords (λ n. n .span);
         print = λ n rest. Parenthesis Left EndlessOperator context ▹ nameIn text n ▹ ": " ▸ rest;
       }
@@ -153,7 +153,7 @@ module _ (text : List ℕ) where
   letHead context =
       record {
         Tree = N × Option N;
-        given = Unit {0};
+        given = λ _ _. Unit {0};
         words = λ a rest. nameWords (λ n. n .span) (a .0) (optionWords (nameWords (λ n. n .span)) (a .1) rest);
         print = λ a rest. Parenthesis Left EndlessOperator context ▹ IdTypeDecl (nameIn text) 2 (bytes "val ") (a .0) (a .1) (" := " ▸ rest);
       }
@@ -163,21 +163,21 @@ module _ (text : List ℕ) where
   quantifierHead context =
       record {
         Tree = Bool × List (Binding N);
-        given = Unit {0};
+        given = λ _ _. Unit {0};
         words = λ a rest. boolWord (a .0) ∷ seqWords (bindingWords (λ n. n .span)) (a .1) rest;
         print = λ a rest. Parenthesis Left EndlessOperator context ▹ Bindings (nameIn text) 2 (bytes (quantifierText (a .0))) (a .1) rest;
       }
 
   -- of a call
   abbrev pub callHead : Part
-  callHead = record { Tree = N; given = Unit {0}; words = nameWords (λ n. n .span); print = λ n rest. nameIn text n ▹ "(" ▸ rest }
+  callHead = record { Tree = N; given = λ _ _. Unit {0}; words = nameWords (λ n. n .span); print = λ n rest. nameIn text n ▹ "(" ▸ rest }
 
   -- of a closure's binding
   abbrev pub closureHead : List ℕ → Part
   closureHead sep =
       record {
         Tree = N × List (Binding N);
-        given = Unit {0};
+        given = λ _ _. Unit {0};
         words = λ a rest. nameWords (λ n. n .span) (a .0) (seqWords (bindingWords (λ n. n .span)) (a .1) rest);
         print = λ a rest. sep ▹ nameIn text (a .0) ▹ parameters (nameIn text) 2 (a .1) (" := " ▸ rest);
       }
@@ -187,7 +187,7 @@ module _ (text : List ℕ) where
   closureResult =
       record {
         Tree = N × N;
-        given = Unit {0};
+        given = λ _ _. Unit {0};
         words = λ a rest. nameWords (λ n. n .span) (a .0) (nameWords (λ n. n .span) (a .1) rest);
         print = λ a rest. " into " ▸ nameIn text (a .0) ▹ ": " ▸ nameIn text (a .1) ▹ " by { " ▸ rest;
       }

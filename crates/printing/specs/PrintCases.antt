@@ -12,43 +12,42 @@ use borrow.Author.Tests.{leb-true, le-leb}
 use Rattle.tree.specs.Clash.{impossible}
 use Rattle.grammar.specs.Laws.Looks.{pick-cases, both-true}
 use Rattle.tree.specs.Limits.{mostText}
-use Rattle.tree.specs.Ast.{Expr}
-use Rattle.tree.specs.Check.{NameIn, checkExpression, Refusal, refusal as checkRefusal, expressionRefusal}
-use Rattle.tree.specs.Refused.{expression-unrefused, expression-too-many, expression-misfit}
+use Rattle.tree.specs.Check.{Refusal, refusal as checkRefusal}
 use Rattle.tree.specs.declared.Checked.{Checked}
 use Rattle.tree.specs.declared.Checked.the-variants.{Tree, Misfit, TooLong}
-use Rattle.printing.specs.declared.format.ExprFormatOption.{ExprFormatOption}
 use Rattle.printing.specs.declared.Printed.{Printed}
 use Rattle.printing.specs.declared.Printed.the-variants.{Written, Refused}
-use Rattle.printing.specs.Entries.{mostPrint, mostIndent, startIndent, written, refusal, outcomeOf, stored, printOf, printExpression, PrintAnswered, Holds, Within, Fits}
-use Rattle.printing.specs.EntryLaws.{same-tree, prints, refuses}
+use Rattle.printing.specs.Entries.{mostPrint, mostIndent, written, refusal, outcomeOf, stored, Printable, printTable, Answered, Within, Fits}
+use Rattle.printing.specs.EntryLaws.{Lawful, prints, refuses}
 
 -- one of the four cases of document 01 holds of the answer r and of the output afterwards
-pub data Answer (text words : List ℕ) (format : ExprFormatOption) (out : List ℕ) (r : Printed) (out′ : List ℕ) : Type 0 where
-  over : (Within text words format → ⊥) → r ≡ Refused 6 0 → out′ ≡ out → Answer text words format out r out′
-  misfit : Within text words format → (place : ℕ) → expressionRefusal words (length text) ≡ some (record { number = 7; place = place }) → r ≡ Refused 7 place → out′ ≡ out
-      → Answer text words format out r out′
-  long : Within text words format → (t : Expr (NameIn (length text))) → Holds text words t → (Fits (printOf 2 text format t) out → ⊥) → r ≡ Refused 8 0 → out′ ≡ out
-      → Answer text words format out r out′
-  printed : Within text words format → (t : Expr (NameIn (length text))) → Holds text words t → Fits (printOf 2 text format t) out
-      → r ≡ Written (length (printOf 2 text format t)) → out′ ≡ printOf 2 text format t ++ drop (length (printOf 2 text format t)) out
-      → Answer text words format out r out′
+pub data Answer (P : Printable) (text words out : List ℕ) (r : Printed) (out′ : List ℕ) : Type 0 where
+  over : (Within P text words → ⊥) → r ≡ Refused 6 0 → out′ ≡ out → Answer P text words out r out′
+  misfit : Within P text words → (place : ℕ) → P .refused words ≡ some (record { number = 7; place = place }) → r ≡ Refused 7 place → out′ ≡ out
+      → Answer P text words out r out′
+  long : Within P text words → (t : P .Tree) → P .words t ≡ words → (Fits (P .print t) out → ⊥) → r ≡ Refused 8 0 → out′ ≡ out
+      → Answer P text words out r out′
+  printed : Within P text words → (t : P .Tree) → P .words t ≡ words → Fits (P .print t) out
+      → r ≡ Written (length (P .print t)) → out′ ≡ P .print t ++ drop (length (P .print t)) out
+      → Answer P text words out r out′
 
 -- an outcome and the code's answer
 is-refused : (r : Printed) {number place : ℕ} {out out′ : List ℕ} → outcomeOf r out′ ≡ refusal number place out → (r ≡ Refused number place) × (out′ ≡ out)
 is-refused (Written n) e = impossible cc
 is-refused (Refused number place) e = (cc, cc)
 
+-- a print and the code's answer
 is-written : (r : Printed) {n : ℕ} {after out′ : List ℕ} → outcomeOf r out′ ≡ written n after → (r ≡ Written n) × (out′ ≡ after)
 is-written (Written n) e = (cc, cc)
 is-written (Refused number place) e = impossible cc
 
-module _ (text words : List ℕ) (format : ExprFormatOption) (out : List ℕ) (r : Printed) (out′ : List ℕ) where
-  of-tree : Within text words format → (t : Expr (NameIn (length text))) → Holds text words t → stored (printOf 2 text format t) out ≡ outcomeOf r out′
-      → Answer text words format out r out′
+module _ (P : Printable) (L : Lawful P) (text words out : List ℕ) (r : Printed) (out′ : List ℕ) where
+  -- the cases of a table with a tree's words
+  of-tree : Within P text words → (t : P .Tree) → P .words t ≡ words → stored (P .print t) out ≡ outcomeOf r out′
+      → Answer P text words out r out′
   unfolding stored
   of-tree w t h e =
-      pick-cases (leb (length (printOf 2 text format t)) (length out) && leb (length (printOf 2 text format t)) mostPrint) e
+      pick-cases (leb (length (P .print t)) (length out) && leb (length (P .print t)) mostPrint) e
       (λ b f. let two = both-true _ _ b in
       let c = is-written r (sym f) in
       printed w t h (record { in-output = leb-true _ _ (two .0); in-print = leb-true _ _ (two .1) }) (c .0) (c .1))
@@ -59,32 +58,34 @@ module _ (text words : List ℕ) (format : ExprFormatOption) (out : List ℕ) (r
       (c .0) (c .1))
 
   -- by the check's answer
-  of-check : length text ≤ mostText → startIndent format ≤ mostIndent → (c : Checked) → expressionRefusal words (length text) ≡ checkRefusal c
-      → printExpression 2 text words format out ≡ outcomeOf r out′ → Answer text words format out r out′
+  of-check : length text ≤ mostText → P .indent ≤ mostIndent → (c : Checked) → P .refused words ≡ checkRefusal c
+      → printTable P text words out ≡ outcomeOf r out′ → Answer P text words out r out′
   of-check ht hi Tree h e =
-      let a = expression-unrefused words (length text) .0 h in
+      let a = P .unrefused words .0 h in
       of-tree (record { text-fits = ht; words-fit = a .0; indent-fits = hi }) (a .1 .0) (a .1 .1)
-      (sym (prints text words (a .1 .0) (a .1 .1) 2 format out ht (a .0) hi) ∙ e)
+      (sym (prints P text words out L (a .1 .0) (a .1 .1) ht (a .0) hi) ∙ e)
   of-check ht hi (Misfit place) h e =
-      let c = is-refused r (sym e ∙ refuses 2 text words format out ht hi _ h) in
-      misfit (record { text-fits = ht; words-fit = expression-misfit words (length text) place h .1; indent-fits = hi }) place h (c .0) (c .1)
+      let c = is-refused r (sym e ∙ refuses P text words out ht hi _ h) in
+      misfit (record { text-fits = ht; words-fit = L .misfit words place h; indent-fits = hi }) place h (c .0) (c .1)
   of-check ht hi TooLong h e =
-      let c = is-refused r (sym e ∙ refuses 2 text words format out ht hi _ h) in
-      let k = expression-too-many words (length text) .0 h in
+      let c = is-refused r (sym e ∙ refuses P text words out ht hi _ h) in
+      let k = L .too-many words h in
       over (λ w. let f = w .words-fit in omega arith) (c .0) (c .1)
 
-  pub cases : PrintAnswered text words format out r out′ → Answer text words format out r out′
-  unfolding printExpression expressionRefusal
+  -- every answer is one of the four
+  pub cases : Answered P text words out r out′ → Answer P text words out r out′
+  unfolding printTable
   cases a =
-      pick-cases (leb (length text) mostText && leb (startIndent format) mostIndent) (sym a)
+      pick-cases (leb (length text) mostText && leb (P .indent) mostIndent) (sym a)
       (λ b f. let two = both-true _ _ b in
-      of-check (leb-true _ _ (two .0)) (leb-true _ _ (two .1)) (checkExpression words (length text)) refl (sym a))
+      of-check (leb-true _ _ (two .0)) (leb-true _ _ (two .1)) (L .found words .0) (L .found words .1) (sym a))
       (λ b f. let c = is-refused r (sym f) in
       over
       (λ w. let z : _≡_ {A = Bool} true false = sym (simp (le-leb _ _ (w .text-fits), le-leb _ _ (w .indent-fits))) ∙ b in
       let y : _≡_ {A = ℕ} 0 1 = cc in absurd (omega arith))
       (c .0) (c .1))
 
+-- a refusal has one place
 same-place : {q : Option Refusal} {p p′ : ℕ} → q ≡ some (record { number = 7; place = p }) → q ≡ some (record { number = 7; place = p′ }) → p ≡ p′
 same-place {p = p} {p′ = p′} e f =
     let h : _≡_ {A = Refusal} (record { number = 7; place = p }) (record { number = 7; place = p′ }) = cc in ap (λ (r : Refusal). r .place) h
@@ -93,30 +94,32 @@ same-place {p = p} {p′ = p′} e f =
 one-number : {r : Printed} {m n p q : ℕ} → r ≡ Refused m p → r ≡ Refused n q → m ≡ n
 one-number e f = cc
 
+-- no refusal is a print
 not-written : {Q : Type 0} {r : Printed} {n m p : ℕ} → r ≡ Written n → r ≡ Refused m p → Q
 not-written e f = impossible cc
 
 -- ---- what the claims cite
 
-module _ (text words : List ℕ) (format : ExprFormatOption) (out : List ℕ) (r : Printed) (out′ : List ℕ) (a : PrintAnswered text words format out r out′) where
+module _ (P : Printable) (L : Lawful P) (text words out : List ℕ) (r : Printed) (out′ : List ℕ) (a : Answered P text words out r out′) where
   abbrev T : Type 0
-  T = Expr (NameIn (length text))
+  T = P .Tree
 
   abbrev print : T → List ℕ
-  print t = printOf 2 text format t
+  print t = P .print t
 
-  abbrev answer : Answer text words format out r out′
-  answer = cases text words format out r out′ a
+  abbrev answer : Answer P text words out r out′
+  answer = cases P L text words out r out′ a
 
   -- a table that holds a tree is no misfit
-  held : (t : T) → Holds text words t → Within text words format → {place : ℕ} → expressionRefusal words (length text) ≡ some (record { number = 7; place = place }) → ⊥
-  held t h w m = let e = expression-unrefused words (length text) .1 (w .words-fit, (t, h)) in impossible cc
+  held : (t : T) → P .words t ≡ words → Within P text words → {place : ℕ} → P .refused words ≡ some (record { number = 7; place = place }) → ⊥
+  held t h w m = let e = P .unrefused words .1 (w .words-fit, (t, h)) in impossible cc
 
   -- a print of one tree with the table's words fits where that of another does
-  fits-too : (t u : T) → Holds text words t → Holds text words u → Fits (print t) out → Fits (print u) out
-  fits-too t u h i f = subst (λ (x : T). Fits (print x) out) (same-tree text words t u h i) f
+  fits-too : (t u : T) → P .words t ≡ words → P .words u ≡ words → Fits (print t) out → Fits (print u) out
+  fits-too t u h i f = subst (λ (x : T). Fits (print x) out) (L .same words t u h i) f
 
-  pub tree-printed : (t : T) → Holds text words t → Within text words format → Fits (print t) out
+  -- a tree whose print fits is printed
+  pub tree-printed : (t : T) → P .words t ≡ words → Within P text words → Fits (print t) out
       → (r ≡ Written (length (print t))) × (out′ ≡ print t ++ drop (length (print t)) out)
   tree-printed t h w f =
       elim answer [
@@ -124,10 +127,11 @@ module _ (text words : List ℕ) (format : ExprFormatOption) (out : List ℕ) (r
         | misfit v place m e k ↦ absurd (held t h w m)
         | long v u i n e k ↦ absurd (n (fits-too t u h i f))
         | printed v u i g e k ↦
-            subst (λ (x : T). (r ≡ Written (length (print x))) × (out′ ≡ print x ++ drop (length (print x)) out)) (same-tree text words u t i h) (e, k)
+            subst (λ (x : T). (r ≡ Written (length (print x))) × (out′ ≡ print x ++ drop (length (print x)) out)) (L .same words u t i h) (e, k)
       ]
 
-  pub written-tree : (n : ℕ) → r ≡ Written n → Within text words format × ((t : T) × (Holds text words t × Fits (print t) out))
+  -- what is written is such a print
+  pub written-tree : (n : ℕ) → r ≡ Written n → Within P text words × ((t : T) × ((P .words t ≡ words) × Fits (print t) out))
   written-tree n e =
       elim answer [
         | over m f k ↦ not-written e f
@@ -136,7 +140,8 @@ module _ (text words : List ℕ) (format : ExprFormatOption) (out : List ℕ) (r
         | printed v u i g f k ↦ (v, (u, (i, g)))
       ]
 
-  pub refused-6 : (r ≡ Refused 6 0) ↔ (Within text words format → ⊥)
+  -- refusal 6 exactly past the limits
+  pub refused-6 : (r ≡ Refused 6 0) ↔ (Within P text words → ⊥)
   refused-6 = (
     λ e w. elim answer [
       | over n f k ↦ n w
@@ -147,8 +152,9 @@ module _ (text words : List ℕ) (format : ExprFormatOption) (out : List ℕ) (r
     λ n. elim answer [ over m f k ↦ f | misfit v place m f k ↦ absurd (n v) | long v u i m f k ↦ absurd (n v) | printed v u i g f k ↦ absurd (n v) ],
   )
 
+  -- refusal 7 exactly where the check refuses by 7, at its place
   pub refused-7-place : (place : ℕ)
-      → (r ≡ Refused 7 place) ↔ (Within text words format × (expressionRefusal words (length text) ≡ some (record { number = 7; place = place })))
+      → (r ≡ Refused 7 place) ↔ (Within P text words × (P .refused words ≡ some (record { number = 7; place = place })))
   refused-7-place place = (
     λ e. elim answer [
       | over n f k ↦ let z : _≡_ {A = ℕ} 7 6 = one-number e f in absurd (omega arith)
@@ -164,7 +170,8 @@ module _ (text words : List ℕ) (format : ExprFormatOption) (out : List ℕ) (r
     ],
   )
 
-  pub refused-7 : ((place : ℕ) × (r ≡ Refused 7 place)) ↔ (Within text words format × ((t : T) → Holds text words t → ⊥))
+  -- and exactly where the table holds no tree
+  pub refused-7 : ((place : ℕ) × (r ≡ Refused 7 place)) ↔ (Within P text words × ((t : T) → P .words t ≡ words → ⊥))
   refused-7 = (
     λ e. let h = refused-7-place (e .0) .0 (e .1) in (h .0, λ t i. held t i (h .0) (h .1)),
     λ h. elim answer [
@@ -175,7 +182,8 @@ module _ (text words : List ℕ) (format : ExprFormatOption) (out : List ℕ) (r
     ],
   )
 
-  pub refused-8 : (r ≡ Refused 8 0) ↔ (Within text words format × ((t : T) × (Holds text words t × (Fits (print t) out → ⊥))))
+  -- refusal 8 exactly where the print does not fit
+  pub refused-8 : (r ≡ Refused 8 0) ↔ (Within P text words × ((t : T) × ((P .words t ≡ words) × (Fits (print t) out → ⊥))))
   refused-8 = (
     λ e. elim answer [
       | over n f k ↦ let z : _≡_ {A = ℕ} 8 6 = one-number e f in absurd (omega arith)
@@ -191,6 +199,7 @@ module _ (text words : List ℕ) (format : ExprFormatOption) (out : List ℕ) (r
     ],
   )
 
+  -- no other refusal, and the output stays
   pub refusal-keeps : (number place : ℕ) → r ≡ Refused number place → ((r ≡ Refused 6 0) ⊎ (r ≡ Refused 7 place) ⊎ (r ≡ Refused 8 0)) × (out′ ≡ out)
   refusal-keeps number place e =
       elim answer [

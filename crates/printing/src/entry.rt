@@ -1,30 +1,46 @@
-// Print expression (document 01, "The entries"): refusals 6 to 8, and the print before the output's old bytes.
+// Print expression and print program (document 01, "The entries"): refusals 6 to 8, and the print before the output's old bytes, once for
+// whatever tree a table holds.
 use crate::Printed;
-use crate::ends::fill;
 use crate::expression::expr;
 use crate::format::ExprFormatOption;
+use crate::parts::Step;
 use crate::power::BindingPower;
+use crate::program::program;
 use crate::write::store;
 use tree::Checked;
 use tree::MOST_TEXT;
 use tree::MOST_WORDS;
-use tree::check_expression;
-ghost use Prim.Native.Nat.{ℕ, _≤_, min};
+use tree::count_expression;
+use tree::count_program;
+ghost use Prim.Native.Nat.{_≤_, min};
 ghost use mathlib.Core.Path.{_≡_};
 ghost use lib.ListN.{length};
-ghost use Rattle.tree.specs.Limits.{mostWords};
+ghost use Rattle.tree.specs.Limits.{mostText, mostWords};
+ghost use Rattle.tree.specs.Check.{refusal};
 ghost use Rattle.printing.specs.declared.format.ExprFormatOption.the-variants.{SingleLine, MultipleLines};
-ghost use Rattle.printing.specs.Ends.{Known};
-ghost use Rattle.printing.specs.Entries.{mostPrint, mostIndent, startIndent, outcomeOf, PrintAnswered};
-ghost use Rattle.printing.specs.Stores.{Stores, delivered};
+ghost use Rattle.printing.specs.Entries.{mostPrint, mostIndent, outcomeOf, Answered, PrintAnswered, ProgramAnswered};
+ghost use Rattle.printing.specs.Parts.{Prints};
+ghost use Rattle.printing.specs.Stores.{rooted, rootCounts, rootPart, Numbered, Stores, delivered};
 
 const MOST_INDENT: usize = 255;
+
+// The tree that a table is to hold.
+pub enum Root {
+    // An expression, printed in a format.
+    AnExpression(ExprFormatOption),
+    AProgram,
+}
 
 // Prints the expression that a table holds over a text on one line.
 pub fn print_expression(text: &[u8], words: &[u32], out: &mut [u8]) -> Printed
     ensures { λ r. ⌜ PrintAnswered (now (text .entry)) (now (words .entry)) SingleLine (now (out .entry)) r (now (out .exit)) ⌝ }
 {
-    print(text, words, ExprFormatOption::SingleLine, out)
+    print(
+        text,
+        words,
+        Root::AnExpression(ExprFormatOption::SingleLine),
+        out,
+    )
 }
 
 // The same on several lines, from a start indent on.
@@ -34,72 +50,114 @@ pub fn print_expression_lines(text: &[u8], words: &[u32], indent: usize, out: &m
     if MOST_INDENT < indent {
         return Printed::Refused(6, 0);
     }
-    print(text, words, ExprFormatOption::MultipleLines(indent), out)
+    print(
+        text,
+        words,
+        Root::AnExpression(ExprFormatOption::MultipleLines(indent)),
+        out,
+    )
 }
 
-fn print(text: &[u8], words: &[u32], format: ExprFormatOption, out: &mut [u8]) -> Printed
-    requires { ⌜ startIndent format ≤ mostIndent ⌝ }
-    ensures { λ r. ⌜ PrintAnswered (now (text .entry)) (now (words .entry)) format (now (out .entry)) r (now (out .exit)) ⌝ }
+// Prints the program that a table holds over a text.
+pub fn print_program(text: &[u8], words: &[u32], out: &mut [u8]) -> Printed
+    ensures { λ r. ⌜ ProgramAnswered (now (text .entry)) (now (words .entry)) (now (out .entry)) r (now (out .exit)) ⌝ }
+{
+    print(text, words, Root::AProgram, out)
+}
+
+// A small table takes a small table of numbers.
+fn print(text: &[u8], words: &[u32], root: Root, out: &mut [u8]) -> Printed
+    requires { ⌜ rooted (now text) root .indent ≤ mostIndent ⌝ }
+    ensures { λ r. ⌜ Answered (rooted (now (text .entry)) root) (now (text .entry)) (now (words .entry)) (now (out .entry)) r (now (out .exit)) ⌝ }
 {
     if MOST_TEXT < text.len() {
         return Printed::Refused(6, 0);
     }
-    let found = check_expression(words, text.len());
+    if words.len() <= 256 {
+        let mut counts = [0u16; 256];
+        return print_counted(text, words, &mut counts, root, out);
+    }
+    let mut counts = [0u16; MOST_WORDS];
+    print_counted(text, words, &mut counts, root, out)
+}
+
+// The check, which counts the items of the sequences, and then the print.
+fn print_counted(
+    text: &[u8],
+    words: &[u32],
+    counts: &mut [u16],
+    root: Root,
+    out: &mut [u8],
+) -> Printed
+    requires { ⌜ (length (now text) ≤ mostText) × (rooted (now text) root .indent ≤ mostIndent) × (length (now words) ≤ mostWords → length (now words) ≤ length (now counts)) ⌝ }
+    ensures { λ r. ⌜ Answered (rooted (now (text .entry)) root) (now (text .entry)) (now (words .entry)) (now (out .entry)) r (now (out .exit)) ⌝ }
+{
+    let found = count_root(text, words, counts, root);
     match found {
-        Checked::Tree => print_tree(text, words, format, out),
+        Checked::Tree => print_by(text, words, counts, root, out),
         Checked::Misfit(place) => Printed::Refused(7, place),
         Checked::TooLong => Printed::Refused(6, 0),
     }
 }
 
-// The print of a table's tree. A small table takes a small table of ends.
-fn print_tree(text: &[u8], words: &[u32], format: ExprFormatOption, out: &mut [u8]) -> Printed
-    requires { ⌜ (startIndent format ≤ mostIndent) × (length (now words) ≤ mostWords) ⌝ }
-    ensures { λ r. ⌜ Stores (now (text .entry)) (now (words .entry)) format (now (out .entry)) (now (out .exit)) r ⌝ }
+// The check of a table by its root.
+fn count_root(text: &[u8], words: &[u32], counts: &mut [u16], root: Root) -> Checked
+    ensures { λ r. ⌜ (refusal r ≡ rooted (now (text .entry)) root .refused (now (words .entry))) × (now (counts .exit) ≡ rootCounts root (now (words .entry)) (length (now (text .entry))) (now (counts .entry))) ⌝ }
 {
-    if words.len() <= 256 {
-        let mut ends = [0u16; 1792];
-        fill(words, &mut ends);
-        return print_by(text, words, &ends, format, out);
+    match root {
+        Root::AnExpression(_) => count_expression(words, text.len(), counts),
+        Root::AProgram => count_program(words, text.len(), counts),
     }
-    let mut ends = [0u16; 7 * MOST_WORDS];
-    fill(words, &mut ends);
-    print_by(text, words, &ends, format, out)
 }
 
-// The same by a table of ends. A small output takes a small buffer.
-fn print_by(
-    text: &[u8],
-    words: &[u32],
-    ends: &[u16],
-    format: ExprFormatOption,
-    out: &mut [u8],
-) -> Printed
-    requires { ⌜ (startIndent format ≤ mostIndent) × ((len : ℕ) → Known len (now words) (now ends)) ⌝ }
-    ensures { λ r. ⌜ Stores (now (text .entry)) (now (words .entry)) format (now (out .entry)) (now (out .exit)) r ⌝ }
+// The print of a table's tree, by the numbers of items. A small output takes a small buffer.
+fn print_by(text: &[u8], words: &[u32], counts: &[u16], root: Root, out: &mut [u8]) -> Printed
+    requires { ⌜ (rooted (now text) root .indent ≤ mostIndent) × Numbered (now text) (now words) (now counts) root ⌝ }
+    ensures { λ r. ⌜ Stores (rooted (now (text .entry)) root) (now (words .entry)) (now (out .entry)) (now (out .exit)) r ⌝ }
 {
     if out.len() <= 1024 {
         let mut buffer = [0u8; 1024];
-        return print_through(text, words, ends, format, &mut buffer, out);
+        return print_through(text, words, counts, root, &mut buffer, out);
     }
     let mut buffer = [0u8; 65536];
-    print_through(text, words, ends, format, &mut buffer, out)
+    print_through(text, words, counts, root, &mut buffer, out)
 }
 
 // The same through a buffer, so that a print that does not fit leaves the output as it was.
 fn print_through(
     text: &[u8],
     words: &[u32],
-    ends: &[u16],
-    format: ExprFormatOption,
+    counts: &[u16],
+    root: Root,
     buffer: &mut [u8],
     out: &mut [u8],
 ) -> Printed
-    requires { ⌜ (startIndent format ≤ mostIndent) × ((len : ℕ) → Known len (now words) (now ends)) × (length (now buffer) ≤ mostPrint) × (min (length (now out)) mostPrint ≤ length (now buffer)) ⌝ }
-    ensures { λ r. ⌜ Stores (now (text .entry)) (now (words .entry)) format (now (out .entry)) (now (out .exit)) r ⌝ }
+    requires { ⌜ (rooted (now text) root .indent ≤ mostIndent) × Numbered (now text) (now words) (now counts) root × (length (now buffer) ≤ mostPrint) × (min (length (now out)) mostPrint ≤ length (now buffer)) ⌝ }
+    ensures { λ r. ⌜ Stores (rooted (now (text .entry)) root) (now (words .entry)) (now (out .entry)) (now (out .exit)) r ⌝ }
 {
-    let s = expr(text, words, ends, 0, BindingPower::INIT, format, buffer, 0);
+    let s = print_root(text, words, counts, root, buffer);
     deliver(buffer, s.pos, out)
+}
+
+// The print of a table's tree from a buffer's first byte on, by its root.
+fn print_root(text: &[u8], words: &[u32], counts: &[u16], root: Root, buffer: &mut [u8]) -> Step
+    ensures { λ r. ⌜ Prints (rootPart (now (text .entry)) (now (words .entry)) (now (counts .entry)) root) (now (words .entry)) 0 (now (buffer .entry)) 0 (now (buffer .exit)) r ⌝ }
+{
+    match root {
+        Root::AnExpression(format) => {
+            expr(
+                text,
+                words,
+                counts,
+                0,
+                BindingPower::INIT,
+                format,
+                buffer,
+                0,
+            )
+        }
+        Root::AProgram => program(text, words, counts, buffer, 0),
+    }
 }
 
 // Copies the first `n` bytes of a buffer to the output; refusal 8 where either is shorter.

@@ -37,22 +37,22 @@ ghost use Rattle.printing.specs.ExprParts.{anExpr, anOperatorExpr, aCall
 pub(crate) fn expr(
     text: &[u8],
     words: &[u32],
-    ends: &[u16],
+    counts: &[u16],
     at: usize,
     context: BindingPower,
     format: ExprFormatOption,
     out: &mut [u8],
     pos: usize,
 ) -> Step
-    ensures { λ r. ⌜ Prints (anExpr (now (text .entry)) (now (words .entry)) (now (ends .entry)) at context format) (now (words .entry)) at (now (out .entry)) pos (now (out .exit)) r ⌝ }
+    ensures { λ r. ⌜ Prints (anExpr (now (text .entry)) (now (words .entry)) (now (counts .entry)) at context format) (now (words .entry)) at (now (out .entry)) pos (now (out .exit)) r ⌝ }
 {
     match get(words, at) {
-        5 => oper(text, words, ends, at, context, format, out, pos),
-        6 => call(text, words, ends, at, out, pos),
-        7 => label(text, words, ends, at, context, format, out, pos),
-        8 => let_expr(text, words, ends, at, context, format, out, pos),
-        9 => quant(text, words, ends, at, context, format, out, pos),
-        10 => lift(text, words, ends, at, out, pos),
+        5 => oper(text, words, counts, at, context, format, out, pos),
+        6 => call(text, words, counts, at, out, pos),
+        7 => label(text, words, counts, at, context, format, out, pos),
+        8 => let_expr(text, words, counts, at, context, format, out, pos),
+        9 => quant(text, words, counts, at, context, format, out, pos),
+        10 => lift(text, words, counts, at, out, pos),
         _ => leaf(text, words, at, out, pos),
     }
 }
@@ -61,7 +61,7 @@ pub(crate) fn expr(
 fn oper(
     text: &[u8],
     words: &[u32],
-    ends: &[u16],
+    counts: &[u16],
     at: usize,
     context: BindingPower,
     format: ExprFormatOption,
@@ -69,11 +69,11 @@ fn oper(
     pos: usize,
 ) -> Step
     requires { ⌜ at < length (now words) ⌝ }
-    ensures { λ r. ⌜ Prints (anOperatorExpr (now (text .entry)) (now (words .entry)) (now (ends .entry)) at context format) (now (words .entry)) at (now (out .entry)) pos (now (out .exit)) r ⌝ }
+    ensures { λ r. ⌜ Prints (anOperatorExpr (now (text .entry)) (now (words .entry)) (now (counts .entry)) at context format) (now (words .entry)) at (now (out .entry)) pos (now (out .exit)) r ⌝ }
 {
     let strength = binding_strength(get(words, at + 1));
     let a = strength.parenthesis(Side::Left, context, out, pos);
-    let s = form(text, words, ends, at, context, format, out, a);
+    let s = form(text, words, counts, at, context, format, out, a);
     Step {
         next: s.next,
         pos: strength.parenthesis(Side::Right, context, out, s.pos),
@@ -84,7 +84,7 @@ fn oper(
 fn form(
     text: &[u8],
     words: &[u32],
-    ends: &[u16],
+    counts: &[u16],
     at: usize,
     context: BindingPower,
     format: ExprFormatOption,
@@ -92,27 +92,27 @@ fn form(
     pos: usize,
 ) -> Step
     requires { ⌜ at < length (now words) ⌝ }
-    ensures { λ r. ⌜ Prints (aForm (now (text .entry)) (now (words .entry)) (now (ends .entry)) at context format) (now (words .entry)) at (now (out .entry)) pos (now (out .exit)) r ⌝ }
+    ensures { λ r. ⌜ Prints (aForm (now (text .entry)) (now (words .entry)) (now (counts .entry)) at context format) (now (words .entry)) at (now (out .entry)) pos (now (out .exit)) r ⌝ }
 {
-    match operator_form(words, ends, at) {
-        1 => unary(text, words, ends, at, context, out, pos),
-        2 => binary(text, words, ends, at, context, format, out, pos),
-        3 => cond(text, words, ends, at, context, format, out, pos),
-        _ => listed(text, words, ends, at, out, pos),
+    match operator_form(words, counts, at) {
+        1 => unary(text, words, counts, at, context, out, pos),
+        2 => binary(text, words, counts, at, context, format, out, pos),
+        3 => cond(text, words, counts, at, context, format, out, pos),
+        _ => listed(text, words, counts, at, out, pos),
     }
 }
 
 fn unary(
     text: &[u8],
     words: &[u32],
-    ends: &[u16],
+    counts: &[u16],
     at: usize,
     context: BindingPower,
     out: &mut [u8],
     pos: usize,
 ) -> Step
     requires { ⌜ at < length (now words) ⌝ }
-    ensures { λ r. ⌜ Prints (aUnary (now (text .entry)) (now (words .entry)) (now (ends .entry)) at context) (now (words .entry)) at (now (out .entry)) pos (now (out .exit)) r ⌝ }
+    ensures { λ r. ⌜ Prints (aUnary (now (text .entry)) (now (words .entry)) (now (counts .entry)) at context) (now (words .entry)) at (now (out .entry)) pos (now (out .exit)) r ⌝ }
 {
     let op = at + 1;
     let right = operand_power(words, op, Side::Right, context);
@@ -120,7 +120,7 @@ fn unary(
     let s = expr(
         text,
         words,
-        ends,
+        counts,
         at + 3,
         right,
         ExprFormatOption::SingleLine,
@@ -136,7 +136,7 @@ fn unary(
 fn binary(
     text: &[u8],
     words: &[u32],
-    ends: &[u16],
+    counts: &[u16],
     at: usize,
     context: BindingPower,
     format: ExprFormatOption,
@@ -144,14 +144,14 @@ fn binary(
     pos: usize,
 ) -> Step
     requires { ⌜ at < length (now words) ⌝ }
-    ensures { λ r. ⌜ Prints (aBinary (now (text .entry)) (now (words .entry)) (now (ends .entry)) at context format) (now (words .entry)) at (now (out .entry)) pos (now (out .exit)) r ⌝ }
+    ensures { λ r. ⌜ Prints (aBinary (now (text .entry)) (now (words .entry)) (now (counts .entry)) at context format) (now (words .entry)) at (now (out .entry)) pos (now (out .exit)) r ⌝ }
 {
     let op = at + 1;
     let left = operand_power(words, op, Side::Left, context);
     let s = expr(
         text,
         words,
-        ends,
+        counts,
         at + 3,
         left,
         ExprFormatOption::SingleLine,
@@ -162,7 +162,7 @@ fn binary(
     let a = put_sign(words, op, broken, out, s.pos);
     let right = operand_power(words, op, Side::Right, context);
     let second = after(words, s.next);
-    let t = expr(text, words, ends, second, right, broken, out, a);
+    let t = expr(text, words, counts, second, right, broken, out, a);
     Step {
         next: after(words, t.next),
         pos: t.pos,
@@ -173,7 +173,7 @@ fn binary(
 fn cond(
     text: &[u8],
     words: &[u32],
-    ends: &[u16],
+    counts: &[u16],
     at: usize,
     context: BindingPower,
     format: ExprFormatOption,
@@ -181,13 +181,13 @@ fn cond(
     pos: usize,
 ) -> Step
     requires { ⌜ at < length (now words) ⌝ }
-    ensures { λ r. ⌜ Prints (aConditional (now (text .entry)) (now (words .entry)) (now (ends .entry)) at context format) (now (words .entry)) at (now (out .entry)) pos (now (out .exit)) r ⌝ }
+    ensures { λ r. ⌜ Prints (aConditional (now (text .entry)) (now (words .entry)) (now (counts .entry)) at context format) (now (words .entry)) at (now (out .entry)) pos (now (out .exit)) r ⌝ }
 {
     let a = put(out, pos, b"if ");
     let s = expr(
         text,
         words,
-        ends,
+        counts,
         at + 3,
         BindingPower::INIT,
         ExprFormatOption::SingleLine,
@@ -197,14 +197,14 @@ fn cond(
     let second = after(words, s.next);
     let ind = format.more();
     let b = ind.space(out, s.pos);
-    let t = expr(text, words, ends, second, BindingPower::INIT, ind, out, b);
+    let t = expr(text, words, counts, second, BindingPower::INIT, ind, out, b);
     let third = after(words, t.next);
     let c = else_head(text, words, third, format, out, t.pos);
     let right = operand_power(words, at + 1, Side::Right, context);
     let u = expr(
         text,
         words,
-        ends,
+        counts,
         third,
         right,
         else_format(text, words, third, format),
@@ -218,12 +218,12 @@ fn cond(
 }
 
 // `op(args)`.
-fn listed(text: &[u8], words: &[u32], ends: &[u16], at: usize, out: &mut [u8], pos: usize) -> Step
+fn listed(text: &[u8], words: &[u32], counts: &[u16], at: usize, out: &mut [u8], pos: usize) -> Step
     requires { ⌜ at < length (now words) ⌝ }
-    ensures { λ r. ⌜ Prints (aListed (now (text .entry)) (now (words .entry)) (now (ends .entry)) at) (now (words .entry)) at (now (out .entry)) pos (now (out .exit)) r ⌝ }
+    ensures { λ r. ⌜ Prints (aListed (now (text .entry)) (now (words .entry)) (now (counts .entry)) at) (now (words .entry)) at (now (out .entry)) pos (now (out .exit)) r ⌝ }
 {
     let a = listed_head(words, at + 1, out, pos);
-    let s = exprs(text, words, ends, at + 2, true, out, a);
+    let s = exprs(text, words, counts, at + 2, true, out, a);
     Step {
         next: s.next,
         pos: put(out, s.pos, b")"),
@@ -231,12 +231,12 @@ fn listed(text: &[u8], words: &[u32], ends: &[u16], at: usize, out: &mut [u8], p
 }
 
 // FunctionCallExpr.
-fn call(text: &[u8], words: &[u32], ends: &[u16], at: usize, out: &mut [u8], pos: usize) -> Step
+fn call(text: &[u8], words: &[u32], counts: &[u16], at: usize, out: &mut [u8], pos: usize) -> Step
     requires { ⌜ at < length (now words) ⌝ }
-    ensures { λ r. ⌜ Prints (aCall (now (text .entry)) (now (words .entry)) (now (ends .entry)) at) (now (words .entry)) at (now (out .entry)) pos (now (out .exit)) r ⌝ }
+    ensures { λ r. ⌜ Prints (aCall (now (text .entry)) (now (words .entry)) (now (counts .entry)) at) (now (words .entry)) at (now (out .entry)) pos (now (out .exit)) r ⌝ }
 {
     let s = call_head(text, words, at + 1, out, pos);
-    let t = exprs(text, words, ends, s.next, true, out, s.pos);
+    let t = exprs(text, words, counts, s.next, true, out, s.pos);
     Step {
         next: t.next,
         pos: put(out, t.pos, b")"),
@@ -247,7 +247,7 @@ fn call(text: &[u8], words: &[u32], ends: &[u16], at: usize, out: &mut [u8], pos
 fn label(
     text: &[u8],
     words: &[u32],
-    ends: &[u16],
+    counts: &[u16],
     at: usize,
     context: BindingPower,
     format: ExprFormatOption,
@@ -255,11 +255,11 @@ fn label(
     pos: usize,
 ) -> Step
     requires { ⌜ at < length (now words) ⌝ }
-    ensures { λ r. ⌜ Prints (aLabel (now (text .entry)) (now (words .entry)) (now (ends .entry)) at context format) (now (words .entry)) at (now (out .entry)) pos (now (out .exit)) r ⌝ }
+    ensures { λ r. ⌜ Prints (aLabel (now (text .entry)) (now (words .entry)) (now (counts .entry)) at context format) (now (words .entry)) at (now (out .entry)) pos (now (out .exit)) r ⌝ }
 {
     let s = label_head(text, words, at + 1, context, out, pos);
     let right = BindingPower::ENDLESS_OPERATOR.subexpression_power(Side::Right, context);
-    let t = expr(text, words, ends, s.next, right, format, out, s.pos);
+    let t = expr(text, words, counts, s.next, right, format, out, s.pos);
     Step {
         next: t.next,
         pos: BindingPower::ENDLESS_OPERATOR.parenthesis(Side::Right, context, out, t.pos),
@@ -270,7 +270,7 @@ fn label(
 fn let_expr(
     text: &[u8],
     words: &[u32],
-    ends: &[u16],
+    counts: &[u16],
     at: usize,
     context: BindingPower,
     format: ExprFormatOption,
@@ -278,13 +278,13 @@ fn let_expr(
     pos: usize,
 ) -> Step
     requires { ⌜ at < length (now words) ⌝ }
-    ensures { λ r. ⌜ Prints (aLet (now (text .entry)) (now (words .entry)) (now (ends .entry)) at context format) (now (words .entry)) at (now (out .entry)) pos (now (out .exit)) r ⌝ }
+    ensures { λ r. ⌜ Prints (aLet (now (text .entry)) (now (words .entry)) (now (counts .entry)) at context format) (now (words .entry)) at (now (out .entry)) pos (now (out .exit)) r ⌝ }
 {
     let s = let_head(text, words, at + 1, context, out, pos);
     let t = expr(
         text,
         words,
-        ends,
+        counts,
         s.next,
         BindingPower::INIT,
         ExprFormatOption::SingleLine,
@@ -293,7 +293,7 @@ fn let_expr(
     );
     let a = format.space(out, t.pos);
     let right = BindingPower::ENDLESS_OPERATOR.subexpression_power(Side::Right, context);
-    let u = expr(text, words, ends, t.next, right, format, out, a);
+    let u = expr(text, words, counts, t.next, right, format, out, a);
     Step {
         next: u.next,
         pos: BindingPower::ENDLESS_OPERATOR.parenthesis(Side::Right, context, out, u.pos),
@@ -304,7 +304,7 @@ fn let_expr(
 fn quant(
     text: &[u8],
     words: &[u32],
-    ends: &[u16],
+    counts: &[u16],
     at: usize,
     context: BindingPower,
     format: ExprFormatOption,
@@ -312,14 +312,14 @@ fn quant(
     pos: usize,
 ) -> Step
     requires { ⌜ at < length (now words) ⌝ }
-    ensures { λ r. ⌜ Prints (aQuantifier (now (text .entry)) (now (words .entry)) (now (ends .entry)) at context format) (now (words .entry)) at (now (out .entry)) pos (now (out .exit)) r ⌝ }
+    ensures { λ r. ⌜ Prints (aQuantifier (now (text .entry)) (now (words .entry)) (now (counts .entry)) at context format) (now (words .entry)) at (now (out .entry)) pos (now (out .exit)) r ⌝ }
 {
     let s = quantifier_head(text, words, at + 1, context, out, pos);
     let ind = format.more();
-    let t = patterns(text, words, ends, s.next, ind, out, s.pos);
+    let t = patterns(text, words, counts, s.next, ind, out, s.pos);
     let a = ind.space(out, t.pos);
     let right = BindingPower::ENDLESS_OPERATOR.subexpression_power(Side::Right, context);
-    let u = expr(text, words, ends, t.next, right, ind, out, a);
+    let u = expr(text, words, counts, t.next, right, ind, out, a);
     Step {
         next: u.next,
         pos: BindingPower::ENDLESS_OPERATOR.parenthesis(Side::Right, context, out, u.pos),
@@ -327,14 +327,14 @@ fn quant(
 }
 
 // ClosureExpr.
-fn lift(text: &[u8], words: &[u32], ends: &[u16], at: usize, out: &mut [u8], pos: usize) -> Step
+fn lift(text: &[u8], words: &[u32], counts: &[u16], at: usize, out: &mut [u8], pos: usize) -> Step
     requires { ⌜ at < length (now words) ⌝ }
-    ensures { λ r. ⌜ Prints (aClosure (now (text .entry)) (now (words .entry)) (now (ends .entry)) at) (now (words .entry)) at (now (out .entry)) pos (now (out .exit)) r ⌝ }
+    ensures { λ r. ⌜ Prints (aClosure (now (text .entry)) (now (words .entry)) (now (counts .entry)) at) (now (words .entry)) at (now (out .entry)) pos (now (out .exit)) r ⌝ }
 {
     let a = put(out, pos, b"lift ");
-    let s = closures(text, words, ends, at + 1, true, out, a);
+    let s = closures(text, words, counts, at + 1, true, out, a);
     let t = closure_result(text, words, s.next, out, s.pos);
-    let u = properties(text, words, ends, t.next, true, out, t.pos);
+    let u = properties(text, words, counts, t.next, true, out, t.pos);
     Step {
         next: u.next,
         pos: put(out, u.pos, b" }"),

@@ -9,7 +9,7 @@ ghost use Rattle.printing.specs.Wrote.{Wrote};
 ghost use Rattle.printing.specs.PrintUtil.{Space};
 ghost use Rattle.printing.specs.ExprParts.{Deeper};
 
-const INDENT_AMOUNT: usize = 2;
+pub(crate) const INDENT_AMOUNT: usize = 2;
 
 pub enum ExprFormatOption {
     SingleLine,
@@ -17,7 +17,7 @@ pub enum ExprFormatOption {
 }
 
 // An indent one step deeper. No print has an indent of 65,536 or more.
-fn deeper(indent: usize) -> usize
+pub(crate) fn deeper(indent: usize) -> usize
     ensures { λ r. ⌜ (indent < 65536 → r ≡ indent + 2) ⌝ }
 {
     if indent < 65536 {

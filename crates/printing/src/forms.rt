@@ -1,5 +1,5 @@
 // What stands around the operands of an operator: signs, spaces, the contexts and formats of the operands.
-use crate::ends::count;
+use crate::around::count_at;
 use crate::format::ExprFormatOption;
 use crate::operator::argument_count;
 use crate::operator::binding_strength;
@@ -24,12 +24,12 @@ ghost use Rattle.printing.specs.Wrote.{Wrote};
 ghost use Rattle.printing.specs.ExprParts.{FormIs, ElseFormat, ElseHead};
 
 // The number of the alternative that prints an operator: its operands where they are as many as it takes, else 0.
-pub(crate) fn operator_form(words: &[u32], ends: &[u16], at: usize) -> usize
-    ensures { λ r. ⌜ FormIs (now (words .entry)) (now (ends .entry)) at r ⌝ }
+pub(crate) fn operator_form(words: &[u32], counts: &[u16], at: usize) -> usize
+    ensures { λ r. ⌜ FormIs (now (words .entry)) (now (counts .entry)) at r ⌝ }
 {
     let second = after(words, at);
     let third = after(words, second);
-    let n = count(words, ends, third, 4);
+    let n = count_at(counts, third);
     if n == argument_count(get(words, second)) {
         return n;
     }
@@ -52,11 +52,10 @@ pub(crate) fn operand_power(
 pub(crate) fn format_after(words: &[u32], at: usize, format: ExprFormatOption) -> ExprFormatOption
     ensures { λ r. ⌜ r ≡ pick (breaksLine (operatorOf (getD (now (words .entry)) at 0))) format SingleLine ⌝ }
 {
-    ExprFormatOption::choose(
-        breaks_line(get(words, at)),
-        format,
-        ExprFormatOption::SingleLine,
-    )
+    if breaks_line(get(words, at)) {
+        return format;
+    }
+    ExprFormatOption::SingleLine
 }
 
 // An operator between its operands.

@@ -1,16 +1,21 @@
 // The prints of B3.
-mod ends;
+mod around;
 mod entry;
 mod expression;
 mod format;
 mod forms;
+mod items;
 mod operator;
 mod parts;
 mod power;
+mod program;
+mod simple;
+mod statement;
 mod write;
 
 pub use entry::print_expression;
 pub use entry::print_expression_lines;
+pub use entry::print_program;
 
 // What a print answers.
 pub enum Printed {

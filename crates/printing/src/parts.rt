@@ -32,7 +32,7 @@ pub(crate) fn after(words: &[u32], at: usize) -> usize
     at
 }
 
-fn put_name(text: &[u8], words: &[u32], at: usize, out: &mut [u8], pos: usize) -> Step
+pub(crate) fn put_name(text: &[u8], words: &[u32], at: usize, out: &mut [u8], pos: usize) -> Step
     ensures { λ r. ⌜ Prints (aName (now (text .entry))) (now (words .entry)) at (now (out .entry)) pos (now (out .exit)) r ⌝ }
 {
     let second = after(words, at);
@@ -45,7 +45,7 @@ fn put_name(text: &[u8], words: &[u32], at: usize, out: &mut [u8], pos: usize) -
 }
 
 // A name and its type.
-fn typed(text: &[u8], words: &[u32], at: usize, out: &mut [u8], pos: usize) -> Step
+pub(crate) fn typed(text: &[u8], words: &[u32], at: usize, out: &mut [u8], pos: usize) -> Step
     ensures { λ r. ⌜ Prints (typedName (now (text .entry))) (now (words .entry)) at (now (out .entry)) pos (now (out .exit)) r ⌝ }
 {
     let s = put_name(text, words, at, out, pos);

@@ -3,7 +3,9 @@ ghost use mathlib.Core.Path.{_≡_};
 ghost use mathlib.Core.List.{_++_};
 ghost use Prim.Native.Nat.{_+_, _≤_};
 ghost use lib.ListN.{length, take, drop, replicate};
+ghost use Rattle.lexing.specs.Answer.{pick};
 ghost use Rattle.grammar.specs.Words.{bytes as text};
+ghost use Rattle.printing.specs.PrintUtil.{Indent};
 ghost use Rattle.printing.specs.Text.{decimal};
 ghost use Rattle.printing.specs.Wrote.{Wrote};
 ghost use Rattle.printing.specs.Text.{unless};
@@ -79,4 +81,24 @@ pub(crate) fn put_decimal(out: &mut [u8], pos: usize, value: u64) -> usize
     }
     let next = put_decimal(out, pos, value / 10);
     put(out, next, &digit)
+}
+
+// One text or the other.
+pub(crate) fn put_either(out: &mut [u8], pos: usize, test: bool, yes: &[u8], other: &[u8]) -> usize
+    ensures { λ r. ⌜ Wrote (λ rest. pick test (now (yes .entry)) (now (other .entry)) ++ rest) (now (out .entry)) pos (now (out .exit)) r ⌝ }
+{
+    if test {
+        return put(out, pos, yes);
+    }
+    put(out, pos, other)
+}
+
+// Writes an indent, unless `skip`.
+pub(crate) fn put_indent_unless(out: &mut [u8], pos: usize, skip: bool, indent: usize) -> usize
+    ensures { λ r. ⌜ Wrote (λ rest. unless skip (Indent indent) ++ rest) (now (out .entry)) pos (now (out .exit)) r ⌝ }
+{
+    if skip {
+        return pos;
+    }
+    put_indent(out, pos, indent)
 }

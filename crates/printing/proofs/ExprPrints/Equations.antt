@@ -29,9 +29,11 @@ abbrev pub rightFormat : Operator → ExprFormatOption → ExprFormatOption
 rightFormat o format = pick (breaksLine o) format SingleLine
 
 module _ (text : List ℕ) where
+  -- the names of the text
   abbrev N : Type 0
   N = NameIn (length text)
 
+  -- a name as its part of the text
   abbrev name : N → List ℕ
   name = nameIn text
 
@@ -43,16 +45,19 @@ module _ (text : List ℕ) where
   abbrev body : Expr N → BindingPower → ExprFormatOption → List ℕ → List ℕ
   body e context f r = expr e (SubexpressionPower EndlessOperator Right context) f (Parenthesis Right EndlessOperator context ++ r)
 
+  -- FunctionCallExpr
   pub call-print : (n : N) (es : Exprs N) (context : BindingPower) (format : ExprFormatOption)
       → expr (FunctionCallExpr n es) context format ≡ (λ r. name n ++ (bytes "(" ++ ExpressionList [] (operands name 2 es) (bytes ")" ++ r)))
   unfolding Expression
   call-print n es context format = refl
 
+  -- LabeledExpr
   pub label-print : (n : N) (e : Expr N) (context : BindingPower) (format : ExprFormatOption)
       → expr (LabeledExpr n e) context format ≡ (λ r. Parenthesis Left EndlessOperator context ++ (name n ++ (bytes ": " ++ body e context format r)))
   unfolding Expression
   label-print n e context format = refl
 
+  -- LetExpr
   pub let-print : (n : N) (t : Option N) (d e : Expr N) (context : BindingPower) (format : ExprFormatOption)
       → expr (LetExpr n t d e) context format
       ≡ (λ r. Parenthesis Left EndlessOperator context
@@ -64,12 +69,14 @@ module _ (text : List ℕ) where
   abbrev pub quantifierTail : Patterns N → Expr N → BindingPower → ExprFormatOption → List ℕ → List ℕ
   quantifierTail ps e context ind r = patterns name 2 ps ind (Space ind ++ body e context ind r)
 
+  -- QuantifierExpr
   pub quantifier-print : (u : Bool) (bs : List (Binding N)) (ps : Patterns N) (e : Expr N) (context : BindingPower) (format : ExprFormatOption)
       → expr (QuantifierExpr u bs ps e) context format
       ≡ (λ r. Parenthesis Left EndlessOperator context ++ Bindings name 2 (bytes (quantifierText u)) bs (quantifierTail ps e context (More 2 format) r))
   unfolding Expression
   quantifier-print u bs ps e context format = refl
 
+  -- ClosureExpr
   pub closure-print : (bs : ClosureBindings N) (n t : N) (ps : ClosureProperties N) (context : BindingPower) (format : ExprFormatOption)
       → expr (ClosureExpr bs n t ps) context format
       ≡ (λ r. bytes "lift " ++ closureBindings name 2 bs []
@@ -79,27 +86,32 @@ module _ (text : List ℕ) where
 
   -- ---- sequences that are not empty
 
+  -- `ExpressionList`
   pub list-print : (sep : List ℕ) (e : Expr N) (es : Exprs N)
       → ExpressionList sep (operands name 2 (_then_ e es)) ≡ (λ r. sep ++ expr e Init SingleLine (ExpressionList (bytes ", ") (operands name 2 es) r))
   unfolding ExpressionList operands
   list-print sep e es = refl
 
+  -- a quantifier's patterns
   pub patterns-print : (es : Exprs N) (ps : Patterns N) (ind : ExprFormatOption)
       → patterns name 2 (pattern es ps) ind ≡ (λ r. Space ind ++ (bytes "pattern " ++ ExpressionList [] (operands name 2 es) (patterns name 2 ps ind r)))
   unfolding patterns
   patterns-print es ps ind = refl
 
+  -- a property's triggers
   pub triggers-print : (es : Exprs N) (ps : Patterns N)
       → triggers name 2 (pattern es ps) ≡ (λ r. bytes "trigger " ++ ExpressionList [] (operands name 2 es) (bytes " " ++ triggers name 2 ps r))
   unfolding triggers
   triggers-print es ps = refl
 
+  -- a closure's bindings
   pub closures-print : (sep : List ℕ) (n : N) (ps : List (Binding N)) (e : Expr N) (bs : ClosureBindings N)
       → closureBindings name 2 (closureBinding n ps e bs) sep
       ≡ (λ r. sep ++ (name n ++ parameters name 2 ps (bytes " := " ++ expr e Init SingleLine (closureBindings name 2 bs (bytes ", ") r))))
   unfolding closureBindings
   closures-print sep n ps e bs = refl
 
+  -- a closure's properties
   pub properties-print : (sep : List ℕ) (ts : Patterns N) (e : Expr N) (ps : ClosureProperties N)
       → properties name 2 (closureProperty ts e ps) sep
       ≡ (λ r. sep ++ triggers name 2 ts (bytes (triggersEnd name 2 ts) ++ expr e Init SingleLine (properties name 2 ps (bytes ", ") r)))
@@ -108,6 +120,7 @@ module _ (text : List ℕ) where
 
   -- ---- operators
 
+  -- OperatorExpr, between the brackets that it needs
   pub operator-print : (o : Operator) (es : Exprs N) (context : BindingPower) (format : ExprFormatOption)
       → expr (OperatorExpr o es) context format
       ≡ (λ r. Parenthesis Left (BindingStrength o) context
@@ -115,6 +128,7 @@ module _ (text : List ℕ) where
   unfolding Expression
   operator-print o es context format = refl
 
+  -- an operator between two operands
   pub binary-print : (o : Operator) (a b : Expr N) (context : BindingPower) (format : ExprFormatOption)
       → binary o (operand text a) (operand text b) context format
       ≡ (λ r. expr a (SubexpressionPower (BindingStrength o) Left context) SingleLine
@@ -134,6 +148,7 @@ module _ (text : List ℕ) where
   abbrev pub elseSpace : Expr N → ExprFormatOption → List ℕ
   elseSpace c format = Space (pick (isIf c) SingleLine (More 2 format))
 
+  -- the format of the expression after `else`
   abbrev pub elseFormat : Expr N → ExprFormatOption → ExprFormatOption
   elseFormat c format = pick (isIf c) format (More 2 format)
 
@@ -143,6 +158,7 @@ module _ (text : List ℕ) where
       Space ind ++ expr b Init ind
       (Space format ++ (bytes "else" ++ (elseSpace c format ++ expr c (SubexpressionPower (BindingStrength o) Right context) (elseFormat c format) r)))
 
+  -- an IfThenElse of three operands
   pub conditional-print : (o : Operator) (a b c : Expr N) (context : BindingPower) (format : ExprFormatOption)
       → conditional 2 o (operand text a) (operand text b) (operand text c) context format
       ≡ (λ r. bytes "if " ++ expr a Init SingleLine (branches o b c context format (More 2 format) r))

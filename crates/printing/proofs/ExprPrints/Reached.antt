@@ -10,6 +10,7 @@ use lib.Seq.{drop-drop}
 use Rattle.tree.specs.Ast.{Expr}
 use Rattle.tree.specs.Words.{exprWords}
 use Rattle.tree.specs.Check.{NameIn}
+use Rattle.tree.specs.Counted.{CountedExpr}
 use Rattle.printing.specs.declared.parts.Step.{Step}
 use Rattle.printing.specs.declared.power.BindingPower.{BindingPower}
 use Rattle.printing.specs.declared.format.ExprFormatOption.{ExprFormatOption}
@@ -25,6 +26,7 @@ use Rattle.printing.proofs.Writing.Bytes.{none, then}
 -- where a print begins: a place of the table and a place of the buffer; the context and the format; the call's measure
 pub record Origin : Type 1 where
   pub text : List ℕ
+  pub counts : List ℕ
   pub context : BindingPower
   pub format : ExprFormatOption
   pub part : Part
@@ -38,9 +40,9 @@ pub record Origin : Type 1 where
 
 -- a tree that stands there, with what its print needs
 pub record Begun (o : Origin) : Type 0 where
-  pub given : o .part .given
   pub tree : o .part .Tree
   pub rest : List ℕ
+  pub given : o .part .given tree rest
   pub stands : drop (o .at) (o .table) ≡ o .part .words tree rest
 
 pub record Reached : Type 1 where
@@ -56,14 +58,17 @@ pub record Reached : Type 1 where
   pub left : (x : Begun origin) → drop next (origin .table) ≡ words x
   pub wrote : (x : Begun origin) {b : List ℕ} {p : ℕ} → Wrote (print x) buffer pos b p → Wrote (origin .part .print (x .tree)) (origin .buffer) (origin .pos) b p
 
+-- a call's measure is at least four for each word left
 pub rank-least : (n k t : ℕ) → 4 * n + k ≡ t → 4 * n ≤ t
 rank-least n k t e = omega arith
 
-abbrev pub begin : (txt : List ℕ) (c : BindingPower) (f : ExprFormatOption) (P : Part) (table : List ℕ) (at : ℕ) (b : List ℕ) (p k : ℕ) {t : ℕ} → at < length table → 4 * (length table - at) + k ≡ t → Reached
-begin txt c f P table at b p k {t} h e =
+-- the place where a print begins
+abbrev pub begin : (txt counts : List ℕ) (c : BindingPower) (f : ExprFormatOption) (P : Part) (table : List ℕ) (at : ℕ) (b : List ℕ) (p k : ℕ) {t : ℕ} → at < length table → 4 * (length table - at) + k ≡ t → Reached
+begin txt counts c f P table at b p k {t} h e =
     record {
       origin = record {
         text = txt;
+        counts = counts;
         context = c;
         format = f;
         part = P;
@@ -92,6 +97,7 @@ sooner l k h m = let i = l .origin .inside in let r = l .origin .ranked in let f
 
 -- ---- steps
 
+-- k words more are passed
 pub further : (at n m k : ℕ) → at + n ≤ m → at + (n + k) ≤ m + k
 further at n m k h = omega arith
 
@@ -128,6 +134,7 @@ passed l {next} n w ws e =
       wrote = l .wrote;
     }
 
+-- one word more is passed
 pub strictly : (at n m k : ℕ) → at + n ≤ m → m < k → at + (n + 1) ≤ k
 strictly at n m k h l = omega arith
 
@@ -187,6 +194,7 @@ text-of l X Y {b} {p} v e =
       wrote = continued l X Y e v;
     }
 
+-- bytes were written
 abbrev pub text : (l : Reached) {X : List ℕ → List ℕ} {b : List ℕ} {p : ℕ} → Wrote X (l .buffer) (l .pos) b p → (Y : Begun (l .origin) → List ℕ → List ℕ)
     → ((x : Begun (l .origin)) → l .print x ≡ (λ r. X (Y x r))) → Reached
 text l {X} v Y e = text-of l (λ x. X) Y (λ x. v) e
@@ -210,34 +218,37 @@ print-of l X ws Y {b} {s} f d e =
 
 -- a part was printed
 abbrev pub part : (l : Reached) {Q : Part} {b : List ℕ} {s : Step} → Prints Q (l .origin .table) (l .next) (l .buffer) (l .pos) b s → (of : Begun (l .origin) → Q .Tree)
-    → ((x : Begun (l .origin)) → Q .given) → (ws : Begun (l .origin) → List ℕ) (Y : Begun (l .origin) → List ℕ → List ℕ) → ((x : Begun (l .origin)) → l .words x ≡ Q .words (of x) (ws x))
+    → (ws : Begun (l .origin) → List ℕ) → ((x : Begun (l .origin)) → Q .given (of x) (ws x)) → (Y : Begun (l .origin) → List ℕ → List ℕ) → ((x : Begun (l .origin)) → l .words x ≡ Q .words (of x) (ws x))
     → ((x : Begun (l .origin)) → l .print x ≡ (λ r. Q .print (of x) (Y x r))) → Reached
-part l {Q} q of g ws Y d e = print-of l (λ x. Q .print (of x)) ws Y (q .forward) (λ x. q .prints (g x) (of x) (ws x) (l .left x ∙ d x)) e
+part l {Q} q of ws g Y d e = print-of l (λ x. Q .print (of x)) ws Y (q .forward) (λ x. q .prints (of x) (ws x) (g x) (l .left x ∙ d x)) e
 
 -- ---- formats and contexts
 
+-- one step deeper is two spaces at most
 pub more-indent : (f : ExprFormatOption) → startIndent (More 2 f) ≤ startIndent f + 2
 more-indent SingleLine = omega arith
 more-indent (MultipleLines i) = omega arith
 
 -- an indent that fits where the print began fits here, and one step deeper too once a word is passed
-pub ready : (l : Reached) {len : ℕ} {ends : List ℕ} {i j : ℕ} → j ≤ i → Ready len (l .origin .table) ends (l .origin .at) i → Ready len (l .origin .table) ends (l .next) j
-ready l h k = let r = k .room in let f = l .forward in record { known = k .known; room = omega arith }
+pub ready : (l : Reached) {i j : ℕ} → j ≤ i → Ready (l .origin .table) (l .origin .at) i → Ready (l .origin .table) (l .next) j
+ready l h k = let r = k .room in let f = l .forward in record { few = k .few; room = omega arith }
 
-pub ready-deeper : (l : Reached) {len : ℕ} {ends : List ℕ} {i j : ℕ} → 1 ≤ l .taken → j ≤ i + 2 → Ready len (l .origin .table) ends (l .origin .at) i
-    → Ready len (l .origin .table) ends (l .next) j
-ready-deeper l t h k = let r = k .room in let f = l .forward in record { known = k .known; room = omega arith }
+-- an indent one step deeper fits once a word is passed
+pub ready-deeper : (l : Reached) {i j : ℕ} → 1 ≤ l .taken → j ≤ i + 2 → Ready (l .origin .table) (l .origin .at) i
+    → Ready (l .origin .table) (l .next) j
+ready-deeper l t h k = let r = k .room in let f = l .forward in record { few = k .few; room = omega arith }
 
 -- no indent in a checked table is as much as 65,536
-pub small : (o : Origin) {len : ℕ} {ends : List ℕ} {i : ℕ} → Ready len (o .table) ends (o .at) i → i < 65536
-small o k = let l = o .inside in let f = k .known .few in let r = k .room in omega arith
+pub small : (o : Origin) {i : ℕ} → Ready (o .table) (o .at) i → i < 65536
+small o k = let l = o .inside in let f = k .few in let r = k .room in omega arith
 
 -- the format one step deeper, where a tree stands
-pub one-deeper : (l : Reached) {len : ℕ} {ends : List ℕ} {f m : ExprFormatOption} → Deeper f m → Ready len (l .origin .table) ends (l .origin .at) (startIndent f) → m ≡ More 2 f
+pub one-deeper : (l : Reached) {f m : ExprFormatOption} → Deeper f m → Ready (l .origin .table) (l .origin .at) (startIndent f) → m ≡ More 2 f
 one-deeper l e k = e .deeper (small (l .origin) k)
 
-pub ready-more : (l : Reached) {len : ℕ} {ends : List ℕ} {f m : ExprFormatOption} → 1 ≤ l .taken → Deeper f m
-    → Ready len (l .origin .table) ends (l .origin .at) (startIndent f) → Ready len (l .origin .table) ends (l .next) (startIndent m)
+-- the same of a format one step deeper
+pub ready-more : (l : Reached) {f m : ExprFormatOption} → 1 ≤ l .taken → Deeper f m
+    → Ready (l .origin .table) (l .origin .at) (startIndent f) → Ready (l .origin .table) (l .next) (startIndent m)
 ready-more l {f = f} {m = m} h e k =
     let s : startIndent m ≡ startIndent (More 2 f) = ap startIndent (one-deeper l e k) in
     let i = more-indent f in
@@ -252,6 +263,7 @@ formatted l F {m} d e = seen l (F m) (λ x. e x ∙ ap (λ (g : ExprFormatOption
 pub same-print : {A : Type 0} (F : A → List ℕ → List ℕ) {a a₁ : A} {b : List ℕ} {p : ℕ} {b₁ : List ℕ} {p₁ : ℕ} → a ≡ a₁ → Wrote (F a) b p b₁ p₁ → Wrote (F a₁) b p b₁ p₁
 same-print {A} F {b = b} {p = p} {b₁ = b₁} {p₁ = p₁} e w = subst (λ (x : A). Wrote (F x) b p b₁ p₁) e w
 
+-- an expression's print in a context and a format that are equal
 pub in-terms : (txt : List ℕ) (e : Expr (NameIn (length txt))) {c d : BindingPower} {f g : ExprFormatOption} {table rest b : List ℕ} {p : ℕ} {b₁ : List ℕ} {s : Step} → c ≡ d → f ≡ g
     → Done table (λ r. Expression (nameIn txt) 2 e c f r) rest b p b₁ s → Done table (λ r. Expression (nameIn txt) 2 e d g r) rest b p b₁ s
 in-terms txt e {d = d} {f = f} {table = table} {rest = rest} {b = b} {p = p} {b₁ = b₁} {s = s} h k x =
@@ -259,25 +271,27 @@ in-terms txt e {d = d} {f = f} {table = table} {rest = rest} {b = b} {p = p} {b�
     (subst (λ (v : BindingPower). Done table (λ r. Expression (nameIn txt) 2 e v f r) rest b p b₁ s) h x)
 
 -- an expression was printed, in a context and a format that the definition has in other terms
-abbrev pub expression : (l : Reached) (f : ExprFormatOption) {ends : List ℕ} {c : BindingPower} {b : List ℕ} {s : Step}
-    → Prints (anExpr (l .origin .text) (l .origin .table) ends (l .next) c f) (l .origin .table) (l .next) (l .buffer) (l .pos) b s
-    → (of : Begun (l .origin) → Expr (NameIn (length (l .origin .text)))) → (Begun (l .origin) → Ready (length (l .origin .text)) (l .origin .table) ends (l .next) (startIndent f))
+abbrev pub expression : (l : Reached) (f : ExprFormatOption) {c : BindingPower} {b : List ℕ} {s : Step}
+    → Prints (anExpr (l .origin .text) (l .origin .table) (l .origin .counts) (l .next) c f) (l .origin .table) (l .next) (l .buffer) (l .pos) b s
+    → (of : Begun (l .origin) → Expr (NameIn (length (l .origin .text)))) (ws : Begun (l .origin) → List ℕ)
+    → ((x : Begun (l .origin)) → Ready (l .origin .table) (l .next) (startIndent f) × CountedExpr (λ n. n .span) (l .origin .counts) (length (l .origin .table)) (of x) (ws x))
     → (C : Begun (l .origin) → BindingPower) (F : Begun (l .origin) → ExprFormatOption) → ((x : Begun (l .origin)) → c ≡ C x) → ((x : Begun (l .origin)) → f ≡ F x)
-    → (ws : Begun (l .origin) → List ℕ) (Y : Begun (l .origin) → List ℕ → List ℕ) → ((x : Begun (l .origin)) → l .words x ≡ exprWords (λ n. n .span) (of x) (ws x))
+    → (Y : Begun (l .origin) → List ℕ → List ℕ) → ((x : Begun (l .origin)) → l .words x ≡ exprWords (λ n. n .span) (of x) (ws x))
     → ((x : Begun (l .origin)) → l .print x ≡ (λ r. Expression (nameIn (l .origin .text)) 2 (of x) (C x) (F x) (Y x r))) → Reached
-expression l f q of g C F c d ws Y h k =
+expression l f q of ws g C F c d Y h k =
     print-of l (λ x r. Expression (nameIn (l .origin .text)) 2 (of x) (C x) (F x) r) ws Y (q .forward)
-    (λ x. in-terms (l .origin .text) (of x) (c x) (d x) (q .prints (g x) (of x) (ws x) (l .left x ∙ h x))) k
+    (λ x. in-terms (l .origin .text) (of x) (c x) (d x) (q .prints (of x) (ws x) (g x) (l .left x ∙ h x))) k
 
 -- ---- the end
 
+-- the words and the print are at their end
 pub done : (l : Reached) → ((x : Begun (l .origin)) → l .words x ≡ x .rest) → ((x : Begun (l .origin)) → l .print x ≡ (λ r. r))
     → Prints (l .origin .part) (l .origin .table) (l .origin .at) (l .origin .buffer) (l .origin .pos) (l .buffer) (record { next = l .next; pos = l .pos })
 done l d e =
     record {
       forward = let f = l .forward in omega arith;
-      prints = λ g t rest s.
-          let x : Begun (l .origin) = record { given = g; tree = t; rest = rest; stands = s } in
+      prints = λ t rest g s.
+          let x : Begun (l .origin) = record { tree = t; rest = rest; given = g; stands = s } in
           record {
             after = l .left x ∙ d x;
             wrote = l .wrote x (subst (λ (X : List ℕ → List ℕ). Wrote X (l .buffer) (l .pos) (l .buffer) (l .pos)) (sym (e x)) (none (l .buffer) (l .pos)));

@@ -17,6 +17,7 @@ use Rattle.printing.specs.PrintUtil.{power, ToString, BindingStrength}
 use Rattle.printing.specs.Printer.{breaksLine}
 use Rattle.printing.specs.Wrote.{Wrote}
 
+-- an operator's word gives the operator
 pub operator-of : (o : Operator) → operatorOf (operatorWord o) ≡ o
 operator-of IfThenElse = refl
 operator-of Equiv = refl
@@ -40,6 +41,7 @@ abbrev Each : (ℕ → Type 0) → ℕ → ℕ → Type 0
 Each P first zero = Unit {0}
 Each P first (suc n) = P first × Each P (suc first) n
 
+-- what holds of each number holds of one of the range
 each : (P : ℕ → Type 0) (first n : ℕ) → Each P first n → (w : ℕ) → first ≤ w → w < first + n → P w
 each P first zero h w a b = absurd (omega arith)
 each P first (suc n) h w a b = by-test (leb (suc first) w) refl (λ l m. each P (suc first) n (h .1) w l m)
@@ -48,6 +50,7 @@ each P first (suc n) h w a b = by-test (leb (suc first) w) refl (λ l m. each P 
     by-test true e r = r (leb-true (suc first) w e) (omega arith)
     by-test false e r = let l = leb-false (suc first) w e in let s : first ≡ w = omega arith in subst P s (h .0)
 
+-- what holds of the last two operators holds of every word from 15 on
 above : (P : Operator → Type 0) → P LogicalNot → P UnaryMinus → (w : ℕ) → 15 ≤ w → P (operatorOf w)
 above P x y w h = by-test (leb 16 w) refl
   where
@@ -55,18 +58,23 @@ above P x y w h = by-test (leb 16 w) refl
     by-test true e = subst P (sym (List·getD-eq-default operators UnaryMinus (leb-true 16 w e))) y
     by-test false e = let l = leb-false 16 w e in let s : 15 ≡ w = omega arith in subst (λ (k : ℕ). P (operatorOf k)) s x
 
+-- what holds of IfThenElse holds of the words 0 and 1
 pub first-operator : (P : Operator → Type 0) (w : ℕ) → w < 2 → P IfThenElse → P (operatorOf w)
 first-operator P w h x = each (λ k. P (operatorOf k)) 0 2 (x, (x, tt)) w (omega arith) h
 
+-- IfThenElse takes three operands
 pub count-three : (w : ℕ) → w < 2 → 3 ≡ ArgumentCount (operatorOf w)
 count-three w h = first-operator (λ o. 3 ≡ ArgumentCount o) w h refl
 
+-- the words 2 to 14 take two
 pub count-two : (w : ℕ) → 2 ≤ w → w < 15 → 2 ≡ ArgumentCount (operatorOf w)
 count-two w a b = each (λ k. 2 ≡ ArgumentCount (operatorOf k)) 2 13 (refl, (refl, (refl, (refl, (refl, (refl, (refl, (refl, (refl, (refl, (refl, (refl, (refl, tt))))))))))))) w a b
 
+-- the words from 15 on take one
 pub count-one : (w : ℕ) → 15 ≤ w → 1 ≡ ArgumentCount (operatorOf w)
 count-one w h = above (λ o. 1 ≡ ArgumentCount o) refl refl w h
 
+-- the line is not broken after the words 0 to 2
 pub no-break-low : (w : ℕ) → w < 3 → false ≡ breaksLine (operatorOf w)
 no-break-low w h = each (λ k. false ≡ breaksLine (operatorOf k)) 0 3 (refl, (refl, (refl, tt))) w (omega arith) h
 
@@ -81,9 +89,11 @@ breaks-high w h = by-test (leb 15 w) refl
     by-test false e =
         each (λ k. ltb k 6 ≡ breaksLine (operatorOf k)) 3 12 (refl, (refl, (refl, (refl, (refl, (refl, (refl, (refl, (refl, (refl, (refl, (refl, tt)))))))))))) w h (leb-false 15 w e)
 
+-- the words 6 to 9 have one strength
 pub comparison-strength : (w : ℕ) → 6 ≤ w → w < 10 → power 50 50 ContextWins ≡ BindingStrength (operatorOf w)
 comparison-strength w a b = each (λ k. power 50 50 ContextWins ≡ BindingStrength (operatorOf k)) 6 4 (refl, (refl, (refl, (refl, tt)))) w a b
 
+-- the words from 15 on have one strength
 pub unary-strength : (w : ℕ) → 15 ≤ w → power 80 80 OperatorWins ≡ BindingStrength (operatorOf w)
 unary-strength w h = above (λ o. power 80 80 OperatorWins ≡ BindingStrength o) refl refl w h
 
@@ -94,6 +104,7 @@ abbrev pub spellings : List ℕ
 spellings =
     0x01b ∷ 0x01b ∷ 0x0d3 ∷ 0x112 ∷ 0x141 ∷ 0x161 ∷ 0x181 ∷ 0x1a1 ∷ 0x1c0 ∷ 0x1d1 ∷ 0x1f0 ∷ 0x200 ∷ 0x210 ∷ 0x222 ∷ 0x252 ∷ 0x280 ∷ []
 
+-- the spellings, one after the other
 abbrev pub spellingRow : List ℕ
 spellingRow = bytes "-if-then-else<==>==>&&||==!=<<=+-*divmod!"
 
@@ -108,6 +119,7 @@ Beside R [] (y ∷ ys) = ⊥
 Beside R (x ∷ xs) [] = ⊥
 Beside R (x ∷ xs) (y ∷ ys) = R x y × Beside R xs ys
 
+-- what holds of entries beside each other holds at every place
 beside : {A B : Type 0} (R : A → B → Type 0) (xs : List A) (ys : List B) (d : A) (e : B) → Beside R xs ys → R d e → (i : ℕ) → R (getD xs i d) (getD ys i e)
 beside R [] [] d e h r i = r
 beside R [] (y ∷ ys) d e h r i = absurd h
@@ -115,6 +127,7 @@ beside R (x ∷ xs) [] d e h r i = absurd h
 beside R (x ∷ xs) (y ∷ ys) d e h r zero = h .0
 beside R (x ∷ xs) (y ∷ ys) d e h r (suc i) = beside R xs ys d e (h .1) r i
 
+-- each place of the table is that of its operator's spelling
 each-spelling : (w : ℕ) → Spells (operatorOf w) (getD spellings w 0)
 unfolding part
 each-spelling =

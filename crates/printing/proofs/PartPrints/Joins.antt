@@ -15,13 +15,16 @@ use Rattle.printing.proofs.Writing.Bytes.{then}
 -- ---- prints one after the other
 
 module _ {table : List ℕ} {X Y : List ℕ → List ℕ} {b b₁ b₂ : List ℕ} {p : ℕ} where
+  -- bytes, and then a print
   pub text-then : {p₁ : ℕ} {rest : List ℕ} {s : Step} → Wrote X b p b₁ p₁ → Done table Y rest b₁ p₁ b₂ s → Done table (λ r. X (Y r)) rest b p b₂ s
   text-then w d = record { after = d .after; wrote = then w (d .wrote) }
 
+  -- a print, and then bytes
   pub then-text : {p₁ : ℕ} {rest : List ℕ} {s : Step} → Done table X rest b p b₁ s → Wrote Y b₁ (s .pos) b₂ p₁
       → Done table (λ r. X (Y r)) rest b p b₂ (record { next = s .next; pos = p₁ })
   then-text d w = record { after = d .after; wrote = then (d .wrote) w }
 
+  -- a print, and then a print
   pub done-then : {mid rest : List ℕ} {s t : Step} → Done table X mid b p b₁ s → Done table Y rest b₁ (s .pos) b₂ t → Done table (λ r. X (Y r)) rest b p b₂ t
   done-then d e = record { after = e .after; wrote = then (d .wrote) (e .wrote) }
 
@@ -32,6 +35,7 @@ moved next d e = record { after = e; wrote = d .wrote }
 
 -- ---- the word at a place
 
+-- the word that was read is the first of what stands there
 pub word-at : (table : List ℕ) (at : ℕ) {w : ℕ} {ws : List ℕ} {g : ℕ} → g ≡ getD table at 0 → drop at table ≡ w ∷ ws → g ≡ w
 word-at table at {w} {ws} e f = e ∙ head-at table at w ws f .1
 
@@ -45,10 +49,12 @@ inside table {at} {g} e h = within table at (λ z. h (e ∙ z))
     within (x ∷ l) zero k = omega arith
     within (x ∷ l) (suc i) k = let r = within l i k in omega arith
 
+-- the place after a word of the table
 pub next-inside : (table : List ℕ) (at : ℕ) → at < length table → Next table at (at + 1)
 next-inside table at h =
     record { forward = omega arith; past = λ _. omega arith; after = λ w ws e. head-at table at w ws e .2 }
 
+-- a place past the table stays
 pub next-past : (table : List ℕ) (at : ℕ) → length table ≤ at → Next table at at
 next-past table at h =
     record {
@@ -62,6 +68,7 @@ abbrev pub Tells : Bool → ℕ → Type 0
 Tells true g = g ≡ 0 → ⊥
 Tells false g = g ≡ 0
 
+-- a test against 0 tells the Bool
 pub told : (v t : Bool) {g : ℕ} → Tells v g → g ≡ boolWord t → v ≡ t
 told true true h e = refl
 told true false h e = absurd (h e)

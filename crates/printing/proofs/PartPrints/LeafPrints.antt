@@ -26,32 +26,36 @@ use Rattle.printing.specs.Parts.{Part, Done, Prints, Next, IsIf, aName, 
 use Rattle.printing.proofs.PartPrints.Joins.{text-then, moved, word-at, Tells, told}
 
 module _ {table : List ℕ} {at : ℕ} {b : List ℕ} {p : ℕ} {b₁ : List ℕ} where
+  -- a Bool by its word
   pub bool-prints : (v : Bool) {next g p₁ : ℕ} → Next table at next → g ≡ getD table at 0 → Tells v g → Wrote (λ r. bytes (boolText v) ++ r) b p b₁ p₁
       → Prints aBool table at b p b₁ (record { next = next; pos = p₁ })
   bool-prints v {next} {g} {p₁} n e h w =
       record {
         forward = n .forward;
-        prints = λ _ t rest d.
+        prints = λ t rest _ d.
             record {
               after = n .after (boolWord t) rest d;
               wrote = subst (λ (u : Bool). Wrote (λ r. bytes (boolText u) ++ r) b p b₁ p₁) (told v t h (word-at table at e d)) w;
             };
       }
 
+  -- a natural by its two words
   pub natural-prints : {second next g p₁ : ℕ} → Next table at second → Next table second next → g ≡ getD table at 0 * 2 ^ 32 + getD table (at + 1) 0
       → Wrote (decimal g) b p b₁ p₁ → Prints aNatural table at b p b₁ (record { next = next; pos = p₁ })
   natural-prints {second} {next} {g} {p₁} m n e w =
       record {
         forward = le-trans (m .forward) (n .forward);
-        prints = λ _ t rest d.
+        prints = λ t rest _ d.
             let v : g ≡ t = e ∙ natural-at (namesIn 0) table at t rest d .0 in
             record { after = n .after _ rest (m .after _ _ d); wrote = subst (λ (k : ℕ). Wrote (decimal k) b p b₁ p₁) v w };
       }
 
+-- `old ` by the word after the name
 old : (o : Bool) (g : ℕ) → g ≡ boolWord o → unless (eqb g 0) (bytes "old ") ≡ bytes (oldText o)
 old true g e = rw e
 old false g e = rw e
 
+-- a name after its `old`
 pub identifier-prints : (text : List ℕ) {table : List ℕ} {at : ℕ} {b : List ℕ} {p : ℕ} {b₁ : List ℕ} {second third next g p₁ : ℕ} {b₂ : List ℕ} {s₂ : Step}
     → Next table at second → Next table second third → g ≡ getD table third 0
     → Wrote (λ r. unless (eqb g 0) (bytes "old ") ++ r) b p b₁ p₁ → Prints (aName text) table at b₁ p₁ b₂ s₂ → Next table (s₂ .next) next
@@ -59,10 +63,10 @@ pub identifier-prints : (text : List ℕ) {table : List ℕ} {at : ℕ} {b : Lis
 identifier-prints text {table} {at} {b} {p} {b₁} {second} {third} {next} {g} {p₁} {b₂} {s₂} m n e w x l =
     record {
       forward = le-trans (x .forward) (l .forward);
-      prints = λ _ t rest d.
+      prints = λ t rest _ d.
           let tail = boolWord (t .1) ∷ rest in
           let flag = n .after (t .0 .span .len) tail (m .after (t .0 .span .start) (t .0 .span .len ∷ tail) d) in
-          let u = x .prints tt (t .0) tail d in
+          let u = x .prints (t .0) tail tt d in
           let o : unless (eqb g 0) (bytes "old ") ≡ bytes (oldText (t .1)) = old (t .1) g (word-at table third e flag) in
           moved next
           (text-then (subst (λ (k : List ℕ). Wrote (λ r. k ++ r) b p b₁ p₁) o w) u)
@@ -87,17 +91,18 @@ module _ (text table : List ℕ) (at : ℕ) where
   pub made : {t : E} {u : E} (rest : List ℕ) (Q : E → Type 0) → u ≡ t → At t rest → (At u rest → Q u) → Q t
   made rest Q e d k = subst Q e (k (subst (λ x. At x rest) (sym e) d))
 
-  pub leaf-arm : (P : Part) (w : ℕ) (make : P .Tree → E) → P .given → Opens make
+  -- a leaf is printed as the part that its word tells
+  pub leaf-arm : (P : Part) (w : ℕ) (make : P .Tree → E) → ((a : P .Tree) (rest : List ℕ) → P .given a rest) → Opens make
       → ((a : P .Tree) (rest : List ℕ) → exprWords (λ n. n .span) (make a) rest ≡ w ∷ P .words a rest)
       → ((a : P .Tree) (c : BindingPower) (f : ExprFormatOption) → P .print a ≡ (λ r. Expression (nameIn text) 2 (make a) c f r))
       → {b : List ℕ} {p : ℕ} {b₁ : List ℕ} {inner : ℕ} {s : Step} → Next table at inner → Prints P table inner b p b₁ s → Prints (leaf text table at) table at b p b₁ s
   leaf-arm P w make k opens ws xs {b} {p} {b₁} {inner} {s} n x =
       record {
         forward = le-trans (n .forward) (x .forward);
-        prints = λ _ t rest d.
+        prints = λ t rest _ d.
             let o = opens (t .0) rest d in
             made rest (λ u. Done table (λ r. Expression (nameIn text) 2 u (t .1) (t .2) r) rest b p b₁ s) (o .1) d
-            (λ c. subst (λ (X : List ℕ → List ℕ). Done table X rest b p b₁ s) (xs (o .0) (t .1) (t .2)) (x .prints k (o .0) rest (n .after w (P .words (o .0) rest) (c ∙ ws (o .0) rest))));
+            (λ c. subst (λ (X : List ℕ → List ℕ). Done table X rest b p b₁ s) (xs (o .0) (t .1) (t .2)) (x .prints (o .0) rest (k (o .0) rest) (n .after w (P .words (o .0) rest) (c ∙ ws (o .0) rest))));
       }
 
   -- no leaf has another word
@@ -106,40 +111,45 @@ module _ (text table : List ℕ) (at : ℕ) where
   no-leaf {g} e a₁ a₂ a₃ a₄ =
       record {
         forward = le-refl at;
-        prints = λ k t rest d. let r = word-range (namesIn (length text)) table at expr (t .0) rest d in absurd (omega arith);
+        prints = λ t rest k d. let r = word-range (namesIn (length text)) table at expr (t .0) rest d in absurd (omega arith);
       }
 
 module _ (text : List ℕ) {table : List ℕ} {at g : ℕ} (e : g ≡ getD table at 0) {b : List ℕ} {p : ℕ} {b₁ : List ℕ} {inner : ℕ} {s : Step} (n : Next table at inner) where
+  -- word 1
   pub leaf-bool : g ≡ 1 → Prints aBool table inner b p b₁ s → Prints (leaf text table at) table at b p b₁ s
   unfolding Expression
   leaf-bool w x =
-      leaf-arm text table at aBool 1 BLiteral tt
+      leaf-arm text table at aBool 1 BLiteral (λ _ _. tt)
       (λ t rest d. let o = tree-at-word (namesIn (length text)) table at expr t rest 1 d (sym e ∙ w) in (o .0 .0, o .1))
       (λ a rest. refl) (λ a c f. refl) n x
 
+  -- word 2
   pub leaf-natural : g ≡ 2 → Prints aNatural table inner b p b₁ s → Prints (leaf text table at) table at b p b₁ s
   unfolding Expression
   leaf-natural w x =
-      leaf-arm text table at aNatural 2 ILiteral tt
+      leaf-arm text table at aNatural 2 ILiteral (λ _ _. tt)
       (λ t rest d. let o = tree-at-word (namesIn (length text)) table at expr t rest 2 d (sym e ∙ w) in (o .0 .0, o .1))
       (λ a rest. refl) (λ a c f. refl) n x
 
+  -- word 3
   pub leaf-custom : g ≡ 3 → Prints (customLiteral text) table inner b p b₁ s → Prints (leaf text table at) table at b p b₁ s
   unfolding Expression
   leaf-custom w x =
-      leaf-arm text table at (customLiteral text) 3 (λ a. CustomLiteral (a .0) (a .1)) tt
+      leaf-arm text table at (customLiteral text) 3 (λ a. CustomLiteral (a .0) (a .1)) (λ _ _. tt)
       (λ t rest d. let o = tree-at-word (namesIn (length text)) table at expr t rest 3 d (sym e ∙ w) in ((o .0 .0, o .0 .1 .0), o .1))
       (λ a rest. refl) (λ a c f. refl) n x
 
+  -- word 4
   pub leaf-identifier : g ≡ 4 → Prints (identifier text) table inner b p b₁ s → Prints (leaf text table at) table at b p b₁ s
   unfolding Expression
   leaf-identifier w x =
-      leaf-arm text table at (identifier text) 4 (λ a. IdExpr (a .0) (a .1)) tt
+      leaf-arm text table at (identifier text) 4 (λ a. IdExpr (a .0) (a .1)) (λ _ _. tt)
       (λ t rest d. let o = tree-at-word (namesIn (length text)) table at expr t rest 4 d (sym e ∙ w) in ((o .0 .0, o .0 .1 .0), o .1))
       (λ a rest. refl) (λ a c f. refl) n x
 
 -- ---- an IfThenElse
 
+-- a tree with another word is no IfThenElse
 no-if : {N : Type 0} (span : N → Span) (t : Expr N) (table : List ℕ) (at : ℕ) (rest : List ℕ) → drop at table ≡ exprWords span t rest → (getD table at 0 ≡ 5 → ⊥) → false ≡ isIf t
 no-if span (BLiteral v) table at rest d h = refl
 no-if span (ILiteral n) table at rest d h = refl
@@ -153,9 +163,11 @@ no-if span (QuantifierExpr u bs ps t) table at rest d h = refl
 no-if span (ClosureExpr bs m t ps) table at rest d h = refl
 
 module _ (text : List ℕ) {table : List ℕ} {at g : ℕ} (e : g ≡ getD table at 0) where
+  -- a word that is not 5
   pub is-no-if : (g ≡ 5 → ⊥) → IsIf text table at false
   is-no-if h = record { tells = λ t rest d. no-if (λ n. n .span) t table at rest d (λ f. h (e ∙ f)) }
 
+  -- word 5, and whether the next is 1
   pub is-if-by : {inner h : ℕ} → g ≡ 5 → Next table at inner → h ≡ getD table inner 0 → IsIf text table at (eqb h 1)
   is-if-by {inner} {h} w n f =
       record {

@@ -18,6 +18,7 @@ none b p =
       bytes = λ h rest. refl;
     }
 
+-- the places of two prints add up
 place-then : (p m p₁ n p₂ l : ℕ) → min p₁ (l + 1) ≡ min (p + m) (l + 1) → min p₂ (l + 1) ≡ min (p₁ + n) (l + 1)
     → min p₂ (l + 1) ≡ min (p + (m + n)) (l + 1)
 place-then p m p₁ n p₂ l e f = omega arith
@@ -54,6 +55,7 @@ stored b p x b′ h e =
           ∙ append-assoc (take p b) x rest;
     }
 
+-- bytes that do not fit
 pub over : (b : List ℕ) (p : ℕ) (x : List ℕ) → length b < p + length x → Wrote (λ rest. x ++ rest) b p b (length b + 1)
 over b p x h =
     record {
@@ -71,9 +73,11 @@ pub record Storing (x b₀ b : List ℕ) (p i : ℕ) : Type 0 where
   pub inside : i ≤ length x
   pub so-far : b ≡ paste b₀ p x i
 
+-- nothing is stored yet
 pub storing-none : (x b : List ℕ) (p : ℕ) → p + length x ≤ length b → Storing x b b p 0
 storing-none x b p h = record { same = refl; fits = h; inside = omega arith; so-far = paste-zero b p x }
 
+-- one byte more is stored
 pub storing-more : {x b₀ b : List ℕ} {p i : ℕ} (v : ℕ) → Storing x b₀ b p i → i < length x → v ≡ getD x i 0 → Storing x b₀ (set b (p + i) v) p (i + 1)
 storing-more {x} {b₀} {b} {p} {i} v s h e =
     let n : i + 1 ≡ suc i = omega arith in
@@ -87,6 +91,7 @@ storing-more {x} {b₀} {b} {p} {i} v s h e =
       so-far = rw n w;
     }
 
+-- all bytes are stored
 pub storing-all : {x b₀ b : List ℕ} {p i : ℕ} → Storing x b₀ b p i → length x ≤ i → b ≡ take p b₀ ++ x ++ drop (p + length x) b₀
 storing-all {x} {b₀} {b} {p} {i} s h =
     let k = s .inside in
@@ -97,15 +102,19 @@ storing-all {x} {b₀} {b} {p} {i} s h =
 pub spaces : (n : ℕ) → length (replicate {A = ℕ} n 32) ≡ n
 spaces n = length-replicate n 32
 
+-- room for n spaces
 pub spaces-fit : (n p l : ℕ) → p + n ≤ l → p + length (replicate {A = ℕ} n 32) ≤ l
 spaces-fit n p l h = rw (spaces n) h
 
+-- no room for n spaces
 pub spaces-over : (b : List ℕ) (p n : ℕ) → length b < p + n → Wrote (λ rest. replicate n 32 ++ rest) b p b (length b + 1)
 spaces-over b p n h = over b p (replicate n 32) (rw (spaces n) h)
 
+-- one space more is stored
 pub spaces-more : {n : ℕ} {b₀ b : List ℕ} {p i : ℕ} → Storing (replicate n 32) b₀ b p i → i < n → Storing (replicate n 32) b₀ (set b (p + i) 32) p (i + 1)
 spaces-more {n} {i = i} s h = storing-more 32 s (rw (spaces n) h) (sym (getD-replicate n i 32 0 h))
 
+-- all spaces are stored
 pub spaces-all : {n : ℕ} {b₀ b : List ℕ} {p i : ℕ} → Storing (replicate n 32) b₀ b p i → n ≤ i → Wrote (λ rest. replicate n 32 ++ rest) b₀ p b (p + n)
 spaces-all {n} {b₀} {b} {p} s h =
     subst (λ (k : ℕ). Wrote (λ rest. replicate n 32 ++ rest) b₀ p b (p + k)) (spaces n)

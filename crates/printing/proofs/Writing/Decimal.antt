@@ -10,6 +10,7 @@ use Rattle.printing.specs.Text.{digits, decimal}
 use Rattle.printing.specs.Wrote.{Wrote}
 use Rattle.printing.proofs.Writing.Bytes.{then}
 
+-- more fuel gives the same digits
 fuel : (k l n : ℕ) (rest : List ℕ) → n < k → n < l → digits k n rest ≡ digits l n rest
 unfolding digits
 fuel zero l n rest h i = absurd (omega arith)
@@ -29,16 +30,20 @@ unfolding digits
 digits-by k n rest b e =
     ap (λ (c : Bool). elim c as (λ (x : Bool). List ℕ) [ true ↦ (48 + n) ∷ rest | false ↦ digits k (n / 10) ((48 + n % 10) ∷ rest) ]) e
 
+-- one digit
 decimal-one : (n : ℕ) (rest : List ℕ) → n < 10 → decimal n rest ≡ (48 + n % 10) ∷ rest
 decimal-one n rest h = let m : n ≡ n % 10 = omega arith in digits-by n n rest true (lt-ltb n 10 h) ∙ ap (λ (k : ℕ). (48 + k) ∷ rest) m
 
+-- the last digit after the others
 decimal-more : (n : ℕ) (rest : List ℕ) → 10 ≤ n → decimal n rest ≡ decimal (n / 10) ((48 + n % 10) ∷ rest)
 decimal-more n rest h =
     digits-by n n rest false (le-ltb n 10 h) ∙ fuel n (suc (n / 10)) (n / 10) ((48 + n % 10) ∷ rest) (omega arith) (omega arith)
 
+-- a number of one digit was written
 pub wrote-digit : {b : List ℕ} {p : ℕ} {b′ : List ℕ} {p′ : ℕ} (n : ℕ) → n < 10 → Wrote (λ rest. ((48 + n % 10) ∷ []) ++ rest) b p b′ p′ → Wrote (decimal n) b p b′ p′
 wrote-digit {b} {p} {b′} {p′} n h w = subst (λ (X : List ℕ → List ℕ). Wrote X b p b′ p′) (fun-ext (λ rest. sym (decimal-one n rest h))) w
 
+-- a number of more digits was written
 pub wrote-digits : {b : List ℕ} {p : ℕ} {b₁ : List ℕ} {p₁ : ℕ} {b₂ : List ℕ} {p₂ : ℕ} (n : ℕ) → 10 ≤ n → Wrote (decimal (n / 10)) b p b₁ p₁
     → Wrote (λ rest. ((48 + n % 10) ∷ []) ++ rest) b₁ p₁ b₂ p₂ → Wrote (decimal n) b p b₂ p₂
 wrote-digits {b} {p} {b₁} {p₁} {b₂} {p₂} n h u v =

@@ -18,13 +18,13 @@ ghost use Rattle.printing.specs.ExprParts.{expressionList, patternList, 
 pub(crate) fn exprs(
     text: &[u8],
     words: &[u32],
-    ends: &[u16],
+    counts: &[u16],
     at: usize,
     first: bool,
     out: &mut [u8],
     pos: usize,
 ) -> Step
-    ensures { λ r. ⌜ Prints (expressionList (now (text .entry)) (now (words .entry)) (now (ends .entry)) at first) (now (words .entry)) at (now (out .entry)) pos (now (out .exit)) r ⌝ }
+    ensures { λ r. ⌜ Prints (expressionList (now (text .entry)) (now (words .entry)) (now (counts .entry)) at first) (now (words .entry)) at (now (out .entry)) pos (now (out .exit)) r ⌝ }
 {
     let inner = after(words, at);
     if get(words, at) == 0 {
@@ -34,69 +34,69 @@ pub(crate) fn exprs(
     let s = expr(
         text,
         words,
-        ends,
+        counts,
         inner,
         BindingPower::INIT,
         ExprFormatOption::SingleLine,
         out,
         a,
     );
-    exprs(text, words, ends, s.next, false, out, s.pos)
+    exprs(text, words, counts, s.next, false, out, s.pos)
 }
 
 // A quantifier's patterns.
 pub(crate) fn patterns(
     text: &[u8],
     words: &[u32],
-    ends: &[u16],
+    counts: &[u16],
     at: usize,
     ind: ExprFormatOption,
     out: &mut [u8],
     pos: usize,
 ) -> Step
-    ensures { λ r. ⌜ Prints (patternList (now (text .entry)) (now (words .entry)) (now (ends .entry)) at ind) (now (words .entry)) at (now (out .entry)) pos (now (out .exit)) r ⌝ }
+    ensures { λ r. ⌜ Prints (patternList (now (text .entry)) (now (words .entry)) (now (counts .entry)) at ind) (now (words .entry)) at (now (out .entry)) pos (now (out .exit)) r ⌝ }
 {
     let inner = after(words, at);
     if get(words, at) == 0 {
         return Step { next: inner, pos };
     }
     let a = pattern_head(ind, out, pos);
-    let s = exprs(text, words, ends, inner, true, out, a);
-    patterns(text, words, ends, s.next, ind, out, s.pos)
+    let s = exprs(text, words, counts, inner, true, out, a);
+    patterns(text, words, counts, s.next, ind, out, s.pos)
 }
 
 // A closure property's triggers.
 pub(crate) fn triggers(
     text: &[u8],
     words: &[u32],
-    ends: &[u16],
+    counts: &[u16],
     at: usize,
     out: &mut [u8],
     pos: usize,
 ) -> Step
-    ensures { λ r. ⌜ Prints (triggerList (now (text .entry)) (now (words .entry)) (now (ends .entry)) at) (now (words .entry)) at (now (out .entry)) pos (now (out .exit)) r ⌝ }
+    ensures { λ r. ⌜ Prints (triggerList (now (text .entry)) (now (words .entry)) (now (counts .entry)) at) (now (words .entry)) at (now (out .entry)) pos (now (out .exit)) r ⌝ }
 {
     let inner = after(words, at);
     if get(words, at) == 0 {
         return Step { next: inner, pos };
     }
     let a = put(out, pos, b"trigger ");
-    let s = exprs(text, words, ends, inner, true, out, a);
+    let s = exprs(text, words, counts, inner, true, out, a);
     let b = put(out, s.pos, b" ");
-    triggers(text, words, ends, s.next, out, b)
+    triggers(text, words, counts, s.next, out, b)
 }
 
 // A closure's bindings.
 pub(crate) fn closures(
     text: &[u8],
     words: &[u32],
-    ends: &[u16],
+    counts: &[u16],
     at: usize,
     first: bool,
     out: &mut [u8],
     pos: usize,
 ) -> Step
-    ensures { λ r. ⌜ Prints (closureList (now (text .entry)) (now (words .entry)) (now (ends .entry)) at first) (now (words .entry)) at (now (out .entry)) pos (now (out .exit)) r ⌝ }
+    ensures { λ r. ⌜ Prints (closureList (now (text .entry)) (now (words .entry)) (now (counts .entry)) at first) (now (words .entry)) at (now (out .entry)) pos (now (out .exit)) r ⌝ }
 {
     let inner = after(words, at);
     if get(words, at) == 0 {
@@ -106,44 +106,44 @@ pub(crate) fn closures(
     let t = expr(
         text,
         words,
-        ends,
+        counts,
         s.next,
         BindingPower::INIT,
         ExprFormatOption::SingleLine,
         out,
         s.pos,
     );
-    closures(text, words, ends, t.next, false, out, t.pos)
+    closures(text, words, counts, t.next, false, out, t.pos)
 }
 
 // A closure's properties.
 pub(crate) fn properties(
     text: &[u8],
     words: &[u32],
-    ends: &[u16],
+    counts: &[u16],
     at: usize,
     first: bool,
     out: &mut [u8],
     pos: usize,
 ) -> Step
-    ensures { λ r. ⌜ Prints (propertyList (now (text .entry)) (now (words .entry)) (now (ends .entry)) at first) (now (words .entry)) at (now (out .entry)) pos (now (out .exit)) r ⌝ }
+    ensures { λ r. ⌜ Prints (propertyList (now (text .entry)) (now (words .entry)) (now (counts .entry)) at first) (now (words .entry)) at (now (out .entry)) pos (now (out .exit)) r ⌝ }
 {
     let inner = after(words, at);
     if get(words, at) == 0 {
         return Step { next: inner, pos };
     }
     let a = put_separator(out, pos, first);
-    let s = triggers(text, words, ends, inner, out, a);
+    let s = triggers(text, words, counts, inner, out, a);
     let b = put_unless(out, s.pos, get(words, inner) == 0, b":: ");
     let t = expr(
         text,
         words,
-        ends,
+        counts,
         s.next,
         BindingPower::INIT,
         ExprFormatOption::SingleLine,
         out,
         b,
     );
-    properties(text, words, ends, t.next, false, out, t.pos)
+    properties(text, words, counts, t.next, false, out, t.pos)
 }

@@ -14,10 +14,17 @@ returns-2 : tie.Need-returns-2
 returns-2 c = short-output _ _ _ (c .before .if1 .left) (c .if2 .taken)
 
 slice-aggregate-store : tie.Need-slice-aggregate-store
-slice-aggregate-store c = sym (length-take-le (c .before .before .before .before .before .before .args .n) (c .before .before .before .before .before .before .args .buffer .now) (c .before .before .before .if1 .left))
+slice-aggregate-store c = sym
+    (length-take-le (c .before .before .before .before .before .before .args .n)
+    (c .before .before .before .before .before .before .args .buffer .now) (c .before .before .before .if1 .left))
 
 store-requires : tie.Need-store-requires
-store-requires c κs = omega (arith, length-take-le (c .before .before .before .before .before .before .args .n) (c .before .before .before .before .before .before .args .buffer .now) (c .before .before .before .if1 .left), c .before .before .if2 .left)
+store-requires c κs = omega (
+  arith,
+  length-take-le (c .before .before .before .before .before .before .args .n)
+      (c .before .before .before .before .before .before .args .buffer .now) (c .before .before .before .if1 .left),
+  c .before .before .if2 .left,
+)
 
 same-length : tie.Need-same-length
 same-length c = search needs

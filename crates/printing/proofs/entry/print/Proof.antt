@@ -1,66 +1,47 @@
--- The refusals 6 and 7, and the print of an accepted table.
-use Rattle.printing.proofs.EntryAnswers.{long-text, refused, accepted, few}
-use mathlib.Core.Path.{sym, ap, _∙_}
-use Rattle.tree.specs.Check.{refusal as checkRefusal}
+-- A text that is too long is refused by 6; else the table is checked.
+use Rattle.printing.proofs.EntryAnswers.{long-text}
+use Rattle.printing.specs.Stores.{rooted}
 use borrow.Author.Needs.{needs}
 use Rattle.printing.proofs.entry.print.Statement.{statement}
 use Rattle.printing.proofs.entry.print.Tie as tie
 
 returns : tie.Need-returns
-returns c = long-text (c .before .before .before .before .args .text .now) (c .before .before .before .before .args .words .now) _ (c .before .before .before .before .args .out .now) (c .if1 .taken)
+returns c = long-text (rooted (c .before .before .before .before .args .text .now) (c .before .before .before .before .args .root)) (c .before .before .before .before .args .text .now) (c .before .before .before .before .args .words .now) (c .before .before .before .before .args .out .now) (c .if1 .taken)
 
-check-expression-requires : tie.Need-check-expression-requires
-check-expression-requires c κs = search needs
+slice-aggregate-print-counted : tie.Need-slice-aggregate-print-counted
+slice-aggregate-print-counted c = search needs
 
-enum-told : tie.Need-enum-told
-enum-told c = search needs
-
-print-tree-requires : tie.Need-print-tree-requires
-print-tree-requires c κs = (c .before .before .before .before .before .before .before .before .pre, few (c .before .before .before .before .before .before .before .before .args .words .now) _ (sym (c .before .before .before .check-expression .ensures) ∙ ap checkRefusal (c .before .enum-told .given .1)))
-
-enum-known-found : tie.Need-enum-known-found
-enum-known-found c = search needs
-
-enum-told-2 : tie.Need-enum-told-2
-enum-told-2 c = search needs
+print-counted-requires : tie.Need-print-counted-requires
+print-counted-requires c κs = search needs
 
 same-length : tie.Need-same-length
 same-length c = search needs
 
 returns-2 : tie.Need-returns-2
-returns-2 c = accepted (c .before .before .before .before .before .before .before .before .before .before .before .args .text .now)
-    (c .before .before .before .before .before .before .before .before .before .before .before .args .words .now) _
-    (c .before .before .before .before .before .before .before .before .before .before .before .args .out .now)
-    (c .before .before .before .before .before .before .before .if1 .left)
-    (c .before .before .before .before .before .before .before .before .before .before .before .pre)
-    (sym (c .before .before .before .before .before .before .check-expression .ensures) ∙ ap checkRefusal
-    (c .before .before .before .before .enum-told .given .1)) (c .before .before .print-tree .ensures)
+returns-2 c = search needs
+
+slice-aggregate-print-counted-2 : tie.Need-slice-aggregate-print-counted-2
+slice-aggregate-print-counted-2 c = search needs
+
+print-counted-requires-2 : tie.Need-print-counted-requires-2
+print-counted-requires-2 c κs = search needs
+
+same-length-2 : tie.Need-same-length-2
+same-length-2 c = search needs
 
 returns-3 : tie.Need-returns-3
-returns-3 c = refused (c .before .before .before .before .before .before .before .before .args .text .now)
-    (c .before .before .before .before .before .before .before .before .args .words .now) _
-    (c .before .before .before .before .before .before .before .before .args .out .now) (c .before .before .before .before .if1 .left)
-    (c .before .before .before .before .before .before .before .before .pre)
-    (sym (c .before .before .before .check-expression .ensures) ∙ ap checkRefusal (c .before .found .given .1))
-
-returns-4 : tie.Need-returns-4
-returns-4 c = refused (c .before .before .before .before .before .before .before .args .text .now)
-    (c .before .before .before .before .before .before .before .args .words .now) _
-    (c .before .before .before .before .before .before .before .args .out .now) (c .before .before .before .if1 .left)
-    (c .before .before .before .before .before .before .before .pre)
-    (sym (c .before .before .check-expression .ensures) ∙ ap checkRefusal (c .enum-told2 .given .1))
+returns-3 c = search needs
 
 pub print-spec : {M : Type 1} → statement M
 print-spec =
     tie.close
     (tie.spec
     returns
-    check-expression-requires
-    enum-told
-    print-tree-requires
-    enum-known-found
-    enum-told-2
+    slice-aggregate-print-counted
+    print-counted-requires
     same-length
     returns-2
-    returns-3
-    returns-4)
+    slice-aggregate-print-counted-2
+    print-counted-requires-2
+    same-length-2
+    returns-3)

@@ -1,11 +1,14 @@
 -- The refusal of a start indent; else the print.
 use Rattle.printing.proofs.EntryAnswers.{deep-indent}
+use Rattle.printing.specs.Entries.{expressions}
+use Rattle.printing.specs.declared.format.ExprFormatOption.the-variants.{MultipleLines}
 use borrow.Author.Needs.{needs}
 use Rattle.printing.proofs.entry.print_expression_lines.Statement.{statement}
 use Rattle.printing.proofs.entry.print_expression_lines.Tie as tie
 
 returns : tie.Need-returns
-returns c = deep-indent (c .before .before .before .before .args .text .now) (c .before .before .before .before .args .words .now) _ (c .before .before .before .before .args .out .now) (c .if1 .taken)
+returns c = deep-indent (expressions 2 (c .before .before .before .before .args .text .now) (MultipleLines (c .before .before .before .before .args .indent))) (c .before .before .before .before .args .text .now)
+    (c .before .before .before .before .args .words .now) (c .before .before .before .before .args .out .now) (c .if1 .taken)
 
 print-requires : tie.Need-print-requires
 print-requires c κs = search needs

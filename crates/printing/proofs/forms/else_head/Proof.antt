@@ -29,8 +29,8 @@ same-length : tie.Need-same-length
 same-length c = search needs
 
 returns : tie.Need-returns
-returns c = else-head-is (c .before .before .before .before .before .before .before .before .before .before .before .before .before .before .before
-    .before .before .before .before .args .format)
+returns c = else-head-is
+    (c .before .before .before .before .before .before .before .before .before .before .before .before .before .before .before .before .before .before .before .args .format)
     (c .before .before .before .before .before .before .before .before .before .before .before .before .before .before .space .ensures)
     (c .before .before .before .before .before .before .before .before .before .put .ensures)
     (c .before .before .before .before .before .before .is-if .ensures) (c .before .before .before .before .before .more .ensures)

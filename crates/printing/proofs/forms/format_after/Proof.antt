@@ -1,4 +1,8 @@
 -- The format after an operator by whether the line may be broken.
+use mathlib.Core.Path.{sym, ap}
+use mathlib.Core.Bool.{Bool}
+use Rattle.lexing.specs.Answer.{pick}
+use Rattle.printing.specs.declared.format.ExprFormatOption.the-variants.{SingleLine}
 use Rattle.printing.proofs.Operators.Surroundings.{format-by}
 use borrow.Author.Needs.{needs}
 use Rattle.printing.proofs.forms.format_after.Statement.{statement}
@@ -10,11 +14,15 @@ get-requires c κs = search needs
 breaks-line-requires : tie.Need-breaks-line-requires
 breaks-line-requires c κs = search needs
 
-choose-requires : tie.Need-choose-requires
-choose-requires c κs = search needs
-
 returns : tie.Need-returns
-returns c = format-by _ (c .choose .ensures) (c .before .breaks-line .ensures) (c .before .before .get .ensures)
+returns c =
+    let f = c .before .before .before .before .args .format in
+    format-by f (sym (ap (λ (b : Bool). pick b f SingleLine) (c .if1 .taken))) (c .before .breaks-line .ensures) (c .before .before .get .ensures)
+
+returns-2 : tie.Need-returns-2
+returns-2 c =
+    let f = c .before .before .before .before .args .format in
+    format-by f (sym (ap (λ (b : Bool). pick b f SingleLine) (c .if1 .left))) (c .before .breaks-line .ensures) (c .before .before .get .ensures)
 
 pub format-after-spec : {M : Type 1} → statement M
-format-after-spec = tie.close (tie.spec get-requires breaks-line-requires choose-requires returns)
+format-after-spec = tie.close (tie.spec get-requires breaks-line-requires returns returns-2)

@@ -20,7 +20,8 @@ same-length : tie.Need-same-length
 same-length c = search needs
 
 returns : tie.Need-returns
-returns c = listed-wrote (c .before .before .before .before .before .before .before .before .get .ensures) (c .before .before .before .before .before .before .before .put-operator .ensures) (c .before .before .put .ensures)
+returns c = listed-wrote (c .before .before .before .before .before .before .before .before .get .ensures)
+    (c .before .before .before .before .before .before .before .put-operator .ensures) (c .before .before .put .ensures)
 
 pub listed-head-spec : {M : Type 1} → statement M
 listed-head-spec =

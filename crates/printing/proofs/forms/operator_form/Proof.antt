@@ -10,8 +10,8 @@ after-requires c κs = search needs
 after-requires-2 : tie.Need-after-requires-2
 after-requires-2 c κs = search needs
 
-count-requires : tie.Need-count-requires
-count-requires c κs = search needs
+count-at-requires : tie.Need-count-at-requires
+count-at-requires c κs = search needs
 
 get-requires : tie.Need-get-requires
 get-requires c κs = search needs
@@ -20,10 +20,12 @@ argument-count-requires : tie.Need-argument-count-requires
 argument-count-requires c κs = search needs
 
 returns : tie.Need-returns
-returns c = form-full _ _ (c .before .before .before .before .before .after .ensures) (c .before .before .before .before .after2 .ensures) (c .before .before .before .count .ensures) (c .before .before .get .ensures) (c .before .argument-count .ensures) (c .if1 .taken)
+returns c = form-full _ _ (c .before .before .before .before .before .after .ensures) (c .before .before .before .before .after2 .ensures)
+    (c .before .before .before .count-at .ensures) (c .before .before .get .ensures) (c .before .argument-count .ensures) (c .if1 .taken)
 
 returns-2 : tie.Need-returns-2
-returns-2 c = form-listed _ _ (c .before .before .before .before .before .after .ensures) (c .before .before .before .before .after2 .ensures) (c .before .before .before .count .ensures) (c .before .before .get .ensures) (c .before .argument-count .ensures) (c .if1 .left)
+returns-2 c = form-listed _ _ (c .before .before .before .before .before .after .ensures) (c .before .before .before .before .after2 .ensures)
+    (c .before .before .before .count-at .ensures) (c .before .before .get .ensures) (c .before .argument-count .ensures) (c .if1 .left)
 
 pub operator-form-spec : {M : Type 1} → statement M
 operator-form-spec =
@@ -31,7 +33,7 @@ operator-form-spec =
     (tie.spec
     after-requires
     after-requires-2
-    count-requires
+    count-at-requires
     get-requires
     argument-count-requires
     returns

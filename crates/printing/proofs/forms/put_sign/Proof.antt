@@ -23,8 +23,9 @@ same-length : tie.Need-same-length
 same-length c = search needs
 
 returns : tie.Need-returns
-returns c = sign-wrote (c .before .before .before .before .before .before .before .before .before .before .before .before .before .before .before
-    .before .args .format) (c .before .before .before .before .before .before .before .before .before .before .before .put .ensures)
+returns c = sign-wrote
+    (c .before .before .before .before .before .before .before .before .before .before .before .before .before .before .before .before .args .format)
+    (c .before .before .before .before .before .before .before .before .before .before .before .put .ensures)
     (c .before .before .before .before .before .before .before .get .ensures)
     (c .before .before .before .before .before .before .put-operator .ensures) (c .before .before .space .ensures)
 

@@ -26,7 +26,9 @@ same-length : tie.Need-same-length
 same-length c = search needs
 
 returns : tie.Need-returns
-returns c = spelt (c .before .before .before .before .before .before .before .before .before .args .op) (c .before .before .before .before .before .before .get .ensures) (c .before .before .before .before .name .ensures) (c .before .before .put .ensures)
+returns c = spelt (c .before .before .before .before .before .before .before .before .before .args .op)
+    (c .before .before .before .before .before .before .get .ensures) (c .before .before .before .before .name .ensures)
+    (c .before .before .put .ensures)
 
 pub put-operator-spec : {M : Type 1} → statement M
 put-operator-spec =

@@ -65,7 +65,9 @@ binds-returns : (t : ℕ) → binds-lts.Need-returns (
   binds-below t,
   binds.Post,
 ) (binds-at t) binds.Post
-binds-returns t c = binds-none (c .before .before .before .before .before .before .before .args .text .now) (c .before .before .before .before .before .before .before .args .prefix .now) (c .before .before .after .ensures) (c .before .get .ensures) (c .if1 .taken)
+binds-returns t c = binds-none (c .before .before .before .before .before .before .before .args .text .now)
+    (c .before .before .before .before .before .before .before .args .prefix .now) (c .before .before .after .ensures) (c .before .get .ensures)
+    (c .if1 .taken)
 
 binds-put-requires : (t : ℕ) → binds-lts.Need-put-requires (
   after-reads.Asked,
@@ -122,11 +124,13 @@ binds-binds-requires : (t : ℕ) → binds-lts.Need-binds-requires (
   binds.Post,
 ) (binds-at t) binds.Post
 binds-binds-requires t c κs = (
-  passed (c .before .before .before .before .before .before .before .before .before .before .before .before .before
-      .before .before .before .before .pre .0) (c .before .before .before .before .before .before .before .before .before .before .before .before
-      .after .ensures) (inside (c .before .before .before .before .before .before .before .before .before .before .before .before .before .before
-      .before .before .before .args .words .now) (c .before .before .before .before .before .before .before .before .before .before .before .get
-      .ensures) (c .before .before .before .before .before .before .before .before .before .before .if1 .left))
+  passed
+      (c .before .before .before .before .before .before .before .before .before .before .before .before .before .before .before .before .before .pre .0)
+      (c .before .before .before .before .before .before .before .before .before .before .before .before .after .ensures)
+      (inside
+      (c .before .before .before .before .before .before .before .before .before .before .before .before .before .before .before .before .before .args .words .now)
+      (c .before .before .before .before .before .before .before .before .before .before .before .get .ensures)
+      (c .before .before .before .before .before .before .before .before .before .before .if1 .left))
       (c .before .before .before .before .typed .ensures .forward),
   tt,
 )
@@ -157,13 +161,13 @@ binds-returns-2 : (t : ℕ) → binds-lts.Need-returns-2 (
   binds-below t,
   binds.Post,
 ) (binds-at t) binds.Post
-binds-returns-2 t c = binds-more (c .before .before .before .before .before .before .before .before .before .before .before .before .before .before
-    .before .before .before .before .before .before .args .text .now)
-    (c .before .before .before .before .before .before .before .before .before .before .before .before .before .before .before .before .before
-    .before .before .before .args .prefix .now) (c .before .before .before .before .before .before .before .before .before .before .before .before
-    .before .before .before .after .ensures) (c .before .before .before .before .before .before .before .before .before .before .before .before
-    .before .before .get .ensures) (c .before .before .before .before .before .before .before .before .before .before .before .before .before .if1
-    .left) (c .before .before .before .before .before .before .before .before .before .before .before .put .ensures)
+binds-returns-2 t c = binds-more
+    (c .before .before .before .before .before .before .before .before .before .before .before .before .before .before .before .before .before .before .before .before .args .text .now)
+    (c .before .before .before .before .before .before .before .before .before .before .before .before .before .before .before .before .before .before .before .before .args .prefix .now)
+    (c .before .before .before .before .before .before .before .before .before .before .before .before .before .before .before .after .ensures)
+    (c .before .before .before .before .before .before .before .before .before .before .before .before .before .before .get .ensures)
+    (c .before .before .before .before .before .before .before .before .before .before .before .before .before .if1 .left)
+    (c .before .before .before .before .before .before .before .before .before .before .before .put .ensures)
     (c .before .before .before .before .before .before .before .typed .ensures) (c .before .before .binds .ensures)
 
 pub +binds-spec : {M : Type 1} → statement M

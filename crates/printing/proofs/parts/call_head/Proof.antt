@@ -17,7 +17,8 @@ same-length : tie.Need-same-length
 same-length c = search needs
 
 returns : tie.Need-returns
-returns c = call-head (c .before .before .before .before .before .before .before .before .before .before .before .before .args .text .now) (c .before .before .before .before .before .before .before .put-name .ensures) (c .before .before .put .ensures)
+returns c = call-head (c .before .before .before .before .before .before .before .before .before .before .before .before .args .text .now)
+    (c .before .before .before .before .before .before .before .put-name .ensures) (c .before .before .put .ensures)
 
 pub call-head-spec : {M : Type 1} → statement M
 call-head-spec =

@@ -25,12 +25,13 @@ same-length : tie.Need-same-length
 same-length c = search needs
 
 returns : tie.Need-returns
-returns c = closure-head (c .before .before .before .before .before .before .before .before .before .before .before .before .before .before .before
-    .before .before .before .before .before .args .text .now)
-    (unless (c .before .before .before .before .before .before .before .before .before .before .before .before .before .before .before .before
-    .before .before .before .before .args .first) (bytes ", "))
-    (c .before .before .before .before .before .before .before .before .before .before .before .before .before .before .before .put-separator
-    .ensures) (c .before .before .before .before .before .before .before .before .before .before .before .put-name .ensures)
+returns c = closure-head
+    (c .before .before .before .before .before .before .before .before .before .before .before .before .before .before .before .before .before .before .before .before .args .text .now)
+    (unless
+    (c .before .before .before .before .before .before .before .before .before .before .before .before .before .before .before .before .before .before .before .before .args .first)
+    (bytes ", "))
+    (c .before .before .before .before .before .before .before .before .before .before .before .before .before .before .before .put-separator .ensures)
+    (c .before .before .before .before .before .before .before .before .before .before .before .put-name .ensures)
     (c .before .before .before .before .before .before .before .parameters .ensures) (c .before .before .put .ensures)
 
 pub closure-head-spec : {M : Type 1} → statement M

@@ -29,9 +29,10 @@ same-length : tie.Need-same-length
 same-length c = search needs
 
 returns : tie.Need-returns
-returns c = identifier-prints (c .before .before .before .before .before .before .before .before .before .before .before .before .before .before
-    .before .before .args .text .now) (c .before .before .before .before .before .before .before .before .before .before .before .before .after
-    .ensures) (c .before .before .before .before .before .before .before .before .before .before .before .after2 .ensures)
+returns c = identifier-prints
+    (c .before .before .before .before .before .before .before .before .before .before .before .before .before .before .before .before .args .text .now)
+    (c .before .before .before .before .before .before .before .before .before .before .before .before .after .ensures)
+    (c .before .before .before .before .before .before .before .before .before .before .before .after2 .ensures)
     (c .before .before .before .before .before .before .before .before .before .get .ensures)
     (c .before .before .before .before .before .before .before .put-unless .ensures) (c .before .before .before .put-name .ensures)
     (c .after3 .ensures)

@@ -17,7 +17,8 @@ same-length : tie.Need-same-length
 same-length c = search needs
 
 returns : tie.Need-returns
-returns c = untyped (c .before .before .before .before .before .before .before .before .before .before .args .text .now) (c .before .before .before .before .before .put-name .ensures) (c .before .before .after .ensures) (c .before .get .ensures) (c .if1 .taken)
+returns c = untyped (c .before .before .before .before .before .before .before .before .before .before .args .text .now)
+    (c .before .before .before .before .before .put-name .ensures) (c .before .before .after .ensures) (c .before .get .ensures) (c .if1 .taken)
 
 slice-aggregate-put : tie.Need-slice-aggregate-put
 slice-aggregate-put c = search needs
@@ -32,8 +33,8 @@ same-length-2 : tie.Need-same-length-2
 same-length-2 c = search needs
 
 returns-2 : tie.Need-returns-2
-returns-2 c = is-typed (c .before .before .before .before .before .before .before .before .before .before .before .before .before .before .before
-    .before .before .before .before .args .text .now)
+returns-2 c = is-typed
+    (c .before .before .before .before .before .before .before .before .before .before .before .before .before .before .before .before .before .before .before .args .text .now)
     (c .before .before .before .before .before .before .before .before .before .before .before .before .before .before .put-name .ensures)
     (c .before .before .before .before .before .before .before .before .before .before .before .after .ensures)
     (c .before .before .before .before .before .before .before .before .before .before .get .ensures)

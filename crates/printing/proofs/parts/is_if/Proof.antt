@@ -14,7 +14,8 @@ get-requires-2 : tie.Need-get-requires-2
 get-requires-2 c κs = search needs
 
 returns : tie.Need-returns
-returns c = is-if-by (c .before .before .before .before .before .before .args .text .now) (c .before .before .before .get .ensures) (c .before .before .if1 .taken) (c .before .after .ensures) (c .get2 .ensures)
+returns c = is-if-by (c .before .before .before .before .before .before .args .text .now) (c .before .before .before .get .ensures)
+    (c .before .before .if1 .taken) (c .before .after .ensures) (c .get2 .ensures)
 
 returns-2 : tie.Need-returns-2
 returns-2 c = is-no-if (c .before .before .before .before .args .text .now) (c .before .get .ensures) (c .if1 .left)

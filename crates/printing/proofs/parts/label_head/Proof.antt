@@ -20,7 +20,10 @@ same-length : tie.Need-same-length
 same-length c = search needs
 
 returns : tie.Need-returns
-returns c = label-head (c .before .before .before .before .before .before .before .before .before .before .before .before .before .before .before .before .args .text .now) _ (c .before .before .before .before .before .before .before .before .before .before .before .parenthesis .ensures) (c .before .before .before .before .before .before .before .put-name .ensures) (c .before .before .put .ensures)
+returns c = label-head
+    (c .before .before .before .before .before .before .before .before .before .before .before .before .before .before .before .before .args .text .now)
+    _ (c .before .before .before .before .before .before .before .before .before .before .before .parenthesis .ensures)
+    (c .before .before .before .before .before .before .before .put-name .ensures) (c .before .before .put .ensures)
 
 pub label-head-spec : {M : Type 1} → statement M
 label-head-spec =

@@ -26,10 +26,11 @@ same-length : tie.Need-same-length
 same-length c = search needs
 
 returns : tie.Need-returns
-returns c = let-head (c .before .before .before .before .before .before .before .before .before .before .before .before .before .before .before
-    .before .before .before .before .before .before .args .text .now) _
-    (c .before .before .before .before .before .before .before .before .before .before .before .before .before .before .before .before .parenthesis
-    .ensures) (c .before .before .before .before .before .before .before .before .before .before .before .put .ensures)
+returns c = let-head
+    (c .before .before .before .before .before .before .before .before .before .before .before .before .before .before .before .before .before .before .before .before .before .args .text .now)
+    _
+    (c .before .before .before .before .before .before .before .before .before .before .before .before .before .before .before .before .parenthesis .ensures)
+    (c .before .before .before .before .before .before .before .before .before .before .before .put .ensures)
     (c .before .before .before .before .before .before .before .id-type .ensures) (c .before .before .put2 .ensures)
 
 pub let-head-spec : {M : Type 1} → statement M

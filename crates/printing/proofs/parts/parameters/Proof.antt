@@ -35,8 +35,8 @@ same-length : tie.Need-same-length
 same-length c = search needs
 
 returns-2 : tie.Need-returns-2
-returns-2 c = some-parameters (c .before .before .before .before .before .before .before .before .before .before .before .before .before .before
-    .before .before .before .before .before .before .args .text .now)
+returns-2 c = some-parameters
+    (c .before .before .before .before .before .before .before .before .before .before .before .before .before .before .before .before .before .before .before .before .args .text .now)
     (c .before .before .before .before .before .before .before .before .before .before .before .before .before .before .before .before .get .ensures)
     (c .before .before .before .before .before .before .before .before .before .before .before .before .before .before .before .if1 .left)
     (c .before .before .before .before .before .before .before .before .before .before .before .before .put .ensures)

@@ -21,7 +21,9 @@ same-length : tie.Need-same-length
 same-length c = search needs
 
 returns : tie.Need-returns
-returns c = bool-prints false (c .before .before .before .before .before .before .before .after .ensures) (c .before .before .before .before .before .before .get .ensures) (c .before .before .before .before .before .if1 .taken) (c .before .before .put .ensures)
+returns c = bool-prints false (c .before .before .before .before .before .before .before .after .ensures)
+    (c .before .before .before .before .before .before .get .ensures) (c .before .before .before .before .before .if1 .taken)
+    (c .before .before .put .ensures)
 
 slice-aggregate-put-2 : tie.Need-slice-aggregate-put-2
 slice-aggregate-put-2 c = search needs
@@ -33,7 +35,9 @@ same-length-2 : tie.Need-same-length-2
 same-length-2 c = search needs
 
 returns-2 : tie.Need-returns-2
-returns-2 c = bool-prints true (c .before .before .before .before .before .before .before .after .ensures) (c .before .before .before .before .before .before .get .ensures) (c .before .before .before .before .before .if1 .left) (c .before .before .put2 .ensures)
+returns-2 c = bool-prints true (c .before .before .before .before .before .before .before .after .ensures)
+    (c .before .before .before .before .before .before .get .ensures) (c .before .before .before .before .before .if1 .left)
+    (c .before .before .put2 .ensures)
 
 pub put-bool-spec : {M : Type 1} → statement M
 put-bool-spec =

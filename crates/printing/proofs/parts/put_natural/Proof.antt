@@ -20,7 +20,9 @@ same-length : tie.Need-same-length
 same-length c = search needs
 
 returns : tie.Need-returns
-returns c = natural-prints (c .before .before .before .before .before .before .after .ensures) (c .before .before .before .before .before .after2 .ensures) (c .before .before .before .natural .ensures) (c .before .before .put-decimal .ensures)
+returns c = natural-prints (c .before .before .before .before .before .before .after .ensures)
+    (c .before .before .before .before .before .after2 .ensures) (c .before .before .before .natural .ensures)
+    (c .before .before .put-decimal .ensures)
 
 pub put-natural-spec : {M : Type 1} → statement M
 put-natural-spec =

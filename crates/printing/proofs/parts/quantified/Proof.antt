@@ -21,7 +21,9 @@ same-length : tie.Need-same-length
 same-length c = search needs
 
 returns : tie.Need-returns
-returns c = quantified-prints (c .before .before .before .before .before .before .before .before .before .before .before .args .text .now) false (c .before .before .before .before .before .before .before .after .ensures) (c .before .before .before .before .before .before .get .ensures) (c .before .before .before .before .before .if1 .taken) (c .before .before .binds .ensures)
+returns c = quantified-prints (c .before .before .before .before .before .before .before .before .before .before .before .args .text .now) false
+    (c .before .before .before .before .before .before .before .after .ensures) (c .before .before .before .before .before .before .get .ensures)
+    (c .before .before .before .before .before .if1 .taken) (c .before .before .binds .ensures)
 
 slice-aggregate-binds-2 : tie.Need-slice-aggregate-binds-2
 slice-aggregate-binds-2 c = search needs
@@ -33,7 +35,9 @@ same-length-2 : tie.Need-same-length-2
 same-length-2 c = search needs
 
 returns-2 : tie.Need-returns-2
-returns-2 c = quantified-prints (c .before .before .before .before .before .before .before .before .before .before .before .args .text .now) true (c .before .before .before .before .before .before .before .after .ensures) (c .before .before .before .before .before .before .get .ensures) (c .before .before .before .before .before .if1 .left) (c .before .before .binds2 .ensures)
+returns-2 c = quantified-prints (c .before .before .before .before .before .before .before .before .before .before .before .args .text .now) true
+    (c .before .before .before .before .before .before .before .after .ensures) (c .before .before .before .before .before .before .get .ensures)
+    (c .before .before .before .before .before .if1 .left) (c .before .before .binds2 .ensures)
 
 pub quantified-spec : {M : Type 1} → statement M
 quantified-spec =

@@ -14,7 +14,8 @@ same-length : tie.Need-same-length
 same-length c = search needs
 
 returns : tie.Need-returns
-returns c = quantifier-head (c .before .before .before .before .before .before .before .before .before .before .before .args .text .now) _ (c .before .before .before .before .before .before .parenthesis .ensures) (c .before .before .quantified .ensures)
+returns c = quantifier-head (c .before .before .before .before .before .before .before .before .before .before .before .args .text .now) _
+    (c .before .before .before .before .before .before .parenthesis .ensures) (c .before .before .quantified .ensures)
 
 pub quantifier-head-spec : {M : Type 1} → statement M
 quantifier-head-spec =

@@ -20,7 +20,10 @@ same-length : tie.Need-same-length
 same-length c = search needs
 
 returns : tie.Need-returns
-returns c = typed-prints (c .before .before .before .before .before .before .before .before .before .before .before .before .before .before .before .before .args .text .now) (c .before .before .before .before .before .before .before .before .before .before .before .put-name .ensures) (c .before .before .before .before .before .before .put .ensures) (c .before .before .put-name2 .ensures)
+returns c = typed-prints
+    (c .before .before .before .before .before .before .before .before .before .before .before .before .before .before .before .before .args .text .now)
+    (c .before .before .before .before .before .before .before .before .before .before .before .put-name .ensures)
+    (c .before .before .before .before .before .before .put .ensures) (c .before .before .put-name2 .ensures)
 
 pub typed-spec : {M : Type 1} → statement M
 typed-spec =

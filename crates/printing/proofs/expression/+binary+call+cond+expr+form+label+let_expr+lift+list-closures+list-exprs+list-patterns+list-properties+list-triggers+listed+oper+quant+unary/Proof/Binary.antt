@@ -37,7 +37,7 @@ module _ (t : ℕ) where
   abbrev at-start : Of lts.Start → Reached
   at-start c =
       seen
-      (begin (c .args .text .now) (c .args .context) (c .args .format) (aBinary (c .args .text .now) (c .args .words .now) (c .args .ends .now) (c .args .at) (c .args .context) (c .args .format))
+      (begin (c .args .text .now) (c .args .counts .now) (c .args .context) (c .args .format) (aBinary (c .args .text .now) (c .args .words .now) (c .args .counts .now) (c .args .at) (c .args .context) (c .args .format))
       (c .args .words .now) (c .args .at) (c .args .out .now) (c .args .pos) 0 (c .pre .1) (c .pre .0))
       _ (λ x. binary-print (c .args .text .now) (x .tree .0) (x .tree .1) (x .tree .2) (c .args .context) (c .args .format))
 
@@ -47,9 +47,9 @@ module _ (t : ℕ) where
   abbrev at-left : Of lts.After-expr → Reached
   at-left c =
       expression (at-operands (c .before .before .before .before .before .before .before)) SingleLine (c .expr .ensures) (λ x. x .tree .1)
-      (λ x. ready (at-operands (c .before .before .before .before .before .before .before)) (omega arith) (x .given)) _ _
+      _ (λ x. (ready (at-operands (c .before .before .before .before .before .before .before)) (omega arith) (x .given .0), x .given .1 .1 .0)) _ _
       (λ x. operand-context (at-operands (c .before .before .before .before .before .before .before) .origin) x (x .tree .0) refl Left (c .before .before .operand-power .ensures))
-      (λ x. refl) _ _ (λ x. refl) (λ x. refl)
+      (λ x. refl) _ (λ x. refl) (λ x. refl)
 
   abbrev at-sign : Of lts.After-put-sign → Reached
   at-sign c =
@@ -62,13 +62,16 @@ module _ (t : ℕ) where
   abbrev at-right : Of lts.After-expr2 → Reached
   at-right c =
       expression (at-second (c .before .before)) (c .before .before .before .before .before .before .before .before .format-after .result) (c .expr2 .ensures) (λ x. x .tree .2)
-      (λ x. ready (at-second (c .before .before))
-      (right-indent (x .tree .0) _
-      (right-format (at-second (c .before .before) .origin) x (x .tree .0) refl (c .before .before .before .before .before .before .before .before .format-after .ensures)))
-      (x .given)) _ _
+      _ (λ x. (
+        ready (at-second (c .before .before))
+            (right-indent (x .tree .0) _
+            (right-format (at-second (c .before .before) .origin) x (x .tree .0) refl (c .before .before .before .before .before .before .before .before .format-after .ensures)))
+            (x .given .0),
+        x .given .1 .1 .1 .0,
+      )) _ _
       (λ x. operand-context (at-second (c .before .before) .origin) x (x .tree .0) refl Right (c .before .before .before .operand-power2 .ensures))
       (λ x. right-format (at-second (c .before .before) .origin) x (x .tree .0) refl (c .before .before .before .before .before .before .before .before .format-after .ensures))
-      _ _ (λ x. refl) (λ x. refl)
+      _ (λ x. refl) (λ x. refl)
 
   abbrev at-end : Of lts.After-after2 → Reached
   at-end c = passed (at-right (c .before .before .before)) (c .after2 .ensures) _ _ (λ x. refl)

@@ -32,18 +32,17 @@ module _ (t : ℕ) where
   abbrev at-start : Of lts.Start → Reached
   at-start c =
       seen
-      (begin (c .args .text .now) Init SingleLine (aCall (c .args .text .now) (c .args .words .now) (c .args .ends .now) (c .args .at))
+      (begin (c .args .text .now) (c .args .counts .now) Init SingleLine (aCall (c .args .text .now) (c .args .words .now) (c .args .counts .now) (c .args .at))
       (c .args .words .now) (c .args .at) (c .args .out .now) (c .args .pos) 0 (c .pre .1) (c .pre .0))
       _ (λ x. call-print (c .args .text .now) (x .tree .0) (x .tree .1) Init SingleLine)
 
   abbrev at-head : Of lts.After-call-head → Reached
   at-head c =
-      part (ahead (at-start (c .before .before .before .before .before .before)) 1 _ (λ x. refl)) (c .call-head .ensures) (λ x. x .tree .0) (λ x. tt) _ _ (λ x. refl) (λ x. refl)
+      part (ahead (at-start (c .before .before .before .before .before .before)) 1 _ (λ x. refl)) (c .call-head .ensures) (λ x. x .tree .0) _ (λ x. tt) _ (λ x. refl) (λ x. refl)
 
   abbrev at-list : Of lts.After-exprs → Reached
   at-list c =
-      part (at-head (c .before .before .before .before)) (c .exprs .ensures) (λ x. x .tree .1)
-      (λ x. ready (at-head (c .before .before .before .before)) (omega arith) (x .given)) _ _ (λ x. refl) (λ x. refl)
+      part (at-head (c .before .before .before .before)) (c .exprs .ensures) (λ x. x .tree .1) _ (λ x. (ready (at-head (c .before .before .before .before)) (omega arith) (x .given .0), x .given .1 .1)) _ (λ x. refl) (λ x. refl)
 
   abbrev at-end : Of lts.After-put → Reached
   at-end c = text (at-list (c .before .before .before .before .before)) (c .put .ensures) _ (λ x. refl)

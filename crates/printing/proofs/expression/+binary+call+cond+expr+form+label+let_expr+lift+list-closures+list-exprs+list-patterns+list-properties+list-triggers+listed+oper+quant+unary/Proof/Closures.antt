@@ -45,7 +45,7 @@ module _ (t : ℕ) where
   abbrev at-start : (c : Of lts.Start) → c .args .at < length (c .args .words .now) → Reached
   at-start c h =
       seen
-      (begin (c .args .text .now) Init SingleLine (someClosures (c .args .text .now) (c .args .words .now) (c .args .ends .now) (c .args .at) (c .args .first))
+      (begin (c .args .text .now) (c .args .counts .now) Init SingleLine (someClosures (c .args .text .now) (c .args .words .now) (c .args .counts .now) (c .args .at) (c .args .first))
       (c .args .words .now) (c .args .at) (c .args .out .now) (c .args .pos) 0 h (c .pre .0))
       _ (λ x. closures-print (c .args .text .now) (unless (c .args .first) (bytes ", ")) (x .tree .0) (x .tree .1) (x .tree .2) (x .tree .3))
 
@@ -58,20 +58,19 @@ module _ (t : ℕ) where
 
   abbrev at-head : Of lts.After-closure-head → Reached
   at-head c =
-      part (at-item (c .before .before)) (c .closure-head .ensures) (λ x. (x .tree .0, x .tree .1)) (λ x. tt) _ _ (λ x. refl) (λ x. refl)
+      part (at-item (c .before .before)) (c .closure-head .ensures) (λ x. (x .tree .0, x .tree .1)) _ (λ x. tt) _ (λ x. refl) (λ x. refl)
 
   abbrev at-value : Of lts.After-expr → Reached
   at-value c =
       expression (at-head (c .before .before .before .before)) SingleLine (c .expr .ensures) (λ x. x .tree .2)
-      (λ x. ready (at-head (c .before .before .before .before)) (omega arith) (x .given)) _ _ (λ x. refl) (λ x. refl) _ _ (λ x. refl) (λ x. refl)
+      _ (λ x. (ready (at-head (c .before .before .before .before)) (omega arith) (x .given .0), x .given .1 .1)) _ _ (λ x. refl) (λ x. refl) _ (λ x. refl) (λ x. refl)
 
   abbrev at-end : Of lts.After-closures → Reached
   at-end c =
-      part (at-value (c .before .before .before .before)) (c .closures .ensures) (λ x. x .tree .3)
-      (λ x. ready (at-value (c .before .before .before .before)) (omega arith) (x .given)) _ _ (λ x. refl) (λ x. refl)
+      part (at-value (c .before .before .before .before)) (c .closures .ensures) (λ x. x .tree .3) _ (λ x. (ready (at-value (c .before .before .before .before)) (omega arith) (x .given .0), x .given .1 .2)) _ (λ x. refl) (λ x. refl)
 
   returns : Of lts.Need-returns
-  returns c = closures-none (c .before .before .before .before .before .before .before .args .text .now) (c .before .before .after .ensures)
+  returns c = closures-none (c .before .before .before .before .before .before .before .args .text .now) (c .before .before .before .before .before .before .before .args .counts .now) (c .before .before .after .ensures)
       (c .before .get .ensures) (c .if1 .taken) (c .before .before .before .before .before .before .before .args .first)
 
   expr-requires : Of lts.Need-expr-requires
@@ -82,9 +81,9 @@ module _ (t : ℕ) where
 
   -- the print of an item and the others is that of the sequence
   with-item : (c : Of lts.Start) {g : ℕ} {b : List ℕ} {s : Step} → g ≡ getD (c .args .words .now) (c .args .at) 0 → (g ≡ 0 → ⊥)
-      → Prints (someClosures (c .args .text .now) (c .args .words .now) (c .args .ends .now) (c .args .at) (c .args .first)) (c .args .words .now) (c .args .at) (c .args .out .now) (c .args .pos) b s
-      → Prints (closureList (c .args .text .now) (c .args .words .now) (c .args .ends .now) (c .args .at) (c .args .first)) (c .args .words .now) (c .args .at) (c .args .out .now) (c .args .pos) b s
-  with-item c e z p = closures-more (c .args .text .now) (c .args .words .now) (c .args .ends .now) (c .args .at) e z (c .args .first) p
+      → Prints (someClosures (c .args .text .now) (c .args .words .now) (c .args .counts .now) (c .args .at) (c .args .first)) (c .args .words .now) (c .args .at) (c .args .out .now) (c .args .pos) b s
+      → Prints (closureList (c .args .text .now) (c .args .words .now) (c .args .counts .now) (c .args .at) (c .args .first)) (c .args .words .now) (c .args .at) (c .args .out .now) (c .args .pos) b s
+  with-item c e z p = closures-more (c .args .text .now) (c .args .words .now) (c .args .counts .now) (c .args .at) e z (c .args .first) p
 
   returns-2 : Of lts.Need-returns-2
   returns-2 c = with-item

@@ -46,7 +46,7 @@ module _ (t : ℕ) where
   abbrev at-start : Of lts.Start → Reached
   at-start c =
       seen
-      (begin (c .args .text .now) (c .args .context) (c .args .format) (aConditional (c .args .text .now) (c .args .words .now) (c .args .ends .now) (c .args .at) (c .args .context) (c .args .format))
+      (begin (c .args .text .now) (c .args .counts .now) (c .args .context) (c .args .format) (aConditional (c .args .text .now) (c .args .words .now) (c .args .counts .now) (c .args .at) (c .args .context) (c .args .format))
       (c .args .words .now) (c .args .at) (c .args .out .now) (c .args .pos) 0 (c .pre .1) (c .pre .0))
       _ (λ x. conditional-print (c .args .text .now) (x .tree .0) (x .tree .1) (x .tree .2) (x .tree .3) (c .args .context) (c .args .format))
 
@@ -56,7 +56,7 @@ module _ (t : ℕ) where
   abbrev at-test : Of lts.After-expr → Reached
   at-test c =
       expression (at-if (c .before .before .before .before)) SingleLine (c .expr .ensures) (λ x. x .tree .1)
-      (λ x. ready (at-if (c .before .before .before .before)) (omega arith) (x .given)) _ _ (λ x. refl) (λ x. refl) _ _ (λ x. refl) (λ x. refl)
+      _ (λ x. (ready (at-if (c .before .before .before .before)) (omega arith) (x .given .0), x .given .1 .1 .0)) _ _ (λ x. refl) (λ x. refl) _ (λ x. refl) (λ x. refl)
 
   abbrev at-second : Of lts.After-after → Reached
   at-second c = passed (at-test (c .before .before .before)) (c .after .ensures) _ _ (λ x. refl)
@@ -65,7 +65,7 @@ module _ (t : ℕ) where
   at-indent c =
       formatted (at-second (c .before))
       (λ f x r. branches (at-second (c .before) .origin .text) (x .tree .0) (x .tree .2) (x .tree .3) (at-second (c .before) .origin .context) (at-second (c .before) .origin .format) f r)
-      (λ x. one-deeper (at-second (c .before)) (c .more .ensures) (x .given)) (λ x. refl)
+      (λ x. one-deeper (at-second (c .before)) (c .more .ensures) (x .given .0)) (λ x. refl)
 
   abbrev at-space : Of lts.After-space → Reached
   at-space c = text (at-indent (c .before .before)) (c .space .ensures) _ (λ x. refl)
@@ -73,8 +73,8 @@ module _ (t : ℕ) where
   abbrev at-then : Of lts.After-expr2 → Reached
   at-then c =
       expression (at-space (c .before .before .before .before)) (c .before .before .before .before .before .before .more .result) (c .expr2 .ensures) (λ x. x .tree .2)
-      (λ x. ready-more (at-space (c .before .before .before .before)) (omega arith) (c .before .before .before .before .before .before .more .ensures) (x .given))
-      _ _ (λ x. refl) (λ x. refl) _ _ (λ x. refl) (λ x. refl)
+      _ (λ x. (ready-more (at-space (c .before .before .before .before)) (omega arith) (c .before .before .before .before .before .before .more .ensures) (x .given .0), x .given .1 .1 .1 .0))
+      _ _ (λ x. refl) (λ x. refl) _ (λ x. refl) (λ x. refl)
 
   abbrev at-third : Of lts.After-after2 → Reached
   at-third c = passed (at-then (c .before .before .before)) (c .after2 .ensures) _ _ (λ x. refl)
@@ -84,22 +84,22 @@ module _ (t : ℕ) where
       text-of (at-third (c .before .before))
       (λ x r. Space (at-third (c .before .before) .origin .format) ++
       (bytes "else" ++ (elseSpace (at-third (c .before .before) .origin .text) (x .tree .3) (at-third (c .before .before) .origin .format) ++ r))) _
-      (λ x. c .else-head .ensures .else-head (small (at-third (c .before .before) .origin) (x .given)) (x .tree .3) _ (at-third (c .before .before) .left x)) (λ x. refl)
+      (λ x. c .else-head .ensures .else-head (small (at-third (c .before .before) .origin) (x .given .0)) (x .tree .3) _ (at-third (c .before .before) .left x)) (λ x. refl)
 
   -- the format after `else`
   is-format : (c : Of lts.After-else-format) (x : Begun (at-third (c .before .before .before .before .before .before) .origin))
       → c .else-format .result ≡ elseFormat (at-third (c .before .before .before .before .before .before) .origin .text) (x .tree .3)
       (at-third (c .before .before .before .before .before .before) .origin .format)
-  is-format c x = c .else-format .ensures .else-format (small (at-third (c .before .before .before .before .before .before) .origin) (x .given))
+  is-format c x = c .else-format .ensures .else-format (small (at-third (c .before .before .before .before .before .before) .origin) (x .given .0))
       (x .tree .3) _ (at-third (c .before .before .before .before .before .before) .left x)
 
   abbrev at-last : Of lts.After-expr3 → Reached
   at-last c =
       expression (at-else (c .before .before .before .before .before .before)) (c .before .before .else-format .result) (c .expr3 .ensures) (λ x. x .tree .3)
-      (λ x. ready-deeper (at-else (c .before .before .before .before .before .before)) (omega arith) (else-indent (x .tree .3) _ (is-format (c .before .before) x)) (x .given))
+      _ (λ x. (ready-deeper (at-else (c .before .before .before .before .before .before)) (omega arith) (else-indent (x .tree .3) _ (is-format (c .before .before) x)) (x .given .0), x .given .1 .1 .1 .1 .0))
       _ _
       (λ x. operand-context (at-else (c .before .before .before .before .before .before) .origin) x (x .tree .0) refl Right (c .before .before .before .operand-power .ensures))
-      (λ x. is-format (c .before .before) x) _ _ (λ x. refl) (λ x. refl)
+      (λ x. is-format (c .before .before) x) _ (λ x. refl) (λ x. refl)
 
   abbrev at-end : Of lts.After-after3 → Reached
   at-end c = passed (at-last (c .before .before .before)) (c .after3 .ensures) _ _ (λ x. refl)

@@ -32,19 +32,19 @@ module _ (t : ℕ) where
   abbrev at-start : Of lts.Start → Reached
   at-start c =
       seen
-      (begin (c .args .text .now) (c .args .context) (c .args .format) (aLabel (c .args .text .now) (c .args .words .now) (c .args .ends .now) (c .args .at) (c .args .context) (c .args .format))
+      (begin (c .args .text .now) (c .args .counts .now) (c .args .context) (c .args .format) (aLabel (c .args .text .now) (c .args .words .now) (c .args .counts .now) (c .args .at) (c .args .context) (c .args .format))
       (c .args .words .now) (c .args .at) (c .args .out .now) (c .args .pos) 0 (c .pre .1) (c .pre .0))
       _ (λ x. label-print (c .args .text .now) (x .tree .0) (x .tree .1) (c .args .context) (c .args .format))
 
   abbrev at-head : Of lts.After-label-head → Reached
   at-head c =
-      part (ahead (at-start (c .before .before .before .before .before .before)) 1 _ (λ x. refl)) (c .label-head .ensures) (λ x. x .tree .0) (λ x. tt) _ _ (λ x. refl) (λ x. refl)
+      part (ahead (at-start (c .before .before .before .before .before .before)) 1 _ (λ x. refl)) (c .label-head .ensures) (λ x. x .tree .0) _ (λ x. tt) _ (λ x. refl) (λ x. refl)
 
   abbrev at-body : Of lts.After-expr → Reached
   at-body c =
       expression (at-head (c .before .before .before .before .before))
       (c .before .before .before .before .before .before .before .before .before .before .before .args .format) (c .expr .ensures) (λ x. x .tree .1)
-      (λ x. ready (at-head (c .before .before .before .before .before)) (omega arith) (x .given)) _ _ (λ x. c .before .before .subexpression-power .ensures) (λ x. refl) _ _ (λ x. refl) (λ x. refl)
+      _ (λ x. (ready (at-head (c .before .before .before .before .before)) (omega arith) (x .given .0), x .given .1)) _ _ (λ x. c .before .before .subexpression-power .ensures) (λ x. refl) _ (λ x. refl) (λ x. refl)
 
   abbrev at-end : Of lts.After-parenthesis → Reached
   at-end c = text (at-body (c .before .before .before .before)) (c .parenthesis .ensures) _ (λ x. refl)

@@ -34,7 +34,7 @@ module _ (t : ℕ) where
   abbrev at-start : Of lts.Start → Reached
   at-start c =
       seen
-      (begin (c .args .text .now) Init SingleLine (aClosure (c .args .text .now) (c .args .words .now) (c .args .ends .now) (c .args .at))
+      (begin (c .args .text .now) (c .args .counts .now) Init SingleLine (aClosure (c .args .text .now) (c .args .words .now) (c .args .counts .now) (c .args .at))
       (c .args .words .now) (c .args .at) (c .args .out .now) (c .args .pos) 0 (c .pre .1) (c .pre .0))
       _ (λ x. closure-print (c .args .text .now) (x .tree .0) (x .tree .1) (x .tree .2) (x .tree .3) Init SingleLine)
 
@@ -43,17 +43,15 @@ module _ (t : ℕ) where
 
   abbrev at-bindings : Of lts.After-closures → Reached
   at-bindings c =
-      part (at-word (c .before .before .before .before)) (c .closures .ensures) (λ x. x .tree .0)
-      (λ x. ready (at-word (c .before .before .before .before)) (omega arith) (x .given)) _ _ (λ x. refl) (λ x. refl)
+      part (at-word (c .before .before .before .before)) (c .closures .ensures) (λ x. x .tree .0) _ (λ x. (ready (at-word (c .before .before .before .before)) (omega arith) (x .given .0), x .given .1 .1)) _ (λ x. refl) (λ x. refl)
 
   abbrev at-result : Of lts.After-closure-result → Reached
   at-result c =
-      part (at-bindings (c .before .before .before .before)) (c .closure-result .ensures) (λ x. (x .tree .1, x .tree .2)) (λ x. tt) _ _ (λ x. refl) (λ x. refl)
+      part (at-bindings (c .before .before .before .before)) (c .closure-result .ensures) (λ x. (x .tree .1, x .tree .2)) _ (λ x. tt) _ (λ x. refl) (λ x. refl)
 
   abbrev at-properties : Of lts.After-properties → Reached
   at-properties c =
-      part (at-result (c .before .before .before .before)) (c .properties .ensures) (λ x. x .tree .3)
-      (λ x. ready (at-result (c .before .before .before .before)) (omega arith) (x .given)) _ _ (λ x. refl) (λ x. refl)
+      part (at-result (c .before .before .before .before)) (c .properties .ensures) (λ x. x .tree .3) _ (λ x. (ready (at-result (c .before .before .before .before)) (omega arith) (x .given .0), x .given .1 .3)) _ (λ x. refl) (λ x. refl)
 
   abbrev at-end : Of lts.After-put2 → Reached
   at-end c = text (at-properties (c .before .before .before .before .before)) (c .put2 .ensures) _ (λ x. refl)

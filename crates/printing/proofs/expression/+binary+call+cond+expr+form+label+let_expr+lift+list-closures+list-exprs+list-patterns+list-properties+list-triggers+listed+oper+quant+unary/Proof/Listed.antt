@@ -34,7 +34,7 @@ module _ (t : ℕ) where
 
   abbrev at-start : Of lts.Start → Reached
   at-start c =
-      begin (c .args .text .now) Init SingleLine (aListed (c .args .text .now) (c .args .words .now) (c .args .ends .now) (c .args .at))
+      begin (c .args .text .now) (c .args .counts .now) Init SingleLine (aListed (c .args .text .now) (c .args .words .now) (c .args .counts .now) (c .args .at))
       (c .args .words .now) (c .args .at) (c .args .out .now) (c .args .pos) 0 (c .pre .1) (c .pre .0)
 
   abbrev at-head : Of lts.After-listed-head → Reached
@@ -45,8 +45,7 @@ module _ (t : ℕ) where
 
   abbrev at-list : Of lts.After-exprs → Reached
   at-list c =
-      part (at-head (c .before .before .before .before)) (c .exprs .ensures) (λ x. x .tree .1)
-      (λ x. ready (at-head (c .before .before .before .before)) (omega arith) (x .given)) _ _ (λ x. refl) (λ x. refl)
+      part (at-head (c .before .before .before .before)) (c .exprs .ensures) (λ x. x .tree .1) _ (λ x. (ready (at-head (c .before .before .before .before)) (omega arith) (x .given .0), x .given .1 .1)) _ (λ x. refl) (λ x. refl)
 
   abbrev at-end : Of lts.After-put → Reached
   at-end c = text (at-list (c .before .before .before .before .before)) (c .put .ensures) _ (λ x. refl)

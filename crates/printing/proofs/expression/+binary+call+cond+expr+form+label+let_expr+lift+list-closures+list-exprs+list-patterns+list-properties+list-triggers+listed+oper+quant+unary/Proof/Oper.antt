@@ -39,8 +39,8 @@ module _ (t : ℕ) where
   abbrev at-start : Of lts.Start → Reached
   at-start c =
       seen
-      (begin (c .args .text .now) (c .args .context) (c .args .format)
-      (anOperatorExpr (c .args .text .now) (c .args .words .now) (c .args .ends .now) (c .args .at) (c .args .context) (c .args .format))
+      (begin (c .args .text .now) (c .args .counts .now) (c .args .context) (c .args .format)
+      (anOperatorExpr (c .args .text .now) (c .args .words .now) (c .args .counts .now) (c .args .at) (c .args .context) (c .args .format))
       (c .args .words .now) (c .args .at) (c .args .out .now) (c .args .pos) 2 (c .pre .1) (c .pre .0))
       _ (λ x. operator-print (c .args .text .now) (x .tree .0) (x .tree .1) (c .args .context) (c .args .format))
 
@@ -60,7 +60,7 @@ module _ (t : ℕ) where
 
   abbrev at-form : Of lts.After-form → Reached
   at-form c =
-      part (at-left (c .before .before .before .before)) (c .form .ensures) (λ x. x .tree) (λ x. x .given) _ _ (λ x. refl) (λ x. refl)
+      part (at-left (c .before .before .before .before)) (c .form .ensures) (λ x. x .tree) _ (λ x. x .given) _ (λ x. refl) (λ x. refl)
 
   abbrev at-end : Of lts.After-parenthesis2 → Reached
   at-end c =

@@ -43,7 +43,7 @@ module _ (t : ℕ) where
   abbrev at-start : (c : Of lts.Start) → c .args .at < length (c .args .words .now) → Reached
   at-start c h =
       seen
-      (begin (c .args .text .now) Init SingleLine (somePatterns (c .args .text .now) (c .args .words .now) (c .args .ends .now) (c .args .at) (c .args .ind))
+      (begin (c .args .text .now) (c .args .counts .now) Init SingleLine (somePatterns (c .args .text .now) (c .args .words .now) (c .args .counts .now) (c .args .at) (c .args .ind))
       (c .args .words .now) (c .args .at) (c .args .out .now) (c .args .pos) 0 h (c .pre .0))
       _ (λ x. patterns-print (c .args .text .now) (x .tree .0) (x .tree .1) (c .args .ind))
 
@@ -59,16 +59,14 @@ module _ (t : ℕ) where
 
   abbrev at-list : Of lts.After-exprs → Reached
   at-list c =
-      part (at-head (c .before .before .before .before)) (c .exprs .ensures) (λ x. x .tree .0)
-      (λ x. ready (at-head (c .before .before .before .before)) (omega arith) (x .given)) _ _ (λ x. refl) (λ x. refl)
+      part (at-head (c .before .before .before .before)) (c .exprs .ensures) (λ x. x .tree .0) _ (λ x. (ready (at-head (c .before .before .before .before)) (omega arith) (x .given .0), x .given .1 .1)) _ (λ x. refl) (λ x. refl)
 
   abbrev at-end : Of lts.After-patterns → Reached
   at-end c =
-      part (at-list (c .before .before .before .before)) (c .patterns .ensures) (λ x. x .tree .1)
-      (λ x. ready (at-list (c .before .before .before .before)) (omega arith) (x .given)) _ _ (λ x. refl) (λ x. refl)
+      part (at-list (c .before .before .before .before)) (c .patterns .ensures) (λ x. x .tree .1) _ (λ x. (ready (at-list (c .before .before .before .before)) (omega arith) (x .given .0), x .given .1 .2)) _ (λ x. refl) (λ x. refl)
 
   returns : Of lts.Need-returns
-  returns c = patterns-none (c .before .before .before .before .before .before .before .args .text .now) (c .before .before .after .ensures)
+  returns c = patterns-none (c .before .before .before .before .before .before .before .args .text .now) (c .before .before .before .before .before .before .before .args .counts .now) (c .before .before .after .ensures)
       (c .before .get .ensures) (c .if1 .taken) (c .before .before .before .before .before .before .before .args .ind)
 
   exprs-requires : Of lts.Need-exprs-requires
@@ -79,9 +77,9 @@ module _ (t : ℕ) where
 
   -- the print of an item and the others is that of the sequence
   with-item : (c : Of lts.Start) {g : ℕ} {b : List ℕ} {s : Step} → g ≡ getD (c .args .words .now) (c .args .at) 0 → (g ≡ 0 → ⊥)
-      → Prints (somePatterns (c .args .text .now) (c .args .words .now) (c .args .ends .now) (c .args .at) (c .args .ind)) (c .args .words .now) (c .args .at) (c .args .out .now) (c .args .pos) b s
-      → Prints (patternList (c .args .text .now) (c .args .words .now) (c .args .ends .now) (c .args .at) (c .args .ind)) (c .args .words .now) (c .args .at) (c .args .out .now) (c .args .pos) b s
-  with-item c e z p = patterns-more (c .args .text .now) (c .args .words .now) (c .args .ends .now) (c .args .at) e z (c .args .ind) p
+      → Prints (somePatterns (c .args .text .now) (c .args .words .now) (c .args .counts .now) (c .args .at) (c .args .ind)) (c .args .words .now) (c .args .at) (c .args .out .now) (c .args .pos) b s
+      → Prints (patternList (c .args .text .now) (c .args .words .now) (c .args .counts .now) (c .args .at) (c .args .ind)) (c .args .words .now) (c .args .at) (c .args .out .now) (c .args .pos) b s
+  with-item c e z p = patterns-more (c .args .text .now) (c .args .words .now) (c .args .counts .now) (c .args .at) e z (c .args .ind) p
 
   returns-2 : Of lts.Need-returns-2
   returns-2 c = with-item

@@ -51,7 +51,7 @@ module _ (t : ℕ) where
   abbrev at-start : (c : Of lts.Start) → c .args .at < length (c .args .words .now) → Reached
   at-start c h =
       seen
-      (begin (c .args .text .now) Init SingleLine (someProperties (c .args .text .now) (c .args .words .now) (c .args .ends .now) (c .args .at) (c .args .first))
+      (begin (c .args .text .now) (c .args .counts .now) Init SingleLine (someProperties (c .args .text .now) (c .args .words .now) (c .args .counts .now) (c .args .at) (c .args .first))
       (c .args .words .now) (c .args .at) (c .args .out .now) (c .args .pos) 0 h (c .pre .0))
       _ (λ x. properties-print (c .args .text .now) (unless (c .args .first) (bytes ", ")) (x .tree .0) (x .tree .1) (x .tree .2))
 
@@ -67,8 +67,7 @@ module _ (t : ℕ) where
 
   abbrev at-triggers : Of lts.After-triggers → Reached
   at-triggers c =
-      part (at-separator (c .before .before .before .before)) (c .triggers .ensures) (λ x. x .tree .0)
-      (λ x. ready (at-separator (c .before .before .before .before)) (omega arith) (x .given)) _ _ (λ x. refl) (λ x. refl)
+      part (at-separator (c .before .before .before .before)) (c .triggers .ensures) (λ x. x .tree .0) _ (λ x. (ready (at-separator (c .before .before .before .before)) (omega arith) (x .given .0), x .given .1 .1)) _ (λ x. refl) (λ x. refl)
 
   abbrev at-colons : Of lts.After-put-unless → Reached
   at-colons c =
@@ -85,15 +84,14 @@ module _ (t : ℕ) where
   abbrev at-body : Of lts.After-expr → Reached
   at-body c =
       expression (at-colons (c .before .before .before .before)) SingleLine (c .expr .ensures) (λ x. x .tree .1)
-      (λ x. ready (at-colons (c .before .before .before .before)) (omega arith) (x .given)) _ _ (λ x. refl) (λ x. refl) _ _ (λ x. refl) (λ x. refl)
+      _ (λ x. (ready (at-colons (c .before .before .before .before)) (omega arith) (x .given .0), x .given .1 .2)) _ _ (λ x. refl) (λ x. refl) _ (λ x. refl) (λ x. refl)
 
   abbrev at-end : Of lts.After-properties → Reached
   at-end c =
-      part (at-body (c .before .before .before .before)) (c .properties .ensures) (λ x. x .tree .2)
-      (λ x. ready (at-body (c .before .before .before .before)) (omega arith) (x .given)) _ _ (λ x. refl) (λ x. refl)
+      part (at-body (c .before .before .before .before)) (c .properties .ensures) (λ x. x .tree .2) _ (λ x. (ready (at-body (c .before .before .before .before)) (omega arith) (x .given .0), x .given .1 .3)) _ (λ x. refl) (λ x. refl)
 
   returns : Of lts.Need-returns
-  returns c = properties-none (c .before .before .before .before .before .before .before .args .text .now) (c .before .before .after .ensures)
+  returns c = properties-none (c .before .before .before .before .before .before .before .args .text .now) (c .before .before .before .before .before .before .before .args .counts .now) (c .before .before .after .ensures)
       (c .before .get .ensures) (c .if1 .taken) (c .before .before .before .before .before .before .before .args .first)
 
   triggers-requires : Of lts.Need-triggers-requires
@@ -107,10 +105,10 @@ module _ (t : ℕ) where
 
   -- the print of an item and the others is that of the sequence
   with-item : (c : Of lts.Start) {g : ℕ} {b : List ℕ} {s : Step} → g ≡ getD (c .args .words .now) (c .args .at) 0 → (g ≡ 0 → ⊥)
-      → Prints (someProperties (c .args .text .now) (c .args .words .now) (c .args .ends .now) (c .args .at) (c .args .first)) (c .args .words .now)
+      → Prints (someProperties (c .args .text .now) (c .args .words .now) (c .args .counts .now) (c .args .at) (c .args .first)) (c .args .words .now)
       (c .args .at) (c .args .out .now) (c .args .pos) b s
-      → Prints (propertyList (c .args .text .now) (c .args .words .now) (c .args .ends .now) (c .args .at) (c .args .first)) (c .args .words .now) (c .args .at) (c .args .out .now) (c .args .pos) b s
-  with-item c e z p = properties-more (c .args .text .now) (c .args .words .now) (c .args .ends .now) (c .args .at) e z (c .args .first) p
+      → Prints (propertyList (c .args .text .now) (c .args .words .now) (c .args .counts .now) (c .args .at) (c .args .first)) (c .args .words .now) (c .args .at) (c .args .out .now) (c .args .pos) b s
+  with-item c e z p = properties-more (c .args .text .now) (c .args .words .now) (c .args .counts .now) (c .args .at) e z (c .args .first) p
 
   returns-2 : Of lts.Need-returns-2
   returns-2 c = with-item

@@ -37,24 +37,23 @@ module _ (t : ℕ) where
   abbrev at-start : Of lts.Start → Reached
   at-start c =
       seen
-      (begin (c .args .text .now) (c .args .context) (c .args .format) (aQuantifier (c .args .text .now) (c .args .words .now) (c .args .ends .now) (c .args .at) (c .args .context) (c .args .format))
+      (begin (c .args .text .now) (c .args .counts .now) (c .args .context) (c .args .format) (aQuantifier (c .args .text .now) (c .args .words .now) (c .args .counts .now) (c .args .at) (c .args .context) (c .args .format))
       (c .args .words .now) (c .args .at) (c .args .out .now) (c .args .pos) 0 (c .pre .1) (c .pre .0))
       _ (λ x. quantifier-print (c .args .text .now) (x .tree .0) (x .tree .1) (x .tree .2) (x .tree .3) (c .args .context) (c .args .format))
 
   abbrev at-head : Of lts.After-quantifier-head → Reached
   at-head c =
-      part (ahead (at-start (c .before .before .before .before .before .before)) 1 _ (λ x. refl)) (c .quantifier-head .ensures) (λ x. (x .tree .0, x .tree .1)) (λ x. tt) _ _ (λ x. refl) (λ x. refl)
+      part (ahead (at-start (c .before .before .before .before .before .before)) 1 _ (λ x. refl)) (c .quantifier-head .ensures) (λ x. (x .tree .0, x .tree .1)) _ (λ x. tt) _ (λ x. refl) (λ x. refl)
 
   abbrev at-indent : Of lts.After-more → Reached
   at-indent c =
       formatted (at-head (c .before .before .before))
       (λ f x r. quantifierTail (at-head (c .before .before .before) .origin .text) (x .tree .2) (x .tree .3) (at-head (c .before .before .before) .origin .context) f r)
-      (λ x. one-deeper (at-head (c .before .before .before)) (c .more .ensures) (x .given)) (λ x. refl)
+      (λ x. one-deeper (at-head (c .before .before .before)) (c .more .ensures) (x .given .0)) (λ x. refl)
 
   abbrev at-patterns : Of lts.After-patterns → Reached
   at-patterns c =
-      part (at-indent (c .before .before)) (c .patterns .ensures) (λ x. x .tree .2)
-      (λ x. ready-more (at-indent (c .before .before)) (omega arith) (c .before .before .more .ensures) (x .given)) _ _ (λ x. refl) (λ x. refl)
+      part (at-indent (c .before .before)) (c .patterns .ensures) (λ x. x .tree .2) _ (λ x. (ready-more (at-indent (c .before .before)) (omega arith) (c .before .before .more .ensures) (x .given .0), x .given .1 .2)) _ (λ x. refl) (λ x. refl)
 
   abbrev at-space : Of lts.After-space → Reached
   at-space c = text (at-patterns (c .before .before .before .before)) (c .space .ensures) _ (λ x. refl)
@@ -63,9 +62,12 @@ module _ (t : ℕ) where
   at-body c =
       expression (at-space (c .before .before .before .before .before))
       (c .before .before .before .before .before .before .before .before .before .before .before .more .result) (c .expr .ensures) (λ x. x .tree .3)
-      (λ x. ready-more (at-space (c .before .before .before .before .before)) (omega arith)
-      (c .before .before .before .before .before .before .before .before .before .before .before .more .ensures) (x .given)) _ _
-      (λ x. c .before .before .subexpression-power .ensures) (λ x. refl) _ _ (λ x. refl) (λ x. refl)
+      _ (λ x. (
+        ready-more (at-space (c .before .before .before .before .before)) (omega arith)
+            (c .before .before .before .before .before .before .before .before .before .before .before .more .ensures) (x .given .0),
+        x .given .1 .3,
+      )) _ _
+      (λ x. c .before .before .subexpression-power .ensures) (λ x. refl) _ (λ x. refl) (λ x. refl)
 
   abbrev at-end : Of lts.After-parenthesis → Reached
   at-end c = text (at-body (c .before .before .before .before)) (c .parenthesis .ensures) _ (λ x. refl)

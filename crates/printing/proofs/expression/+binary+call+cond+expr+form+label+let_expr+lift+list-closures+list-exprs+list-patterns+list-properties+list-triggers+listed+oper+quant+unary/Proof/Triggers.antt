@@ -43,7 +43,7 @@ module _ (t : ℕ) where
   abbrev at-start : (c : Of lts.Start) → c .args .at < length (c .args .words .now) → Reached
   at-start c h =
       seen
-      (begin (c .args .text .now) Init SingleLine (someTriggers (c .args .text .now) (c .args .words .now) (c .args .ends .now) (c .args .at))
+      (begin (c .args .text .now) (c .args .counts .now) Init SingleLine (someTriggers (c .args .text .now) (c .args .words .now) (c .args .counts .now) (c .args .at))
       (c .args .words .now) (c .args .at) (c .args .out .now) (c .args .pos) 0 h (c .pre .0))
       _ (λ x. triggers-print (c .args .text .now) (x .tree .0) (x .tree .1))
 
@@ -59,19 +59,17 @@ module _ (t : ℕ) where
 
   abbrev at-list : Of lts.After-exprs → Reached
   at-list c =
-      part (at-word (c .before .before .before .before)) (c .exprs .ensures) (λ x. x .tree .0)
-      (λ x. ready (at-word (c .before .before .before .before)) (omega arith) (x .given)) _ _ (λ x. refl) (λ x. refl)
+      part (at-word (c .before .before .before .before)) (c .exprs .ensures) (λ x. x .tree .0) _ (λ x. (ready (at-word (c .before .before .before .before)) (omega arith) (x .given .0), x .given .1 .1)) _ (λ x. refl) (λ x. refl)
 
   abbrev at-space : Of lts.After-put2 → Reached
   at-space c = text (at-list (c .before .before .before .before .before)) (c .put2 .ensures) _ (λ x. refl)
 
   abbrev at-end : Of lts.After-triggers → Reached
   at-end c =
-      part (at-space (c .before .before .before .before)) (c .triggers .ensures) (λ x. x .tree .1)
-      (λ x. ready (at-space (c .before .before .before .before)) (omega arith) (x .given)) _ _ (λ x. refl) (λ x. refl)
+      part (at-space (c .before .before .before .before)) (c .triggers .ensures) (λ x. x .tree .1) _ (λ x. (ready (at-space (c .before .before .before .before)) (omega arith) (x .given .0), x .given .1 .2)) _ (λ x. refl) (λ x. refl)
 
   returns : Of lts.Need-returns
-  returns c = triggers-none (c .before .before .before .before .before .before .before .args .text .now) (c .before .before .after .ensures) (c .before .get .ensures) (c .if1 .taken)
+  returns c = triggers-none (c .before .before .before .before .before .before .before .args .text .now) (c .before .before .before .before .before .before .before .args .counts .now) (c .before .before .after .ensures) (c .before .get .ensures) (c .if1 .taken)
 
   exprs-requires : Of lts.Need-exprs-requires
   exprs-requires c κs = (sooner (at-word (c .before .before .before)) 0 (omega arith) (omega arith), tt)
@@ -81,9 +79,9 @@ module _ (t : ℕ) where
 
   -- the print of an item and the others is that of the sequence
   with-item : (c : Of lts.Start) {g : ℕ} {b : List ℕ} {s : Step} → g ≡ getD (c .args .words .now) (c .args .at) 0 → (g ≡ 0 → ⊥)
-      → Prints (someTriggers (c .args .text .now) (c .args .words .now) (c .args .ends .now) (c .args .at)) (c .args .words .now) (c .args .at) (c .args .out .now) (c .args .pos) b s
-      → Prints (triggerList (c .args .text .now) (c .args .words .now) (c .args .ends .now) (c .args .at)) (c .args .words .now) (c .args .at) (c .args .out .now) (c .args .pos) b s
-  with-item c e z p = triggers-more (c .args .text .now) (c .args .words .now) (c .args .ends .now) (c .args .at) e z p
+      → Prints (someTriggers (c .args .text .now) (c .args .words .now) (c .args .counts .now) (c .args .at)) (c .args .words .now) (c .args .at) (c .args .out .now) (c .args .pos) b s
+      → Prints (triggerList (c .args .text .now) (c .args .words .now) (c .args .counts .now) (c .args .at)) (c .args .words .now) (c .args .at) (c .args .out .now) (c .args .pos) b s
+  with-item c e z p = triggers-more (c .args .text .now) (c .args .words .now) (c .args .counts .now) (c .args .at) e z p
 
   returns-2 : Of lts.Need-returns-2
   returns-2 c = with-item

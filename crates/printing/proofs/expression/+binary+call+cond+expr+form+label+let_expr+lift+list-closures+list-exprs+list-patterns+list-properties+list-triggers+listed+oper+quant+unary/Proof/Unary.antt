@@ -41,7 +41,7 @@ module _ (t : ℕ) where
 
   abbrev at-start : Of lts.Start → Reached
   at-start c =
-      begin (c .args .text .now) (c .args .context) SingleLine (aUnary (c .args .text .now) (c .args .words .now) (c .args .ends .now) (c .args .at) (c .args .context))
+      begin (c .args .text .now) (c .args .counts .now) (c .args .context) SingleLine (aUnary (c .args .text .now) (c .args .words .now) (c .args .counts .now) (c .args .at) (c .args .context))
       (c .args .words .now) (c .args .at) (c .args .out .now) (c .args .pos) 0 (c .pre .1) (c .pre .0)
 
   abbrev at-sign : Of lts.After-put-operator → Reached
@@ -54,9 +54,9 @@ module _ (t : ℕ) where
   abbrev at-operand : Of lts.After-expr → Reached
   at-operand c =
       expression (at-sign (c .before .before .before .before)) SingleLine (c .expr .ensures) (λ x. x .tree .1)
-      (λ x. ready (at-sign (c .before .before .before .before)) (omega arith) (x .given)) _ _
+      _ (λ x. (ready (at-sign (c .before .before .before .before)) (omega arith) (x .given .0), x .given .1 .1 .0)) _ _
       (λ x. operand-context (at-sign (c .before .before .before .before) .origin) x (x .tree .0) refl Right
-      (c .before .before .before .before .before .before .before .operand-power .ensures)) (λ x. refl) _ _ (λ x. refl) (λ x. refl)
+      (c .before .before .before .before .before .before .before .operand-power .ensures)) (λ x. refl) _ (λ x. refl) (λ x. refl)
 
   abbrev at-end : Of lts.After-after → Reached
   at-end c = passed (at-operand (c .before .before .before)) (c .after .ensures) _ _ (λ x. refl)

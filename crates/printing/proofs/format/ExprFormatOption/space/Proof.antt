@@ -36,7 +36,8 @@ same-length-2 : tie.Need-same-length-2
 same-length-2 c = search needs
 
 returns-2 : tie.Need-returns-2
-returns-2 c = space-lines (c .before .before .before .before .before .before .before .before .before .before .self .given .1) (then (c .before .before .before .before .before .before .put2 .ensures) (c .before .before .put-indent .ensures))
+returns-2 c = space-lines (c .before .before .before .before .before .before .before .before .before .before .self .given .1)
+    (then (c .before .before .before .before .before .before .put2 .ensures) (c .before .before .put-indent .ensures))
 
 pub space-spec : {M : Type 1} → statement M
 space-spec =

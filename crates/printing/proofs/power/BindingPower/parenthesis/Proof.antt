@@ -32,13 +32,17 @@ same-length : tie.Need-same-length
 same-length c = search needs
 
 returns-2 : tie.Need-returns-2
-returns-2 c = parenthesis-put _ _ (c .before .before .before .before .before .before .before .before .wins-over .ensures) (c .before .before .before .before .before .before .before .if1 .left) (c .before .before .before .before .before .enum-told .given .1) (c .before .before .put .ensures)
+returns-2 c = parenthesis-put _ _ (c .before .before .before .before .before .before .before .before .wins-over .ensures)
+    (c .before .before .before .before .before .before .before .if1 .left) (c .before .before .before .before .before .enum-told .given .1)
+    (c .before .before .put .ensures)
 
 same-length-2 : tie.Need-same-length-2
 same-length-2 c = search needs
 
 returns-3 : tie.Need-returns-3
-returns-3 c = parenthesis-put _ _ (c .before .before .before .before .before .before .before .before .wins-over .ensures) (c .before .before .before .before .before .before .before .if1 .left) (c .before .before .before .before .before .enum-told2 .given .1) (c .before .before .put2 .ensures)
+returns-3 c = parenthesis-put _ _ (c .before .before .before .before .before .before .before .before .wins-over .ensures)
+    (c .before .before .before .before .before .before .before .if1 .left) (c .before .before .before .before .before .enum-told2 .given .1)
+    (c .before .before .put2 .ensures)
 
 pub parenthesis-spec : {M : Type 1} → statement M
 parenthesis-spec =

@@ -26,7 +26,8 @@ returns : tie.Need-returns
 returns c = side-power _ _ _ _ _ _ _ (c .before .before .before .before .wins-over .ensures) (c .before .before .before .if-not-bracketed .ensures) (c .before .enum-told .given .1) (c .new .ensures)
 
 returns-2 : tie.Need-returns-2
-returns-2 c = side-power _ _ _ _ _ _ _ (c .before .before .before .before .wins-over .ensures) (c .before .before .before .if-not-bracketed .ensures) (c .before .enum-told2 .given .1) (c .new2 .ensures)
+returns-2 c = side-power _ _ _ _ _ _ _ (c .before .before .before .before .wins-over .ensures) (c .before .before .before .if-not-bracketed .ensures)
+    (c .before .enum-told2 .given .1) (c .new2 .ensures)
 
 pub subexpression-power-spec : {M : Type 1} → statement M
 subexpression-power-spec =

@@ -1,0 +1,79 @@
+-- The refusals 6 and 7, and the print of an accepted table by the numbers that the check notes.
+use mathlib.Core.Path.{sym, ap, _∙_}
+use Rattle.tree.specs.Check.{refusal as checkRefusal}
+use Rattle.printing.specs.Stores.{rooted}
+use Rattle.printing.proofs.EntryAnswers.{numbered, root-laws, refused, accepted}
+use borrow.Author.Needs.{needs}
+use Rattle.printing.proofs.entry.print_counted.Statement.{statement}
+use Rattle.printing.proofs.entry.print_counted.Tie as tie
+
+count-root-requires : tie.Need-count-root-requires
+count-root-requires c κs = search needs
+
+enum-told : tie.Need-enum-told
+enum-told c = search needs
+
+print-by-requires : tie.Need-print-by-requires
+print-by-requires c κs = (
+  c .before .before .before .before .before .before .before .before .before .before .before .before .pre .1,
+  numbered (c .before .before .before .before .before .before .before .before .before .before .before .before .args .text .now) (c .before .before .before .before .before .before .before .before .before .before .before .before .args .words .now) (c .before .before .before .before .before .before .before .before .before .before .before .before .args .counts .now)
+      (c .before .before .before .before .before .before .before .before .before .before .before .before .args .root) (c .before .before .before .before .before .before .before .before .before .before .before .before .pre .2)
+      (sym (c .before .before .before .before .before .before .count-root .ensures .0) ∙ ap checkRefusal (c .before .before .enum-told .given .1)) (c .before .before .before .before .before .before .count-root .ensures .1),
+)
+
+enum-known-found : tie.Need-enum-known-found
+enum-known-found c = search needs
+
+enum-told-2 : tie.Need-enum-told-2
+enum-told-2 c = search needs
+
+same-length : tie.Need-same-length
+same-length c = search needs
+
+same-length-2 : tie.Need-same-length-2
+same-length-2 c = search needs
+
+returns : tie.Need-returns
+returns c =
+    accepted (rooted (c .before .before .before .before .before .before .before .before .before .before .before .before .before .before .before .args .text .now) (c .before .before .before .before .before .before .before .before .before .before .before .before .before .before .before .args .root))
+    (c .before .before .before .before .before .before .before .before .before .before .before .before .before .before .before .args .text .now) (c .before .before .before .before .before .before .before .before .before .before .before .before .before .before .before .args .words .now)
+    (c .before .before .before .before .before .before .before .before .before .before .before .before .before .before .before .args .out .now) (c .before .before .before .before .before .before .before .before .before .before .before .before .before .before .before .pre .0)
+    (c .before .before .before .before .before .before .before .before .before .before .before .before .before .before .before .pre .1)
+    (root-laws (c .before .before .before .before .before .before .before .before .before .before .before .before .before .before .before .args .text .now) (c .before .before .before .before .before .before .before .before .before .before .before .before .before .before .before .args .root))
+    (sym (c .before .before .before .before .before .before .before .before .before .count-root .ensures .0) ∙ ap checkRefusal (c .before .before .before .before .before .enum-told .given .1)) (c .before .before .print-by .ensures)
+
+same-length-3 : tie.Need-same-length-3
+same-length-3 c = search needs
+
+returns-2 : tie.Need-returns-2
+returns-2 c =
+    refused (rooted (c .before .before .before .before .before .before .before .before .before .before .before .args .text .now) (c .before .before .before .before .before .before .before .before .before .before .before .args .root)) (c .before .before .before .before .before .before .before .before .before .before .before .args .text .now)
+    (c .before .before .before .before .before .before .before .before .before .before .before .args .words .now) (c .before .before .before .before .before .before .before .before .before .before .before .args .out .now) (c .before .before .before .before .before .before .before .before .before .before .before .pre .0)
+    (c .before .before .before .before .before .before .before .before .before .before .before .pre .1)
+    (sym (c .before .before .before .before .before .count-root .ensures .0) ∙ ap checkRefusal (c .before .found .given .1))
+
+same-length-4 : tie.Need-same-length-4
+same-length-4 c = search needs
+
+returns-3 : tie.Need-returns-3
+returns-3 c =
+    refused (rooted (c .before .before .before .before .before .before .before .before .before .before .args .text .now) (c .before .before .before .before .before .before .before .before .before .before .args .root)) (c .before .before .before .before .before .before .before .before .before .before .args .text .now)
+    (c .before .before .before .before .before .before .before .before .before .before .args .words .now) (c .before .before .before .before .before .before .before .before .before .before .args .out .now) (c .before .before .before .before .before .before .before .before .before .before .pre .0) (c .before .before .before .before .before .before .before .before .before .before .pre .1)
+    (sym (c .before .before .before .before .count-root .ensures .0) ∙ ap checkRefusal (c .enum-told2 .given .1))
+
+pub print-counted-spec : {M : Type 1} → statement M
+print-counted-spec =
+    tie.close
+    (tie.spec
+    count-root-requires
+    enum-told
+    print-by-requires
+    enum-known-found
+    enum-told-2
+    same-length
+    same-length-2
+    returns
+    same-length-3
+    returns-2
+    same-length-4
+    returns-3)

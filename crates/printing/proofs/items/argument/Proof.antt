@@ -1,0 +1,43 @@
+-- The mode, and the expression.
+use mathlib.Core.Path.{refl}
+use Rattle.printing.proofs.Places.{Place, begin, done, part, passed, text-of}
+use Rattle.printing.specs.declared.items.Item.the-variants.{Argument}
+use Rattle.printing.specs.StmtParts.{anItem}
+use Rattle.printing.proofs.PartPrints.Joins.{word-at}
+use Rattle.printing.proofs.StmtPrints.Pieces.{mode-written}
+use native.Mathlib.Nat.{le-refl}
+use Rattle.printing.proofs.StmtPrints.Room.{ready}
+use borrow.Author.Needs.{needs}
+use Rattle.printing.proofs.items.argument.Statement.{statement}
+use Rattle.printing.proofs.items.argument.Tie as tie
+
+abbrev at-start : tie.Start → Place
+at-start c = begin (anItem (c .args .text .now) (c .args .words .now) (c .args .counts .now) (c .args .at) 0 Argument) (c .args .words .now) (c .args .at) (c .args .out .now) (c .args .pos)
+
+abbrev at-put-mode : tie.After-put-mode → Place
+at-put-mode c = text-of (at-start (c .before .before .before .before .before .before)) _ _ (λ x. mode-written (c .before .before .before .before .before .before .args .words .now) _ (x .tree .mode) (word-at (c .before .before .before .before .before .before .args .words .now) _ refl (x .stands)) (c .put-mode .ensures)) (λ x. refl)
+
+abbrev at-after : tie.After-after → Place
+at-after c = passed (at-put-mode (c .before .before .before)) (c .after .ensures) _ _ (λ x. refl)
+
+abbrev at-inline : tie.After-inline → Place
+at-inline c = part (at-after (c .before .before)) (c .inline .ensures) (λ x. x .tree .arg) _ (λ x. (ready (at-after (c .before .before)) (le-refl 0) (x .given .0), x .given .1)) _ (λ x. refl) (λ x. refl)
+
+put-mode-requires : tie.Need-put-mode-requires
+put-mode-requires c κs = search needs
+
+after-requires : tie.Need-after-requires
+after-requires c κs = search needs
+
+inline-requires : tie.Need-inline-requires
+inline-requires c κs = search needs
+
+same-length : tie.Need-same-length
+same-length c = search needs
+
+returns : tie.Need-returns
+returns c = done (at-inline (c .before .before)) (λ x. refl) (λ x. refl)
+
+pub argument-spec : {M : Type 1} → statement M
+argument-spec =
+    tie.close (tie.spec put-mode-requires after-requires inline-requires same-length returns)

@@ -1,0 +1,54 @@
+-- `injective ` by the word after the name, then the name and its type.
+use mathlib.Core.Path.{refl}
+use Rattle.printing.proofs.Places.{Place, begin, done, part, text-of}
+use Rattle.tree.specs.Words.{boolWord}
+use Rattle.printing.specs.StmtParts.{formalPart}
+use Rattle.printing.proofs.PartPrints.Joins.{word-at}
+use Rattle.printing.proofs.StmtPrints.Pieces.{same-bytes, injective-by}
+use borrow.Author.Needs.{needs}
+use Rattle.printing.proofs.items.formal.Statement.{statement}
+use Rattle.printing.proofs.items.formal.Tie as tie
+
+abbrev at-start : tie.Start → Place
+at-start c = begin (formalPart (c .args .text .now)) (c .args .words .now) (c .args .at) (c .args .out .now) (c .args .pos)
+
+abbrev at-put-unless : tie.After-put-unless → Place
+at-put-unless c = text-of (at-start (c .before .before .before .before .before .before .before .before)) _ _ (λ x. same-bytes (injective-by (x .tree .injective) (word-at
+    (c .before .before .before .before .before .before .before .before .args .words .now) _ (c .before .before .get .ensures) (c .before .before .before .before .after-name .ensures .after _ _ _
+    (x .stands)))) (c .put-unless .ensures)) (λ x. refl)
+
+abbrev at-typed-apart : tie.After-typed-apart → Place
+at-typed-apart c = part (at-put-unless (c .before .before .before .before)) (c .typed-apart .ensures) (λ x. (x .tree .name, boolWord (x .tree .injective), x .tree .typ)) _ (λ x. tt) _ (λ x. refl) (λ x. refl)
+
+after-name-requires : tie.Need-after-name-requires
+after-name-requires c κs = search needs
+
+get-requires : tie.Need-get-requires
+get-requires c κs = search needs
+
+slice-aggregate-put-unless : tie.Need-slice-aggregate-put-unless
+slice-aggregate-put-unless c = search needs
+
+put-unless-requires : tie.Need-put-unless-requires
+put-unless-requires c κs = search needs
+
+typed-apart-requires : tie.Need-typed-apart-requires
+typed-apart-requires c κs = search needs
+
+same-length : tie.Need-same-length
+same-length c = search needs
+
+returns : tie.Need-returns
+returns c = done (at-typed-apart (c .before .before)) (λ x. refl) (λ x. refl)
+
+pub formal-spec : {M : Type 1} → statement M
+formal-spec =
+    tie.close
+    (tie.spec
+    after-name-requires
+    get-requires
+    slice-aggregate-put-unless
+    put-unless-requires
+    typed-apart-requires
+    same-length
+    returns)

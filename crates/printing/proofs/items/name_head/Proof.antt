@@ -1,0 +1,31 @@
+-- A name, and text after it.
+use mathlib.Core.Path.{refl}
+use Rattle.printing.proofs.Places.{Place, begin, done, part, text}
+use Rattle.printing.specs.StmtParts.{nameHead}
+use borrow.Author.Needs.{needs}
+use Rattle.printing.proofs.items.name_head.Statement.{statement}
+use Rattle.printing.proofs.items.name_head.Tie as tie
+
+abbrev at-start : tie.Start → Place
+at-start c = begin (nameHead (c .args .text .now) (c .args .suffix .now)) (c .args .words .now) (c .args .at) (c .args .out .now) (c .args .pos)
+
+abbrev at-put-name : tie.After-put-name → Place
+at-put-name c = part (at-start (c .before .before .before .before .before .before)) (c .put-name .ensures) (λ x. x .tree) _ (λ x. tt) _ (λ x. refl) (λ x. refl)
+
+abbrev at-put : tie.After-put → Place
+at-put c = text (at-put-name (c .before .before .before .before)) (c .put .ensures) _ (λ x. refl)
+
+put-name-requires : tie.Need-put-name-requires
+put-name-requires c κs = search needs
+
+put-requires : tie.Need-put-requires
+put-requires c κs = search needs
+
+same-length : tie.Need-same-length
+same-length c = search needs
+
+returns : tie.Need-returns
+returns c = done (at-put (c .before .before)) (λ x. refl) (λ x. refl)
+
+pub name-head-spec : {M : Type 1} → statement M
+name-head-spec = tie.close (tie.spec put-name-requires put-requires same-length returns)

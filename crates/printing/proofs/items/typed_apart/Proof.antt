@@ -1,0 +1,48 @@
+-- The name and its text, past a word, the type.
+use mathlib.Core.Path.{refl}
+use Rattle.printing.proofs.Places.{Place, begin, done, part, passed}
+use Rattle.printing.specs.StmtParts.{typedApart}
+use borrow.Author.Needs.{needs}
+use Rattle.printing.proofs.items.typed_apart.Statement.{statement}
+use Rattle.printing.proofs.items.typed_apart.Tie as tie
+
+abbrev at-start : tie.Start → Place
+at-start c = begin (typedApart (c .args .text .now)) (c .args .words .now) (c .args .at) (c .args .out .now) (c .args .pos)
+
+abbrev at-name-head : tie.After-name-head → Place
+at-name-head c = part (at-start (c .before .before .before .before .before .before)) (c .name-head .ensures) (λ x. x .tree .0) _ (λ x. tt) _ (λ x. refl) (λ x. refl)
+
+abbrev at-after : tie.After-after → Place
+at-after c = passed (at-name-head (c .before .before .before)) (c .after .ensures) _ _ (λ x. refl)
+
+abbrev at-put-name : tie.After-put-name → Place
+at-put-name c = part (at-after (c .before .before)) (c .put-name .ensures) (λ x. x .tree .2) _ (λ x. tt) _ (λ x. refl) (λ x. refl)
+
+slice-aggregate-name-head : tie.Need-slice-aggregate-name-head
+slice-aggregate-name-head c = search needs
+
+name-head-requires : tie.Need-name-head-requires
+name-head-requires c κs = search needs
+
+after-requires : tie.Need-after-requires
+after-requires c κs = search needs
+
+put-name-requires : tie.Need-put-name-requires
+put-name-requires c κs = search needs
+
+same-length : tie.Need-same-length
+same-length c = search needs
+
+returns : tie.Need-returns
+returns c = done (at-put-name (c .before .before)) (λ x. refl) (λ x. refl)
+
+pub typed-apart-spec : {M : Type 1} → statement M
+typed-apart-spec =
+    tie.close
+    (tie.spec
+    slice-aggregate-name-head
+    name-head-requires
+    after-requires
+    put-name-requires
+    same-length
+    returns)

@@ -1,0 +1,123 @@
+-- The word and the name, the parameters, the type, the tag, and the definition.
+use mathlib.Core.Path.{refl}
+use Rattle.printing.proofs.Places.{Place, begin, done, part, text}
+use Rattle.printing.specs.declared.items.Item.the-variants.{Formal}
+use Rattle.printing.specs.declared.program.Decl.the-variants.{Functions}
+use Rattle.printing.specs.StmtParts.{itemWords}
+use Rattle.printing.proofs.StmtPrints.Room.{free-items}
+use Rattle.printing.specs.DeclParts.{aDecl}
+use native.Mathlib.Nat.{le-refl}
+use native.Mathlib.Omega.{arith}
+use Rattle.printing.proofs.StmtPrints.Room.{ready}
+use borrow.Author.Needs.{needs}
+use Rattle.printing.proofs.program.function_decl.Statement.{statement}
+use Rattle.printing.proofs.program.function_decl.Tie as tie
+
+abbrev at-start : tie.Start → Place
+at-start c = begin (aDecl (c .args .text .now) (c .args .words .now) (c .args .counts .now) (c .args .at) Functions) (c .args .words .now) (c .args .at) (c .args .out .now) (c .args .pos)
+
+abbrev at-put : tie.After-put → Place
+at-put c = text (at-start (c .before .before .before .before .before .before .before)) (c .put .ensures) _ (λ x. refl)
+
+abbrev at-call-head : tie.After-call-head → Place
+at-call-head c = part (at-put (c .before .before .before .before)) (c .call-head .ensures) (λ x. x .tree .name) _ (λ x. tt) _ (λ x. refl) (λ x. refl)
+
+abbrev at-separated : tie.After-separated → Place
+at-separated c =
+    part (at-call-head (c .before .before .before .before .before)) (c .separated .ensures) (λ x. x .tree .parameters) _ (λ x. (
+      ready (at-call-head (c .before .before .before .before .before)) (omega arith) (x .given .0),
+      free-items (itemWords (c .before .before .before .before .before .before .before .before .before .before .before .before .before .before .before .before .args .text .now)
+          (c .before .before .before .before .before .before .before .before .before .before .before .before .before .before .before .before .args .words .now) (c .before .before .before .before .before .before .before .before .before .before .before .before .before .before .before .before .args .counts .now)
+          (c .before .before .before .before .before .before .before .before .before .before .before .before .before .before .before .before .args .at) 0 Formal) (x .tree .parameters) _,
+    )) _ (λ x. refl) (λ x. refl)
+
+abbrev at-put2 : tie.After-put2 → Place
+at-put2 c = text (at-separated (c .before .before .before .before .before)) (c .put2 .ensures) _ (λ x. refl)
+
+abbrev at-put-name : tie.After-put-name → Place
+at-put-name c = part (at-put2 (c .before .before .before .before)) (c .put-name .ensures) (λ x. x .tree .resultType) _ (λ x. tt) _ (λ x. refl) (λ x. refl)
+
+abbrev at-optional-name : tie.After-optional-name → Place
+at-optional-name c = part (at-put-name (c .before .before .before .before .before)) (c .optional-name .ensures) (λ x. x .tree .tag) _ (λ x. tt) _ (λ x. refl) (λ x. refl)
+
+abbrev at-put3 : tie.After-put3 → Place
+at-put3 c = text (at-optional-name (c .before .before .before .before .before)) (c .put3 .ensures) _ (λ x. refl)
+
+abbrev at-optional-definition : tie.After-optional-definition → Place
+at-optional-definition c = part (at-put3 (c .before .before .before .before)) (c .optional-definition .ensures) (λ x. x .tree .definition) _ (λ x. (ready (at-put3 (c .before .before .before .before)) (le-refl _) (x .given .0), x .given .1 .1)) _ (λ x. refl) (λ x. refl)
+
+slice-aggregate-put : tie.Need-slice-aggregate-put
+slice-aggregate-put c = search needs
+
+put-requires : tie.Need-put-requires
+put-requires c κs = search needs
+
+call-head-requires : tie.Need-call-head-requires
+call-head-requires c κs = search needs
+
+slice-aggregate-separated : tie.Need-slice-aggregate-separated
+slice-aggregate-separated c = search needs
+
+separated-requires : tie.Need-separated-requires
+separated-requires c κs = search needs
+
+slice-aggregate-put-2 : tie.Need-slice-aggregate-put-2
+slice-aggregate-put-2 c = search needs
+
+put-requires-2 : tie.Need-put-requires-2
+put-requires-2 c κs = search needs
+
+put-name-requires : tie.Need-put-name-requires
+put-name-requires c κs = search needs
+
+slice-aggregate-optional-name : tie.Need-slice-aggregate-optional-name
+slice-aggregate-optional-name c = search needs
+
+optional-name-requires : tie.Need-optional-name-requires
+optional-name-requires c κs = search needs
+
+slice-aggregate-put-3 : tie.Need-slice-aggregate-put-3
+slice-aggregate-put-3 c = search needs
+
+put-requires-3 : tie.Need-put-requires-3
+put-requires-3 c κs = search needs
+
+optional-definition-requires : tie.Need-optional-definition-requires
+optional-definition-requires c κs = search needs
+
+same-length : tie.Need-same-length
+same-length c =
+    omega (
+      arith,
+      c .before .before .before .before .before .before .before .before .before .before .before .before .before .before .before .before .before .before .before .before .before .before .before .before .before .before .before .before .before .before .before .before .before .out .given,
+      c .before .before .before .before .before .before .before .before .before .before .before .before .before .before .before .before .before .before .before .before .before .before .before .before .before .before .before .before .before .out2 .given,
+      c .before .before .before .before .before .before .before .before .before .before .before .before .before .before .before .before .before .before .before .before .before .before .before .before .out3 .given,
+      c .before .before .before .before .before .before .before .before .before .before .before .before .before .before .before .before .before .before .before .out4 .given,
+      c .before .before .before .before .before .before .before .before .before .before .before .before .before .before .before .out5 .given,
+      c .before .before .before .before .before .before .before .before .before .before .out6 .given,
+      c .before .before .before .before .before .out7 .given,
+      c .before .out8 .given,
+    )
+
+returns : tie.Need-returns
+returns c = done (at-optional-definition (c .before .before)) (λ x. refl) (λ x. refl)
+
+pub function-decl-spec : {M : Type 1} → statement M
+function-decl-spec =
+    tie.close
+    (tie.spec
+    slice-aggregate-put
+    put-requires
+    call-head-requires
+    slice-aggregate-separated
+    separated-requires
+    slice-aggregate-put-2
+    put-requires-2
+    put-name-requires
+    slice-aggregate-optional-name
+    optional-name-requires
+    slice-aggregate-put-3
+    put-requires-3
+    optional-definition-requires
+    same-length
+    returns)

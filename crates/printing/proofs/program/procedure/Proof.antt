@@ -1,0 +1,106 @@
+-- The word and the name, the parameters, what it requires and ensures, and the body.
+use mathlib.Core.Path.{refl}
+use Rattle.printing.proofs.Places.{Place, begin, done, part, text}
+use Rattle.printing.specs.declared.program.Decl.the-variants.{Procedures}
+use Rattle.printing.specs.DeclParts.{aDecl}
+use native.Mathlib.Nat.{le-refl}
+use native.Mathlib.Omega.{arith}
+use Rattle.printing.proofs.StmtPrints.Room.{ready}
+use borrow.Author.Needs.{needs}
+use Rattle.printing.proofs.program.procedure.Statement.{statement}
+use Rattle.printing.proofs.program.procedure.Tie as tie
+
+abbrev at-start : tie.Start → Place
+at-start c = begin (aDecl (c .args .text .now) (c .args .words .now) (c .args .counts .now) (c .args .at) Procedures) (c .args .words .now) (c .args .at) (c .args .out .now) (c .args .pos)
+
+abbrev at-put : tie.After-put → Place
+at-put c = text (at-start (c .before .before .before .before .before .before .before)) (c .put .ensures) _ (λ x. refl)
+
+abbrev at-call-head : tie.After-call-head → Place
+at-call-head c = part (at-put (c .before .before .before .before)) (c .call-head .ensures) (λ x. x .tree .name) _ (λ x. tt) _ (λ x. refl) (λ x. refl)
+
+abbrev at-separated : tie.After-separated → Place
+at-separated c = part (at-call-head (c .before .before .before .before .before)) (c .separated .ensures) (λ x. x .tree .parameters) _ (λ x. (ready (at-call-head (c .before .before .before .before .before)) (omega arith) (x .given .0), x .given .1 .0 .1)) _ (λ x. refl) (λ x. refl)
+
+abbrev at-put2 : tie.After-put2 → Place
+at-put2 c = text (at-separated (c .before .before .before .before .before)) (c .put2 .ensures) _ (λ x. refl)
+
+abbrev at-aexprs : tie.After-aexprs → Place
+at-aexprs c = part (at-put2 (c .before .before .before .before .before)) (c .aexprs .ensures) (λ x. x .tree .pre) _ (λ x. (ready (at-put2 (c .before .before .before .before .before)) (le-refl _) (x .given .0), x .given .1 .2)) _ (λ x. refl) (λ x. refl)
+
+abbrev at-aexprs2 : tie.After-aexprs2 → Place
+at-aexprs2 c = part (at-aexprs (c .before .before .before .before .before)) (c .aexprs2 .ensures) (λ x. x .tree .post) _ (λ x. (ready (at-aexprs (c .before .before .before .before .before)) (le-refl _) (x .given .0), x .given .1 .4)) _ (λ x. refl) (λ x. refl)
+
+abbrev at-optional-body : tie.After-optional-body → Place
+at-optional-body c = part (at-aexprs2 (c .before .before .before .before)) (c .optional-body .ensures) (λ x. x .tree .body) _ (λ x. (ready (at-aexprs2 (c .before .before .before .before)) (le-refl _) (x .given .0), x .given .1 .5)) _ (λ x. refl) (λ x. refl)
+
+slice-aggregate-put : tie.Need-slice-aggregate-put
+slice-aggregate-put c = search needs
+
+put-requires : tie.Need-put-requires
+put-requires c κs = search needs
+
+call-head-requires : tie.Need-call-head-requires
+call-head-requires c κs = search needs
+
+slice-aggregate-separated : tie.Need-slice-aggregate-separated
+slice-aggregate-separated c = search needs
+
+separated-requires : tie.Need-separated-requires
+separated-requires c κs = search needs
+
+slice-aggregate-put-2 : tie.Need-slice-aggregate-put-2
+slice-aggregate-put-2 c = search needs
+
+put-requires-2 : tie.Need-put-requires-2
+put-requires-2 c κs = search needs
+
+slice-aggregate-aexprs : tie.Need-slice-aggregate-aexprs
+slice-aggregate-aexprs c = search needs
+
+aexprs-requires : tie.Need-aexprs-requires
+aexprs-requires c κs = search needs
+
+slice-aggregate-aexprs-2 : tie.Need-slice-aggregate-aexprs-2
+slice-aggregate-aexprs-2 c = search needs
+
+aexprs-requires-2 : tie.Need-aexprs-requires-2
+aexprs-requires-2 c κs = search needs
+
+optional-body-requires : tie.Need-optional-body-requires
+optional-body-requires c κs = search needs
+
+same-length : tie.Need-same-length
+same-length c =
+    omega (
+      arith,
+      c .before .before .before .before .before .before .before .before .before .before .before .before .before .before .before .before .before .before .before .before .before .before .before .before .before .before .before .before .before .out .given,
+      c .before .before .before .before .before .before .before .before .before .before .before .before .before .before .before .before .before .before .before .before .before .before .before .before .before .out2 .given,
+      c .before .before .before .before .before .before .before .before .before .before .before .before .before .before .before .before .before .before .before .before .out3 .given,
+      c .before .before .before .before .before .before .before .before .before .before .before .before .before .before .before .out4 .given,
+      c .before .before .before .before .before .before .before .before .before .before .out5 .given,
+      c .before .before .before .before .before .out6 .given,
+      c .before .out7 .given,
+    )
+
+returns : tie.Need-returns
+returns c = done (at-optional-body (c .before .before)) (λ x. refl) (λ x. refl)
+
+pub procedure-spec : {M : Type 1} → statement M
+procedure-spec =
+    tie.close
+    (tie.spec
+    slice-aggregate-put
+    put-requires
+    call-head-requires
+    slice-aggregate-separated
+    separated-requires
+    slice-aggregate-put-2
+    put-requires-2
+    slice-aggregate-aexprs
+    aexprs-requires
+    slice-aggregate-aexprs-2
+    aexprs-requires-2
+    optional-body-requires
+    same-length
+    returns)

@@ -1,0 +1,56 @@
+-- The word, the name, the type and the line end.
+use mathlib.Core.Path.{refl}
+use Rattle.printing.proofs.Places.{Place, begin, done, part, text}
+use Rattle.printing.specs.DeclParts.{aTaggerDecl}
+use borrow.Author.Needs.{needs}
+use Rattle.printing.proofs.program.tagger_decl.Statement.{statement}
+use Rattle.printing.proofs.program.tagger_decl.Tie as tie
+
+abbrev at-start : tie.Start → Place
+at-start c = begin (aTaggerDecl (c .args .text .now)) (c .args .words .now) (c .args .at) (c .args .out .now) (c .args .pos)
+
+abbrev at-put : tie.After-put → Place
+at-put c = text (at-start (c .before .before .before .before .before .before)) (c .put .ensures) _ (λ x. refl)
+
+abbrev at-name-head : tie.After-name-head → Place
+at-name-head c = part (at-put (c .before .before .before .before .before)) (c .name-head .ensures) (λ x. x .tree .name) _ (λ x. tt) _ (λ x. refl) (λ x. refl)
+
+abbrev at-name-head2 : tie.After-name-head2 → Place
+at-name-head2 c = part (at-name-head (c .before .before .before .before .before)) (c .name-head2 .ensures) (λ x. x .tree .typ) _ (λ x. tt) _ (λ x. refl) (λ x. refl)
+
+slice-aggregate-put : tie.Need-slice-aggregate-put
+slice-aggregate-put c = search needs
+
+put-requires : tie.Need-put-requires
+put-requires c κs = search needs
+
+slice-aggregate-name-head : tie.Need-slice-aggregate-name-head
+slice-aggregate-name-head c = search needs
+
+name-head-requires : tie.Need-name-head-requires
+name-head-requires c κs = search needs
+
+slice-aggregate-name-head-2 : tie.Need-slice-aggregate-name-head-2
+slice-aggregate-name-head-2 c = search needs
+
+name-head-requires-2 : tie.Need-name-head-requires-2
+name-head-requires-2 c κs = search needs
+
+same-length : tie.Need-same-length
+same-length c = search needs
+
+returns : tie.Need-returns
+returns c = done (at-name-head2 (c .before .before)) (λ x. refl) (λ x. refl)
+
+pub tagger-decl-spec : {M : Type 1} → statement M
+tagger-decl-spec =
+    tie.close
+    (tie.spec
+    slice-aggregate-put
+    put-requires
+    slice-aggregate-name-head
+    name-head-requires
+    slice-aggregate-name-head-2
+    name-head-requires-2
+    same-length
+    returns)

@@ -1,0 +1,54 @@
+-- The name, the sign, the expression, the line end.
+use mathlib.Core.Path.{refl}
+use Rattle.printing.proofs.Places.{Place, begin, done, part, text}
+use Rattle.printing.specs.StmtParts.{anAssign}
+use native.Mathlib.Nat.{le-refl}
+use Rattle.printing.proofs.StmtPrints.Room.{ready}
+use borrow.Author.Needs.{needs}
+use Rattle.printing.proofs.simple.assign.Statement.{statement}
+use Rattle.printing.proofs.simple.assign.Tie as tie
+
+abbrev at-start : tie.Start → Place
+at-start c = begin (anAssign (c .args .text .now) (c .args .words .now) (c .args .counts .now) (c .args .at) 0) (c .args .words .now) (c .args .at) (c .args .out .now) (c .args .pos)
+
+abbrev at-name-head : tie.After-name-head → Place
+at-name-head c = part (at-start (c .before .before .before .before .before .before .before)) (c .name-head .ensures) (λ x. x .tree .0) _ (λ x. tt) _ (λ x. refl) (λ x. refl)
+
+abbrev at-inline : tie.After-inline → Place
+at-inline c = part (at-name-head (c .before .before .before .before)) (c .inline .ensures) (λ x. x .tree .1) _ (λ x. (ready (at-name-head (c .before .before .before .before)) (le-refl 0) (x .given .0), x .given .1)) _ (λ x. refl) (λ x. refl)
+
+abbrev at-put : tie.After-put → Place
+at-put c = text (at-inline (c .before .before .before .before .before)) (c .put .ensures) _ (λ x. refl)
+
+slice-aggregate-name-head : tie.Need-slice-aggregate-name-head
+slice-aggregate-name-head c = search needs
+
+name-head-requires : tie.Need-name-head-requires
+name-head-requires c κs = search needs
+
+inline-requires : tie.Need-inline-requires
+inline-requires c κs = search needs
+
+slice-aggregate-put : tie.Need-slice-aggregate-put
+slice-aggregate-put c = search needs
+
+put-requires : tie.Need-put-requires
+put-requires c κs = search needs
+
+same-length : tie.Need-same-length
+same-length c = search needs
+
+returns : tie.Need-returns
+returns c = done (at-put (c .before .before)) (λ x. refl) (λ x. refl)
+
+pub assign-spec : {M : Type 1} → statement M
+assign-spec =
+    tie.close
+    (tie.spec
+    slice-aggregate-name-head
+    name-head-requires
+    inline-requires
+    slice-aggregate-put
+    put-requires
+    same-length
+    returns)

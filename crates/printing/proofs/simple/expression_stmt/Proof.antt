@@ -1,0 +1,60 @@
+-- The keyword, the expression, the line end.
+use mathlib.Core.Path.{refl}
+use Rattle.printing.proofs.Places.{Place, begin, done, part, passed, text, text-of}
+use mathlib.Core.Path.{ap}
+use Rattle.printing.specs.StmtParts.{keywordBytes, anExpressionStmt}
+use Rattle.printing.proofs.PartPrints.Joins.{word-at}
+use Rattle.printing.proofs.StmtPrints.Pieces.{same-bytes}
+use native.Mathlib.Nat.{le-refl}
+use Rattle.printing.proofs.StmtPrints.Room.{ready}
+use borrow.Author.Needs.{needs}
+use Rattle.printing.proofs.simple.expression_stmt.Statement.{statement}
+use Rattle.printing.proofs.simple.expression_stmt.Tie as tie
+
+abbrev at-start : tie.Start → Place
+at-start c = begin (anExpressionStmt (c .args .text .now) (c .args .words .now) (c .args .counts .now) (c .args .at) 0) (c .args .words .now) (c .args .at) (c .args .out .now) (c .args .pos)
+
+abbrev at-put-keyword : tie.After-put-keyword → Place
+at-put-keyword c = text-of (at-start (c .before .before .before .before .before .before)) _ _ (λ x. same-bytes (ap keywordBytes (word-at (c .before .before .before .before .before .before .args .words .now) _ refl (x .stands))) (c .put-keyword .ensures)) (λ x. refl)
+
+abbrev at-after : tie.After-after → Place
+at-after c = passed (at-put-keyword (c .before .before .before)) (c .after .ensures) _ _ (λ x. refl)
+
+abbrev at-inline : tie.After-inline → Place
+at-inline c = part (at-after (c .before .before)) (c .inline .ensures) (λ x. x .tree .1) _ (λ x. (ready (at-after (c .before .before)) (le-refl 0) (x .given .0), x .given .1)) _ (λ x. refl) (λ x. refl)
+
+abbrev at-put : tie.After-put → Place
+at-put c = text (at-inline (c .before .before .before .before .before)) (c .put .ensures) _ (λ x. refl)
+
+put-keyword-requires : tie.Need-put-keyword-requires
+put-keyword-requires c κs = search needs
+
+after-requires : tie.Need-after-requires
+after-requires c κs = search needs
+
+inline-requires : tie.Need-inline-requires
+inline-requires c κs = search needs
+
+slice-aggregate-put : tie.Need-slice-aggregate-put
+slice-aggregate-put c = search needs
+
+put-requires : tie.Need-put-requires
+put-requires c κs = search needs
+
+same-length : tie.Need-same-length
+same-length c = search needs
+
+returns : tie.Need-returns
+returns c = done (at-put (c .before .before)) (λ x. refl) (λ x. refl)
+
+pub expression-stmt-spec : {M : Type 1} → statement M
+expression-stmt-spec =
+    tie.close
+    (tie.spec
+    put-keyword-requires
+    after-requires
+    inline-requires
+    slice-aggregate-put
+    put-requires
+    same-length
+    returns)

@@ -1,0 +1,67 @@
+-- The names, the line end.
+use mathlib.Core.Path.{refl}
+use Rattle.printing.proofs.Places.{Place, begin, done, part, text}
+use Rattle.printing.specs.declared.items.Item.the-variants.{Name}
+use Rattle.printing.specs.StmtParts.{itemWords, aReinit}
+use Rattle.printing.proofs.StmtPrints.Room.{free-items}
+use native.Mathlib.Nat.{le-refl}
+use Rattle.printing.proofs.StmtPrints.Room.{ready}
+use borrow.Author.Needs.{needs}
+use Rattle.printing.proofs.simple.reinit.Statement.{statement}
+use Rattle.printing.proofs.simple.reinit.Tie as tie
+
+abbrev at-start : tie.Start → Place
+at-start c = begin (aReinit (c .args .text .now) (c .args .words .now) (c .args .counts .now) (c .args .at) 0) (c .args .words .now) (c .args .at) (c .args .out .now) (c .args .pos)
+
+abbrev at-put : tie.After-put → Place
+at-put c = text (at-start (c .before .before .before .before .before .before .before)) (c .put .ensures) _ (λ x. refl)
+
+abbrev at-separated : tie.After-separated → Place
+at-separated c = part (at-put (c .before .before .before .before .before)) (c .separated .ensures) (λ x. x .tree) _ (λ x. (
+  ready (at-put (c .before .before .before .before .before)) (le-refl 0)
+      (x .given .0),
+  free-items (itemWords (c .before .before .before .before .before .before .before .before .before .before .before .before .args .text .now)
+      (c .before .before .before .before .before .before .before .before .before .before .before .before .args .words .now)
+      (c .before .before .before .before .before .before .before .before .before .before .before .before .args .counts .now)
+      (c .before .before .before .before .before .before .before .before .before .before .before .before .args .at) 0 Name) (x .tree) _,
+)) _ (λ x. refl) (λ x. refl)
+
+abbrev at-put2 : tie.After-put2 → Place
+at-put2 c = text (at-separated (c .before .before .before .before .before)) (c .put2 .ensures) _ (λ x. refl)
+
+slice-aggregate-put : tie.Need-slice-aggregate-put
+slice-aggregate-put c = search needs
+
+put-requires : tie.Need-put-requires
+put-requires c κs = search needs
+
+slice-aggregate-separated : tie.Need-slice-aggregate-separated
+slice-aggregate-separated c = search needs
+
+separated-requires : tie.Need-separated-requires
+separated-requires c κs = search needs
+
+slice-aggregate-put-2 : tie.Need-slice-aggregate-put-2
+slice-aggregate-put-2 c = search needs
+
+put-requires-2 : tie.Need-put-requires-2
+put-requires-2 c κs = search needs
+
+same-length : tie.Need-same-length
+same-length c = search needs
+
+returns : tie.Need-returns
+returns c = done (at-put2 (c .before .before)) (λ x. refl) (λ x. refl)
+
+pub reinit-spec : {M : Type 1} → statement M
+reinit-spec =
+    tie.close
+    (tie.spec
+    slice-aggregate-put
+    put-requires
+    slice-aggregate-separated
+    separated-requires
+    slice-aggregate-put-2
+    put-requires-2
+    same-length
+    returns)

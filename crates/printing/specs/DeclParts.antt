@@ -1,0 +1,94 @@
+-- The parts of a table that hold declarations, with their prints: what the functions of src/program.rt print.
+use Prim.Native.Nat.{ℕ}
+use mathlib.Core.Option.{Option}
+use mathlib.Core.List.{List, []}
+use lib.ListN.{length}
+use Rattle.tree.specs.Ast.{Expr, Exprs, Stmt, Tagger, FunctionDefinition, Function, Axiom, Procedure as Proc, Program as Tree}
+use Rattle.tree.specs.Words.{optionWords, seqWords, nameWords, exprWords, exprsWords, stmtWords, taggerWords, functionDefinitionWords, functionWords, axiomWords, procedureWords, programWords}
+use Rattle.tree.specs.Counted.{CountedOption, CountedItems, CountedExpr, CountedExprs, CountedStmt, CountedDefinition, CountedFunction, CountedAxiom, CountedProcedure, CountedProgram}
+use Rattle.printing.specs.declared.format.ExprFormatOption.the-variants.{MultipleLines}
+use Rattle.printing.specs.declared.program.Decl.{Decl}
+use Rattle.printing.specs.declared.program.Decl.the-variants.{Types, Taggers, Functions, Axioms, Procedures}
+use Rattle.printing.specs.Text.{_▹_}
+use Rattle.printing.specs.PrintUtil.{Indent, Init}
+use Rattle.printing.specs.Printer.{Expression}
+use Rattle.printing.specs.Statements.{Before, optional}
+use Rattle.printing.specs.Program.{TypeDecl, TaggerDecl, whenClauses, definition, FunctionDecl, AxiomDecl, body, Procedure, declarations, Program}
+use Rattle.printing.specs.Entries.{nameIn}
+use Rattle.printing.specs.Parts.{Part}
+use Rattle.printing.specs.StmtParts.{N, free, counted}
+
+module _ (text : List ℕ) where
+  abbrev pub aTypeDecl : Part
+  aTypeDecl = free (nameWords (λ n. n .span)) (λ (n : N text) rest. TypeDecl (nameIn text) 2 n rest)
+
+  abbrev pub aTaggerDecl : Part
+  aTaggerDecl = free (taggerWords (λ n. n .span)) (λ (t : Tagger (N text)) rest. TaggerDecl (nameIn text) 2 t rest)
+
+  module _ (table counts : List ℕ) (at : ℕ) where
+    -- ---- parts of declarations
+
+    -- an expression on broken lines from the first indent on
+    abbrev pub broken : Part
+    broken =
+        counted text table counts at 2 (CountedExpr {N = N text} (λ n. n .span) counts (length table)) (exprWords (λ n. n .span))
+        (λ e rest. Indent 2 ▹ Expression (nameIn text) 2 e Init (MultipleLines 2) rest)
+
+    abbrev pub whenList : Part
+    whenList =
+        counted text table counts at 2 (CountedExprs {N = N text} (λ n. n .span) counts (length table)) (exprsWords (λ n. n .span))
+        (λ es rest. whenClauses (nameIn text) 2 es rest)
+
+    abbrev pub optionalDefinition : Part
+    optionalDefinition =
+        counted text table counts at 2 (CountedOption (CountedDefinition {N = N text} (λ n. n .span) counts (length table))) (optionWords (functionDefinitionWords (λ n. n .span)))
+        (λ d rest. optional (definition (nameIn text) 2) [] d rest)
+
+    abbrev pub optionalBody : Part
+    optionalBody =
+        counted text table counts at 2 (CountedOption (CountedStmt {N = N text} (λ n. n .span) counts (length table))) (optionWords (stmtWords (λ n. n .span)))
+        (λ s rest. optional (body (nameIn text) 2) [] s rest)
+
+    -- ---- declarations, by their kind
+
+    abbrev pub DeclTree : Decl → Type 0
+    DeclTree Types = N text
+    DeclTree Taggers = Tagger (N text)
+    DeclTree Functions = Function (N text)
+    DeclTree Axioms = Axiom (N text)
+    DeclTree Procedures = Proc (N text)
+
+    abbrev pub declWords : (k : Decl) → DeclTree k → List ℕ → List ℕ
+    declWords Types = nameWords (λ n. n .span)
+    declWords Taggers = taggerWords (λ n. n .span)
+    declWords Functions = functionWords (λ n. n .span)
+    declWords Axioms = axiomWords (λ n. n .span)
+    declWords Procedures = procedureWords (λ n. n .span)
+
+    abbrev pub declPrint : (k : Decl) → DeclTree k → Before
+    declPrint Types = TypeDecl (nameIn text) 2
+    declPrint Taggers = TaggerDecl (nameIn text) 2
+    declPrint Functions = FunctionDecl (nameIn text) 2
+    declPrint Axioms = AxiomDecl (nameIn text) 2
+    declPrint Procedures = Procedure (nameIn text) 2
+
+    abbrev pub DeclCounted : (k : Decl) → DeclTree k → List ℕ → Type 0
+    DeclCounted Types d rest = Unit {0}
+    DeclCounted Taggers d rest = Unit {0}
+    DeclCounted Functions d rest = CountedFunction (λ n. n .span) counts (length table) d rest
+    DeclCounted Axioms d rest = CountedAxiom (λ n. n .span) counts (length table) d rest
+    DeclCounted Procedures d rest = CountedProcedure (λ n. n .span) counts (length table) d rest
+
+    abbrev pub aDecl : Decl → Part
+    aDecl k = counted text table counts at 2 (DeclCounted k) (declWords k) (declPrint k)
+
+    abbrev pub declList : Decl → Part
+    declList k =
+        counted text table counts at 2 (CountedItems (declWords k) (DeclCounted k)) (seqWords (declWords k))
+        (λ l rest. declarations (nameIn text) 2 (declPrint k) l rest)
+
+  -- a program, from the table's first word on
+  abbrev pub aProgram : (table counts : List ℕ) → Part
+  aProgram table counts =
+      counted text table counts 0 2 (CountedProgram {N = N text} (λ n. n .span) counts (length table)) (programWords (λ n. n .span))
+      (λ p rest. Program (nameIn text) 2 p rest)

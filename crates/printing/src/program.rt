@@ -1,0 +1,279 @@
+// Printer.dfy's `Program` and the declarations, over the words of a checked table. Each function prints what stands at a place and answers
+// the place after it and the place in the output.
+use crate::expression::expr;
+use crate::format::ExprFormatOption;
+use crate::format::INDENT_AMOUNT;
+use crate::items::Item;
+use crate::items::inline;
+use crate::items::name_head;
+use crate::items::optional_name;
+use crate::items::separated;
+use crate::parts::Step;
+use crate::parts::after;
+use crate::parts::call_head;
+use crate::parts::put_name;
+use crate::power::BindingPower;
+use crate::statement::block;
+use crate::statement::list::aexprs;
+use crate::write::put;
+use crate::write::put_indent;
+use tree::get;
+ghost use Rattle.printing.specs.Parts.{Prints};
+ghost use Rattle.printing.specs.declared.program.Decl.the-variants.{Functions, Axioms, Procedures};
+ghost use Rattle.printing.specs.DeclParts.{aProgram, declList, aDecl, aTypeDecl, aTaggerDecl, broken, whenList, optionalDefinition, optionalBody};
+
+pub enum Decl {
+    Types,
+    Taggers,
+    Functions,
+    Axioms,
+    Procedures,
+}
+
+// `Program`.
+pub(crate) fn program(
+    text: &[u8],
+    words: &[u32],
+    counts: &[u16],
+    out: &mut [u8],
+    pos: usize,
+) -> Step
+    ensures { λ r. ⌜ Prints (aProgram (now (text .entry)) (now (words .entry)) (now (counts .entry))) (now (words .entry)) 0 (now (out .entry)) pos (now (out .exit)) r ⌝ }
+{
+    let a = put(out, pos, b"// B3 program\n");
+    let s = decls(text, words, counts, Decl::Types, 0, out, a);
+    let t = decls(text, words, counts, Decl::Taggers, s.next, out, s.pos);
+    let u = decls(text, words, counts, Decl::Functions, t.next, out, t.pos);
+    let v = decls(text, words, counts, Decl::Axioms, u.next, out, u.pos);
+    decls(text, words, counts, Decl::Procedures, v.next, out, v.pos)
+}
+
+// The declarations of a kind, an empty line before each.
+fn decls(
+    text: &[u8],
+    words: &[u32],
+    counts: &[u16],
+    kind: Decl,
+    at: usize,
+    out: &mut [u8],
+    pos: usize,
+) -> Step
+    ensures { λ r. ⌜ Prints (declList (now (text .entry)) (now (words .entry)) (now (counts .entry)) at kind) (now (words .entry)) at (now (out .entry)) pos (now (out .exit)) r ⌝ }
+{
+    let inside = after(words, at);
+    if get(words, at) == 0 {
+        return Step { next: inside, pos };
+    }
+    let a = put(out, pos, b"\n");
+    let s = declaration(text, words, counts, kind, inside, out, a);
+    decls(text, words, counts, kind, s.next, out, s.pos)
+}
+
+fn declaration(
+    text: &[u8],
+    words: &[u32],
+    counts: &[u16],
+    kind: Decl,
+    at: usize,
+    out: &mut [u8],
+    pos: usize,
+) -> Step
+    ensures { λ r. ⌜ Prints (aDecl (now (text .entry)) (now (words .entry)) (now (counts .entry)) at kind) (now (words .entry)) at (now (out .entry)) pos (now (out .exit)) r ⌝ }
+{
+    match kind {
+        Decl::Types => type_decl(text, words, at, out, pos),
+        Decl::Taggers => tagger_decl(text, words, at, out, pos),
+        Decl::Functions => function_decl(text, words, counts, at, out, pos),
+        Decl::Axioms => axiom_decl(text, words, counts, at, out, pos),
+        Decl::Procedures => procedure(text, words, counts, at, out, pos),
+    }
+}
+
+// `TypeDecl`.
+fn type_decl(text: &[u8], words: &[u32], at: usize, out: &mut [u8], pos: usize) -> Step
+    ensures { λ r. ⌜ Prints (aTypeDecl (now (text .entry))) (now (words .entry)) at (now (out .entry)) pos (now (out .exit)) r ⌝ }
+{
+    let a = put(out, pos, b"type ");
+    name_head(text, words, at, b"\n", out, a)
+}
+
+// `TaggerDecl`.
+fn tagger_decl(text: &[u8], words: &[u32], at: usize, out: &mut [u8], pos: usize) -> Step
+    ensures { λ r. ⌜ Prints (aTaggerDecl (now (text .entry))) (now (words .entry)) at (now (out .entry)) pos (now (out .exit)) r ⌝ }
+{
+    let a = put(out, pos, b"tagger ");
+    let s = name_head(text, words, at, b" for ", out, a);
+    name_head(text, words, s.next, b"\n", out, s.pos)
+}
+
+// `FunctionDecl`.
+fn function_decl(
+    text: &[u8],
+    words: &[u32],
+    counts: &[u16],
+    at: usize,
+    out: &mut [u8],
+    pos: usize,
+) -> Step
+    ensures { λ r. ⌜ Prints (aDecl (now (text .entry)) (now (words .entry)) (now (counts .entry)) at Functions) (now (words .entry)) at (now (out .entry)) pos (now (out .exit)) r ⌝ }
+{
+    let a = put(out, pos, b"function ");
+    let s = call_head(text, words, at, out, a);
+    let t = separated(text, words, counts, Item::Formal, s.next, b"", out, s.pos);
+    let b = put(out, t.pos, b"): ");
+    let u = put_name(text, words, t.next, out, b);
+    let v = optional_name(text, words, u.next, b" tag ", out, u.pos);
+    let c = put(out, v.pos, b"\n");
+    optional_definition(text, words, counts, v.next, out, c)
+}
+
+// An expression on broken lines from the first indent on.
+fn broken_lines(
+    text: &[u8],
+    words: &[u32],
+    counts: &[u16],
+    at: usize,
+    out: &mut [u8],
+    pos: usize,
+) -> Step
+    ensures { λ r. ⌜ Prints (broken (now (text .entry)) (now (words .entry)) (now (counts .entry)) at) (now (words .entry)) at (now (out .entry)) pos (now (out .exit)) r ⌝ }
+{
+    let a = put_indent(out, pos, INDENT_AMOUNT);
+    expr(
+        text,
+        words,
+        counts,
+        at,
+        BindingPower::INIT,
+        ExprFormatOption::MultipleLines(INDENT_AMOUNT),
+        out,
+        a,
+    )
+}
+
+fn optional_definition(
+    text: &[u8],
+    words: &[u32],
+    counts: &[u16],
+    at: usize,
+    out: &mut [u8],
+    pos: usize,
+) -> Step
+    ensures { λ r. ⌜ Prints (optionalDefinition (now (text .entry)) (now (words .entry)) (now (counts .entry)) at) (now (words .entry)) at (now (out .entry)) pos (now (out .exit)) r ⌝ }
+{
+    let inside = after(words, at);
+    if get(words, at) == 0 {
+        return Step { next: inside, pos };
+    }
+    let s = whens(text, words, counts, inside, out, pos);
+    let a = put(out, s.pos, b"{\n");
+    let t = broken_lines(text, words, counts, s.next, out, a);
+    Step {
+        next: t.next,
+        pos: put(out, t.pos, b"\n}\n"),
+    }
+}
+
+// The `when` clauses.
+fn whens(text: &[u8], words: &[u32], counts: &[u16], at: usize, out: &mut [u8], pos: usize) -> Step
+    ensures { λ r. ⌜ Prints (whenList (now (text .entry)) (now (words .entry)) (now (counts .entry)) at) (now (words .entry)) at (now (out .entry)) pos (now (out .exit)) r ⌝ }
+{
+    let inside = after(words, at);
+    if get(words, at) == 0 {
+        return Step { next: inside, pos };
+    }
+    let a = put_indent(out, pos, INDENT_AMOUNT);
+    let b = put(out, a, b"when ");
+    let s = inline(text, words, counts, inside, out, b);
+    let c = put(out, s.pos, b"\n");
+    whens(text, words, counts, s.next, out, c)
+}
+
+// `AxiomDecl`.
+fn axiom_decl(
+    text: &[u8],
+    words: &[u32],
+    counts: &[u16],
+    at: usize,
+    out: &mut [u8],
+    pos: usize,
+) -> Step
+    ensures { λ r. ⌜ Prints (aDecl (now (text .entry)) (now (words .entry)) (now (counts .entry)) at Axioms) (now (words .entry)) at (now (out .entry)) pos (now (out .exit)) r ⌝ }
+{
+    let a = put(out, pos, b"axiom");
+    let s = separated(text, words, counts, Item::Name, at, b" explains ", out, a);
+    let b = put(out, s.pos, b"\n");
+    let t = broken_lines(text, words, counts, s.next, out, b);
+    Step {
+        next: t.next,
+        pos: put(out, t.pos, b"\n"),
+    }
+}
+
+// `Procedure`.
+fn procedure(
+    text: &[u8],
+    words: &[u32],
+    counts: &[u16],
+    at: usize,
+    out: &mut [u8],
+    pos: usize,
+) -> Step
+    ensures { λ r. ⌜ Prints (aDecl (now (text .entry)) (now (words .entry)) (now (counts .entry)) at Procedures) (now (words .entry)) at (now (out .entry)) pos (now (out .exit)) r ⌝ }
+{
+    let a = put(out, pos, b"procedure ");
+    let s = call_head(text, words, at, out, a);
+    let t = separated(
+        text,
+        words,
+        counts,
+        Item::Parameter,
+        s.next,
+        b"",
+        out,
+        s.pos,
+    );
+    let b = put(out, t.pos, b")\n");
+    let u = aexprs(
+        text,
+        words,
+        counts,
+        t.next,
+        b"requires",
+        INDENT_AMOUNT,
+        out,
+        b,
+    );
+    let v = aexprs(
+        text,
+        words,
+        counts,
+        u.next,
+        b"ensures",
+        INDENT_AMOUNT,
+        out,
+        u.pos,
+    );
+    optional_body(text, words, counts, v.next, out, v.pos)
+}
+
+fn optional_body(
+    text: &[u8],
+    words: &[u32],
+    counts: &[u16],
+    at: usize,
+    out: &mut [u8],
+    pos: usize,
+) -> Step
+    ensures { λ r. ⌜ Prints (optionalBody (now (text .entry)) (now (words .entry)) (now (counts .entry)) at) (now (words .entry)) at (now (out .entry)) pos (now (out .exit)) r ⌝ }
+{
+    let inside = after(words, at);
+    if get(words, at) == 0 {
+        return Step { next: inside, pos };
+    }
+    let s = block(text, words, counts, inside, 0, out, pos);
+    Step {
+        next: s.next,
+        pos: put(out, s.pos, b"\n"),
+    }
+}

@@ -1,0 +1,350 @@
+// Printer.dfy's `Statement`, over the words of a checked table. Each function prints what stands at a place and answers the place after
+// it and the place in the output. `counts` holds, where a sequence begins, how many items it has.
+pub(crate) mod list;
+
+use crate::around::close_own;
+use crate::around::for_head;
+use crate::around::indent_inside;
+use crate::around::is_conditional;
+use crate::around::is_empty_block;
+use crate::around::is_loop;
+use crate::around::no_cases;
+use crate::around::open_own;
+use crate::around::variable;
+use crate::expression::expr;
+use crate::format::ExprFormatOption;
+use crate::format::deeper;
+use crate::items::name_head;
+use crate::parts::Step;
+use crate::parts::after;
+use crate::power::BindingPower;
+use crate::simple::simple;
+use crate::statement::list::aexprs;
+use crate::statement::list::branches;
+use crate::statement::list::cases;
+use crate::statement::list::list;
+use crate::write::put;
+use crate::write::put_either;
+use crate::write::put_indent;
+use crate::write::put_indent_unless;
+use crate::write::put_unless;
+use tree::get;
+ghost use Prim.Native.Nat.{_<_};
+ghost use lib.ListN.{length};
+ghost use Rattle.printing.specs.Parts.{Prints};
+ghost use Rattle.printing.specs.StmtParts.{aStmt, aVariable, anInner, aBlock, aBraces, aForall, aChoose, anIf, anOnward, anIfCase, aLoop, aLabelled, anAExpr};
+
+// A statement without its initial indent. `followed`: it is followed by a `}`.
+pub(crate) fn stmt(
+    text: &[u8],
+    words: &[u32],
+    counts: &[u16],
+    at: usize,
+    indent: usize,
+    followed: bool,
+    out: &mut [u8],
+    pos: usize,
+) -> Step
+    ensures { λ r. ⌜ Prints (aStmt (now (text .entry)) (now (words .entry)) (now (counts .entry)) at indent followed) (now (words .entry)) at (now (out .entry)) pos (now (out .exit)) r ⌝ }
+{
+    match get(words, at) {
+        21 => var(text, words, counts, at, indent, followed, out, pos),
+        24 => braces(text, words, counts, at, indent, out, pos),
+        30 => forall(text, words, counts, at, indent, out, pos),
+        31 => choose(text, words, counts, at, indent, out, pos),
+        32 => cond(text, words, counts, at, indent, out, pos),
+        33 => by_case(text, words, counts, at, indent, out, pos),
+        34 => again(text, words, counts, at, indent, out, pos),
+        35 => label(text, words, counts, at, indent, out, pos),
+        _ => simple(text, words, counts, at, out, pos),
+    }
+}
+
+// VarDecl: `VariableDeclaration`, in braces of its own where no `}` follows.
+fn var(
+    text: &[u8],
+    words: &[u32],
+    counts: &[u16],
+    at: usize,
+    indent: usize,
+    followed: bool,
+    out: &mut [u8],
+    pos: usize,
+) -> Step
+    requires { ⌜ at < length (now words) ⌝ }
+    ensures { λ r. ⌜ Prints (aVariable (now (text .entry)) (now (words .entry)) (now (counts .entry)) at indent followed) (now (words .entry)) at (now (out .entry)) pos (now (out .exit)) r ⌝ }
+{
+    let own = indent_inside(followed, indent);
+    let a = open_own(out, pos, followed, own);
+    let s = variable(text, words, counts, at + 1, out, a);
+    let t = inner(text, words, counts, s.next, own, true, out, s.pos);
+    Step {
+        next: t.next,
+        pos: close_own(out, t.pos, followed, indent),
+    }
+}
+
+// `BlockAsStatementList`.
+fn inner(
+    text: &[u8],
+    words: &[u32],
+    counts: &[u16],
+    at: usize,
+    indent: usize,
+    followed: bool,
+    out: &mut [u8],
+    pos: usize,
+) -> Step
+    ensures { λ r. ⌜ Prints (anInner (now (text .entry)) (now (words .entry)) (now (counts .entry)) at indent followed) (now (words .entry)) at (now (out .entry)) pos (now (out .exit)) r ⌝ }
+{
+    if get(words, at) == 24 {
+        return list(text, words, counts, at + 1, indent, out, pos);
+    }
+    let a = put_indent(out, pos, indent);
+    stmt(text, words, counts, at, indent, followed, out, a)
+}
+
+// `StmtAsBlock`, without its suffix.
+pub(crate) fn block(
+    text: &[u8],
+    words: &[u32],
+    counts: &[u16],
+    at: usize,
+    indent: usize,
+    out: &mut [u8],
+    pos: usize,
+) -> Step
+    ensures { λ r. ⌜ Prints (aBlock (now (text .entry)) (now (words .entry)) (now (counts .entry)) at indent) (now (words .entry)) at (now (out .entry)) pos (now (out .exit)) r ⌝ }
+{
+    let a = put(out, pos, b"{\n");
+    let s = inner(text, words, counts, at, deeper(indent), false, out, a);
+    let b = put_indent(out, s.pos, indent);
+    Step {
+        next: s.next,
+        pos: put(out, b, b"}"),
+    }
+}
+
+// Block.
+fn braces(
+    text: &[u8],
+    words: &[u32],
+    counts: &[u16],
+    at: usize,
+    indent: usize,
+    out: &mut [u8],
+    pos: usize,
+) -> Step
+    requires { ⌜ at < length (now words) ⌝ }
+    ensures { λ r. ⌜ Prints (aBraces (now (text .entry)) (now (words .entry)) (now (counts .entry)) at indent) (now (words .entry)) at (now (out .entry)) pos (now (out .exit)) r ⌝ }
+{
+    let a = put(out, pos, b"{\n");
+    let s = list(text, words, counts, at + 1, deeper(indent), out, a);
+    let b = put_indent(out, s.pos, indent);
+    Step {
+        next: s.next,
+        pos: put(out, b, b"}\n"),
+    }
+}
+
+// AForall.
+fn forall(
+    text: &[u8],
+    words: &[u32],
+    counts: &[u16],
+    at: usize,
+    indent: usize,
+    out: &mut [u8],
+    pos: usize,
+) -> Step
+    requires { ⌜ at < length (now words) ⌝ }
+    ensures { λ r. ⌜ Prints (aForall (now (text .entry)) (now (words .entry)) (now (counts .entry)) at indent) (now (words .entry)) at (now (out .entry)) pos (now (out .exit)) r ⌝ }
+{
+    let s = for_head(text, words, at + 1, out, pos);
+    let t = block(text, words, counts, s.next, indent, out, s.pos);
+    Step {
+        next: t.next,
+        pos: put(out, t.pos, b"\n"),
+    }
+}
+
+// Choose.
+fn choose(
+    text: &[u8],
+    words: &[u32],
+    counts: &[u16],
+    at: usize,
+    indent: usize,
+    out: &mut [u8],
+    pos: usize,
+) -> Step
+    requires { ⌜ at < length (now words) ⌝ }
+    ensures { λ r. ⌜ Prints (aChoose (now (text .entry)) (now (words .entry)) (now (counts .entry)) at indent) (now (words .entry)) at (now (out .entry)) pos (now (out .exit)) r ⌝ }
+{
+    let a = put(out, pos, b"choose ");
+    let b = put_unless(out, a, get(words, at + 1) == 1, b"{ }\n");
+    branches(text, words, counts, at + 1, indent, out, b)
+}
+
+// If.
+fn cond(
+    text: &[u8],
+    words: &[u32],
+    counts: &[u16],
+    at: usize,
+    indent: usize,
+    out: &mut [u8],
+    pos: usize,
+) -> Step
+    requires { ⌜ at < length (now words) ⌝ }
+    ensures { λ r. ⌜ Prints (anIf (now (text .entry)) (now (words .entry)) (now (counts .entry)) at indent) (now (words .entry)) at (now (out .entry)) pos (now (out .exit)) r ⌝ }
+{
+    let a = put(out, pos, b"if ");
+    let s = expr(
+        text,
+        words,
+        counts,
+        at + 1,
+        BindingPower::INIT,
+        ExprFormatOption::SingleLine,
+        out,
+        a,
+    );
+    let b = put(out, s.pos, b" ");
+    let t = block(text, words, counts, s.next, indent, out, b);
+    if is_empty_block(words, t.next) {
+        let inside = after(words, t.next);
+        return Step {
+            next: after(words, inside),
+            pos: put(out, t.pos, b"\n"),
+        };
+    }
+    let c = put(out, t.pos, b" else ");
+    let stays = is_conditional(words, t.next);
+    onward(text, words, counts, t.next, stays, indent, out, c)
+}
+
+// A statement after `else` or a label: on the line where it stays there, else as a block.
+fn onward(
+    text: &[u8],
+    words: &[u32],
+    counts: &[u16],
+    at: usize,
+    stays: bool,
+    indent: usize,
+    out: &mut [u8],
+    pos: usize,
+) -> Step
+    ensures { λ r. ⌜ Prints (anOnward (now (text .entry)) (now (words .entry)) (now (counts .entry)) at indent stays) (now (words .entry)) at (now (out .entry)) pos (now (out .exit)) r ⌝ }
+{
+    if stays {
+        return stmt(text, words, counts, at, indent, false, out, pos);
+    }
+    let s = block(text, words, counts, at, indent, out, pos);
+    Step {
+        next: s.next,
+        pos: put(out, s.pos, b"\n"),
+    }
+}
+
+// IfCase.
+fn by_case(
+    text: &[u8],
+    words: &[u32],
+    counts: &[u16],
+    at: usize,
+    indent: usize,
+    out: &mut [u8],
+    pos: usize,
+) -> Step
+    requires { ⌜ at < length (now words) ⌝ }
+    ensures { λ r. ⌜ Prints (anIfCase (now (text .entry)) (now (words .entry)) (now (counts .entry)) at indent) (now (words .entry)) at (now (out .entry)) pos (now (out .exit)) r ⌝ }
+{
+    let a = put(out, pos, b"if ");
+    let b = no_cases(out, a, get(words, at + 1) == 1, indent);
+    cases(text, words, counts, at + 1, indent, out, b)
+}
+
+// Loop.
+fn again(
+    text: &[u8],
+    words: &[u32],
+    counts: &[u16],
+    at: usize,
+    indent: usize,
+    out: &mut [u8],
+    pos: usize,
+) -> Step
+    requires { ⌜ at < length (now words) ⌝ }
+    ensures { λ r. ⌜ Prints (aLoop (now (text .entry)) (now (words .entry)) (now (counts .entry)) at indent) (now (words .entry)) at (now (out .entry)) pos (now (out .exit)) r ⌝ }
+{
+    let bare = get(words, at + 1) == 0;
+    let a = put(out, pos, b"loop");
+    let b = put_either(out, a, bare, b" ", b"\n");
+    let s = aexprs(
+        text,
+        words,
+        counts,
+        at + 1,
+        b"invariant",
+        deeper(indent),
+        out,
+        b,
+    );
+    let c = put_indent_unless(out, s.pos, bare, indent);
+    let t = block(text, words, counts, s.next, indent, out, c);
+    Step {
+        next: t.next,
+        pos: put(out, t.pos, b"\n"),
+    }
+}
+
+// LabeledStmt.
+fn label(
+    text: &[u8],
+    words: &[u32],
+    counts: &[u16],
+    at: usize,
+    indent: usize,
+    out: &mut [u8],
+    pos: usize,
+) -> Step
+    requires { ⌜ at < length (now words) ⌝ }
+    ensures { λ r. ⌜ Prints (aLabelled (now (text .entry)) (now (words .entry)) (now (counts .entry)) at indent) (now (words .entry)) at (now (out .entry)) pos (now (out .exit)) r ⌝ }
+{
+    let s = name_head(text, words, at + 1, b": ", out, pos);
+    let stays = is_loop(words, s.next);
+    onward(text, words, counts, s.next, stays, indent, out, s.pos)
+}
+
+// An assertion of `PrintAExprs`, after its prefix.
+pub(crate) fn aexpr(
+    text: &[u8],
+    words: &[u32],
+    counts: &[u16],
+    at: usize,
+    indent: usize,
+    out: &mut [u8],
+    pos: usize,
+) -> Step
+    ensures { λ r. ⌜ Prints (anAExpr (now (text .entry)) (now (words .entry)) (now (counts .entry)) at indent) (now (words .entry)) at (now (out .entry)) pos (now (out .exit)) r ⌝ }
+{
+    let inside = after(words, at);
+    if get(words, at) == 2 {
+        return stmt(text, words, counts, inside, indent, false, out, pos);
+    }
+    let s = expr(
+        text,
+        words,
+        counts,
+        inside,
+        BindingPower::INIT,
+        ExprFormatOption::SingleLine,
+        out,
+        pos,
+    );
+    Step {
+        next: s.next,
+        pos: put(out, s.pos, b"\n"),
+    }
+}
