@@ -1,5 +1,5 @@
--- Demand 3, entire. The contracts of the functions are `Answered` (`read_expression`) and `PrintAnswered` (`print_expression` on one line,
--- `print_expression_lines` from any start indent).
+-- Demand 3, entire. The contracts of the functions are `Answered` (`read_expression`), `PrintAnswered` (`print_expression` on one line,
+-- `print_expression_lines` from any start indent) and `ProgramAnswered` (`print_program`).
 use Prim.Native.Nat.{ℕ, _≤_, _<_}
 use mathlib.Core.Path.{_≡_}
 use mathlib.Core.Logic.{_↔_}
@@ -10,16 +10,19 @@ use Rattle.tree.specs.Limits.{mostText}
 use Rattle.tree.specs.Check.{NameIn}
 use Rattle.grammar.specs.Grammar.{Tree, Derives}
 use Rattle.grammar.specs.OperatorTrees.{OperatorTree, Faithful, DerivesWithin, mostDepth}
+use Rattle.grammar.specs.Reading.{readProgram, words}
 use Rattle.grammar.specs.Claims as Grammar
 use Rattle.reading.specs.TreeRead.{Answered, Leaves}
 use Rattle.reading.specs.Claims as Reader
 use Rattle.reading.specs.declared.entry.Reading.{Reading}
 use Rattle.printing.specs.declared.format.ExprFormatOption.{ExprFormatOption}
+use Rattle.printing.specs.declared.Printed.{Printed}
 use Rattle.printing.specs.declared.Printed.the-variants.{Written}
 use Rattle.printing.specs.PrintUtil.{Init}
-use Rattle.printing.specs.Entries.{PrintAnswered, Holds}
+use Rattle.printing.specs.Entries.{PrintAnswered, ProgramAnswered, Holds}
 use Rattle.roundtrip.specs.Nesting.{nesting}
 use Rattle.roundtrip.specs.SmallNaturals.{Words32}
+use Rattle.roundtrip.specs.ReadPrinted.{Unrefused, program-unrefused}
 use Rattle.roundtrip.specs.ReadBack.{treeIn, written-derives, written-read, written-read-plainly}
 
 -- First: any two derivations of a text have the same tree, whatever their depths.
@@ -54,3 +57,8 @@ pub short-print-is-read-back : (text words out out′ : List ℕ) (format : Expr
     → (m : ℕ) → length words ≤ m → (r : Reading) (table : List ℕ) → Answered (take n out′) m r table
     → Leaves (take n out′) m (treeIn text e) r table
 short-print-is-read-back = written-read-plainly
+
+-- What is read of a program's text is refused by `print_program` neither by 6 nor by 7, into any output: r is the answer over the k words read.
+pub read-program-unrefused : (text : List ℕ) (n k : ℕ) (table out out′ : List ℕ) (r : Printed) → readProgram text n ≡ words k table
+    → ProgramAnswered text (take k table) out r out′ → Unrefused r
+read-program-unrefused = program-unrefused

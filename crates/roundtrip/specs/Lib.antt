@@ -2,6 +2,7 @@
 -- what is claimed, and the depth that it speaks of
 pub mod Nesting
 pub mod ReadBack
+pub mod ReadPrinted
 pub mod Claims
 mod Examples
 pub mod Trials

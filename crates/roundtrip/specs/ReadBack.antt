@@ -22,8 +22,8 @@ use Rattle.printing.specs.declared.Printed.the-variants.{Written}
 use Rattle.printing.specs.declared.format.ExprFormatOption.{ExprFormatOption}
 use Rattle.printing.specs.PrintUtil.{Init}
 use Rattle.printing.specs.Printer.{Expression}
-use Rattle.printing.specs.Entries.{nameIn, printOf, PrintAnswered, Holds}
-use Rattle.printing.specs.EntryLaws.{same-tree}
+use Rattle.printing.specs.Entries.{nameIn, expressions, printOf, PrintAnswered, Holds}
+use Rattle.printing.specs.EntryLaws.{same-tree, expression-laws}
 use Rattle.printing.specs.Claims.{tree-printed, written-tree}
 use Rattle.roundtrip.specs.Nesting.{nesting}
 use Rattle.roundtrip.specs.Derived.{printed-derives}
@@ -67,10 +67,10 @@ module _ (text words out out′ : List ℕ) (format : ExprFormatOption) (n : ℕ
   is-print : print 2 format (treeIn text e) ≡ take n out′
   unfolding printOf print
   is-print =
-      let w = written-tree text words format out (Written n) out′ a n refl in
+      let w = written-tree (expressions 2 text format) (expression-laws 2 text format) text words out (Written n) out′ a n refl in
       let t : Expr (NameIn (length text)) = w .1 .0 in
       let p = printOf 2 text format t in
-      let q = tree-printed text words format out (Written n) out′ a t (w .1 .1 .0) (w .0) (w .1 .1 .1) in
+      let q = tree-printed (expressions 2 text format) (expression-laws 2 text format) text words out (Written n) out′ a t (w .1 .1 .0) (w .0) (w .1 .1 .1) in
       let k : length p ≡ n = cc (q .0) in
       let same : t ≡ e = same-tree text words t e (w .1 .1 .0) holds in
       sym (print-named (nameIn text) 2 e Init format [])
@@ -101,7 +101,7 @@ module _ (text words out out′ : List ℕ) (format : ExprFormatOption) (n : ℕ
     keeps m h =
         let t = treeIn text e in
         let c : wordCount t ≡ length words = counted in
-        let few : length words ≤ mostWords = written-tree text words format out (Written n) out′ a n refl .0 .words-fit in
+        let few : length words ≤ mostWords = written-tree (expressions 2 text format) (expression-laws 2 text format) text words out (Written n) out′ a n refl .0 .words-fit in
         let k : length (print 2 format t) ≤ mostText = rw is-print (omega (arith, length-take n out′)) in
         subst (λ p. DerivesWithin m p t) is-print
         (print-keeps 2 format m t x (words-small (nameIn text) e [] (subst Words32 (sym holds) w)) k flat (omega arith) (omega arith))

@@ -1,5 +1,5 @@
--- Document 01's trials that are proved: one list, one theorem. A row is a text, a table's length, and what reading answers and leaves in the
--- table; or a text, a table's words, the output, and what printing on one line answers and leaves in the output.
+-- Document 01's trials that are proved: one list, one theorem. A row is a text, a table's length, and what reading an expression or a program
+-- answers and leaves in the table; or a text, a table's words, the output, and what printing on one line answers and leaves in the output.
 use mathlib.Core.Path.{_≡_, refl}
 use Prim.Native.Nat.{ℕ, _+_, _≤_}
 use Prim.Native.String.{String}
@@ -12,24 +12,26 @@ use Rattle.tree.specs.Words.{exprWords}
 use Rattle.tree.specs.Check.{NameIn}
 use Rattle.tree.specs.Resolve.{part}
 use Rattle.grammar.specs.Words.{bytes}
-use Rattle.grammar.specs.ReadingExamples.{computed as read-computed}
-use Rattle.grammar.specs.Reading.{words, refusal, readExpression}
+use Rattle.grammar.specs.ProgramExamples.{computed as read-computed}
+use Rattle.grammar.specs.Reading.{words, refusal, readExpression, readProgram}
 use Rattle.grammar.specs.Reading as Reading
 use Rattle.printing.specs.declared.format.ExprFormatOption.the-variants.{SingleLine}
 use Rattle.printing.specs.Examples.{computed as print-computed}
-use Rattle.printing.specs.Entries.{written, stored, printOf, printExpression}
+use Rattle.printing.specs.Entries.{written, stored, expressions, printOf, printExpression}
 use Rattle.printing.specs.Entries as Printing
 use Rattle.printing.specs.EntryLaws as Entry
 
 -- a row of the list
 pub data Trial : Type 0 where
   reads : String → ℕ → Reading.Outcome → Trial
+  readsProgram : String → ℕ → Reading.Outcome → Trial
   prints : String → List ℕ → String → Printing.Outcome → Trial
 
 -- each row is what the definitions give
 abbrev pub Given : List Trial → Type 0
 Given [] = Unit {0}
 Given (reads s n o ∷ ts) = (readExpression (bytes s) n ≡ o) × Given ts
+Given (readsProgram s n o ∷ ts) = (readProgram (bytes s) n ≡ o) × Given ts
 Given (prints s ws out o ∷ ts) = (printExpression 2 (bytes s) ws SingleLine (bytes out) ≡ o) × Given ts
 
 -- the list
@@ -46,6 +48,7 @@ trials =
     ∷ prints "abc" (5 ∷ 12 ∷ 1 ∷ 4 ∷ 0 ∷ 1 ∷ 0 ∷ 1 ∷ 5 ∷ 13 ∷ 1 ∷ 4 ∷ 1 ∷ 1 ∷ 0 ∷ 1 ∷ 4 ∷ 2 ∷ 1 ∷ 0 ∷ 0 ∷ 0 ∷ []) "~~~~~~~~~~~~~~~~" (written 11 (bytes "a * b div c~~~~~"))  -- P9
     ∷ prints "abc" (5 ∷ 4 ∷ 1 ∷ 5 ∷ 5 ∷ 1 ∷ 4 ∷ 0 ∷ 1 ∷ 0 ∷ 1 ∷ 4 ∷ 1 ∷ 1 ∷ 0 ∷ 0 ∷ 1 ∷ 4 ∷ 2 ∷ 1 ∷ 0 ∷ 0 ∷ []) "~~~~~~~~~~~~~~~~" (written 13 (bytes "(a || b) && c~~~"))  -- P10
     ∷ reads "a + 1" 14 (words 12 (5 ∷ 10 ∷ 1 ∷ 4 ∷ 0 ∷ 1 ∷ 0 ∷ 1 ∷ 2 ∷ 0 ∷ 1 ∷ 0 ∷ 0 ∷ 0 ∷ []))  -- P11
+    ∷ readsProgram "/* q" 6 (words 5 (0 ∷ 0 ∷ 0 ∷ 0 ∷ 0 ∷ 0 ∷ []))  -- P12
     ∷ []
 
 -- the trees of the tables over `abc`
@@ -66,7 +69,7 @@ c = name 2 (lit≤ tt)
 
 printed : (e : Expr (NameIn 3)) (ws : List ℕ) → exprWords (λ n. n .span) e [] ≡ ws → length ws ≤ 16384
     → printExpression 2 (bytes "abc") ws SingleLine (bytes "~~~~~~~~~~~~~~~~") ≡ stored (printOf 2 (bytes "abc") SingleLine e) (bytes "~~~~~~~~~~~~~~~~")
-printed e ws h l = Entry.prints (bytes "abc") ws e h 2 SingleLine (bytes "~~~~~~~~~~~~~~~~") (lit≤ tt) l (lit≤ tt)
+printed e ws h l = Entry.prints (expressions 2 (bytes "abc") SingleLine) (bytes "abc") ws (bytes "~~~~~~~~~~~~~~~~") (Entry.expression-laws 2 (bytes "abc") SingleLine) e h (lit≤ tt) l (lit≤ tt)
 
 -- the theorem
 pub trials-given : Given trials
@@ -89,7 +92,7 @@ trials-given = (
                 printed (two Minus a (two Minus b c)) _ refl (lit≤ tt),
                 (
                   printed (two Times a (two Div b c)) _ refl (lit≤ tt),
-                  (printed (two LogicalAnd (two LogicalOr a b) c) _ refl (lit≤ tt), (refl, tt)),
+                  (printed (two LogicalAnd (two LogicalOr a b) c) _ refl (lit≤ tt), (refl, (refl, tt))),
                 ),
               ),
             ),
