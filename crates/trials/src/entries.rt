@@ -19,8 +19,10 @@ use crate::show::untouched;
 use printing::Printed;
 use printing::print_expression;
 use printing::print_expression_lines;
+use printing::print_program;
 use reading::Reading;
 use reading::read_expression;
+use reading::read_program;
 ghost use Rattle.io.specs.Counts.{Counts};
 
 // More bytes than an entry writes.
@@ -48,7 +50,9 @@ fn once(run: Run, text: &[u8], table: &mut [u32], out: &mut [u8]) -> Outcome {
     let entry = run.entry;
     match entry {
         b'r' => read(read_expression(text, table)),
+        b'R' => read(read_program(text, table)),
         b'm' => printed(print_expression_lines(text, table, run.indent, out)),
+        b'P' => printed(print_program(text, table, out)),
         _ => printed(print_expression(text, table, out)),
     }
 }

@@ -7,13 +7,15 @@
 //   c C LENGTH TABLE             `tree`: the check of an expression's and of a program's table, over a text of so many bytes
 //   w v PLACE TABLE              the word and the natural at a place
 //   x START LENGTH TEXT          the part of the text that a name occupies
-//   r WORDS TEXT                 `reading`: an expression's reading, into a table of so many words
+//   r R WORDS TEXT               `reading`: an expression's and a program's reading, into a table of so many words
 //   p BYTES TABLE/TEXT           `printing`: an expression's print on one line, into so many bytes
 //   m INDENT BYTES TABLE/TEXT    its print on several lines, from a start indent on
+//   P BYTES TABLE/TEXT           a program's print
 // A TABLE is given by pieces, from `r` on a TEXT too (`pieces`); before, it is the rest of the line, in the cases of `lexing` with the escapes of
 // `lines`. A line that begins otherwise has no answer.
 //
-// A number at once after `r`, `p` or `m` says how often the entry is run, for measuring; the answer is then only how much the last run gave.
+// A number at once after `r`, `R`, `p`, `m` or `P` says how often the entry is run, for measuring; the answer is then only how much the last run
+// gave.
 mod entries;
 mod lines;
 mod numbers;
@@ -76,8 +78,8 @@ fn answer(entry: u8, line: &[u8]) {
         indent: 0,
     };
     match entry {
-        b'r' => read_case(run, rest),
-        b'p' => print_case(run, rest),
+        b'r' | b'R' => read_case(run, rest),
+        b'p' | b'P' => print_case(run, rest),
         b'm' => print_lines_case(run, rest),
         b'x' => name_case(rest),
         b'c' | b'C' | b'w' | b'v' => table_case(entry, rest),
