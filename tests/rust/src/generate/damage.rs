@@ -1,13 +1,13 @@
 //! Texts that aren't whole programs: damaged ones, and runs of tokens.
 
 use super::names::{self, KEYWORDS, SIGNS};
-use super::{blanks, program};
+use super::{blanks, Source};
 use crate::random::Random;
 use std::ops::Range;
 
-/// A whole program cut, exchanged, inserted into or overwritten, up to three times.
-pub fn damaged(random: &mut Random) -> Vec<u8> {
-    let source = program(random);
+/// A whole text cut, exchanged, inserted into or overwritten, up to three times.
+pub fn damaged(random: &mut Random, whole: fn(&mut Random) -> Source<'_>) -> Vec<u8> {
+    let source = whole(random);
     let (mut text, mut starts) = (source.text, source.starts);
     for _ in 0..random.between(1, 3) {
         starts.retain(|&start| start <= text.len());
@@ -127,12 +127,17 @@ pub fn token_run(random: &mut Random) -> Vec<u8> {
         "procedure p() { loop",
     ];
     let mut text = random.pick(&BEGINNINGS).as_bytes().to_vec();
+    tokens(random, &mut text);
+    text
+}
+
+/// A few tokens in any order.
+pub fn tokens(random: &mut Random, text: &mut Vec<u8>) {
     for _ in 0..random.between(1, 10) {
         if !random.once_in(5) {
-            blanks::blank(random, blanks::Style::Spaced, &mut text);
+            blanks::blank(random, blanks::Style::Spaced, text);
         }
         let token = token(random);
         text.extend_from_slice(&token);
     }
-    text
 }

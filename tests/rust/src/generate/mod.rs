@@ -39,10 +39,31 @@ pub fn case(seed: u64, index: u64) -> Case {
 fn text(random: &mut Random) -> Vec<u8> {
     match random.below(40) {
         0..=20 => program(random).text,
-        21..=31 => damage::damaged(random),
+        21..=31 => damage::damaged(random, program),
         32..=36 => damage::token_run(random),
         _ => limits::text(random),
     }
+}
+
+/// The text of an expression, whole or damaged, or a run of tokens.
+pub fn expression_text(random: &mut Random) -> Vec<u8> {
+    match random.below(8) {
+        0..=3 => expression(random).text,
+        4..=6 => damage::damaged(random, expression),
+        _ => {
+            let mut text = Vec::new();
+            damage::tokens(random, &mut text);
+            text
+        }
+    }
+}
+
+fn expression(random: &mut Random) -> Source<'_> {
+    let fuel = random.between(1, 60);
+    let mut source = Source::new(random, fuel);
+    source.expr();
+    source.finish();
+    source
 }
 
 /// A whole program, of a few tokens or of some thousand.
