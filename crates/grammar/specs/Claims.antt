@@ -1,27 +1,30 @@
 -- What is proved of the operator grammar (document 01, "The operator grammar"), from the definitions in Words, Tokens, Grammar and Parser, and of
 -- the reading rules, from those in Steps, Rules and Reading.
-use Prim.Native.Nat.{ℕ, _≤_, _<_}
+use Prim.Native.Nat.{ℕ, _+_, _*_, _≤_, _<_}
 use lib.ListN.{length, take}
 use mathlib.Core.Path.{_≡_}
 use mathlib.Core.Logic.{_↔_}
-use mathlib.Core.Bool.{true}
+use mathlib.Core.Bool.{true, false}
 use mathlib.Core.List.{List, []}
 use mathlib.Core.Option.{none, some}
 use Rattle.lexing.specs.Answer.{ok}
 use Rattle.tree.specs.Ast.{Span, Expr, Program}
 use Rattle.tree.specs.Resolve.{bytes, mapExpr, mapProgram, resolveExpr}
-use Rattle.tree.specs.Words.{exprWords}
+use Rattle.tree.specs.Limits.{mostWords}
+use Rattle.tree.specs.Words.{exprWords, programWords}
 use Rattle.tree.specs.Claims.{expression-count}
 use Rattle.tree.specs.Check.{NameIn, expressionRefusal, programRefusal}
 use Rattle.grammar.specs.Tokens.{Token, cut}
 use Rattle.grammar.specs.Grammar.{Tree, Whole, Derives}
 use Rattle.grammar.specs.OperatorTrees.{OperatorTree, smallNaturals, wordCount, DerivesWithin}
 use Rattle.grammar.specs.Parser.{parse, whole, parseExpr}
-use Rattle.grammar.specs.Reading.{words, refusal, readTree, readExpression, readTreeOfProgram, readProgram}
+use Rattle.grammar.specs.Reading.{words, refusal, parseText, readTree, readExpression, parseProgram, readTreeOfProgram, readProgram}
 use Rattle.grammar.specs.TreeRead.{GivesTree}
 use Rattle.grammar.specs.Bridge.Limits.{read-derives, gives-derives, derives-gives, derives-operators, gives-same}
 use Rattle.grammar.specs.Inside.Accepted.{expression-inside, program-inside, expression-passes, program-passes}
 use Rattle.grammar.specs.Refusals.Entries.{Refused, expression-refused, program-refused}
+use Rattle.grammar.specs.Size.Entries.{expression-few, program-few, program-roomy}
+use Rattle.grammar.specs.Tables.{short}
 use Rattle.grammar.specs.Laws.Exact.{parse-sound, parse-complete, no-parse, deeper, unambiguous}
 use Rattle.grammar.specs.Laws.Every.{allLegal, legal, derived-operators}
 use Rattle.grammar.specs.Laws.Limited.{limited, parse-limited}
@@ -106,3 +109,16 @@ read-expression-refused text n number place table = expression-refused text n
 pub read-program-refused : (text : List ℕ) (n number place : ℕ) (table : List ℕ) → readProgram text n ≡ refusal number place table
     → Refused number place
 read-program-refused text n number place table = program-refused text n
+
+-- The tree that a text holds has few words: a program's at most five for each byte and five more, as the empty text's five; an expression's fewer
+-- than five for each byte, as the four of a name of one byte.
+pub program-words-few : (text : List ℕ) (p : Program Span) (next : ℕ) → parseProgram text ≡ ok p next
+    → length (programWords (λ s. s) p []) ≤ 5 * length text + 5
+program-words-few text p next = program-few text
+
+pub expression-words-few : (text : List ℕ) (e : Expr Span) (next : ℕ) → parseText text ≡ ok e next → length (exprWords (λ s. s) e []) < 5 * length text
+expression-words-few text e next = expression-few text
+
+-- So a table with room for so many words is not too short: with one of at most 16,384, a program is not refused by 5.
+pub program-table-long : (text : List ℕ) (n : ℕ) → 5 * length text + 5 ≤ n → n ≤ mostWords → short (readProgram text n) ≡ false
+program-table-long = program-roomy

@@ -16,6 +16,7 @@ pub mod TreeRead
 pub mod Bridge
 pub mod Inside
 pub mod Refusals
+pub mod Size
 pub mod Tables
 pub mod Claims
 pub mod Examples

@@ -14,7 +14,7 @@ use Rattle.grammar.specs.Words.{bytes}
 use Rattle.grammar.specs.Grammar.{Tree}
 use Rattle.grammar.specs.Steps.{after}
 use Rattle.grammar.specs.Rules
-use Rattle.grammar.specs.Reading.{refusal, parseText, readTree, readExpression}
+use Rattle.grammar.specs.Reading.{Outcome, words, refusal, parseText, readTree, readExpression}
 
 unfoldable pub computed : Unit {0}
 unfolding tokens readExpression readTree parseText after Rules.leftTail Rules.rightTail Rules.onceTail Rules.commaTail
@@ -37,6 +37,15 @@ blank-in-literal = refl
 depth-before-natural : Rules.parseExpr (bytes "18446744073709551616") 21 0 0 ≡ refused 3 0
 unfolding computed
 depth-before-natural = refl
+
+-- seven bytes with 31 words: none have more than 34 (`expression-words-few`)
+abbrev count : Outcome → ℕ
+count (words n table) = n
+count (refusal number place table) = 0
+
+dense : count (readExpression (bytes "a+b+c+d") 34) ≡ 31
+unfolding computed
+dense = refl
 
 -- ---- the forms without an operator, with a different name in every place
 

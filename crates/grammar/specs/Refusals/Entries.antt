@@ -11,6 +11,7 @@ use Rattle.lexing.specs.Answer.{Answer, ok, refused, pick}
 use Rattle.lexing.specs.Blanks.{Blanks, passed, unclosed, W}
 use Rattle.lexing.specs.BlankLaws.{reach, W-inside}
 use Rattle.tree.specs.Limits.{mostText, mostWords}
+use Rattle.tree.specs.Clash.{impossible}
 use Rattle.grammar.specs.Steps.{Reader, after, need}
 use Rattle.grammar.specs.OperatorTrees.{mostDepth}
 use Rattle.grammar.specs.Reading.{Outcome, words, refusal, leading, toEnd, parseText, parseProgram, wholeText, unlessLong, stored, outcomeBy, readTree, readExpression, readTreeOfProgram, readProgram}
@@ -45,6 +46,20 @@ whole-placed text {rule} h = by-blanks (W text) (W-inside text)
     by-blanks (passed n) l = step (h n l) (unusable l) (λ a next m. picked (eqb next (length text)) (reaches m) (unusable m))
     by-blanks (unclosed n) l = unusable l
 
+-- a text is refused by at most 4 before its words are stored
+whole-refused : {A : Type 0} (text : List ℕ) {rule : Reader A} → Stays (length text) rule → {number place : ℕ}
+    → unlessLong text (wholeText text rule) ≡ refused number place → number ≤ 4
+whole-refused {A} text {rule} h {number} {place} = by-length (leb (length text) mostText)
+  where
+    of-rules : {r : Answer A} → Placed (length text) r → r ≡ refused number place → number ≤ 4
+    of-rules (reaches l) e = impossible (cc)
+    of-rules nothing e = impossible (cc)
+    of-rules (refuses {number = k} l m i) e = let same : k ≡ number = cc in omega arith
+
+    by-length : (b : Bool) → pick b (wholeText text rule) (refused 1 mostText) ≡ refused number place → number ≤ 4
+    by-length true e = of-rules (whole-placed text h) e
+    by-length false e = let same : 1 ≡ number = cc in omega arith
+
 module _ {A : Type 0} (wordsOf : A → List ℕ) (text : List ℕ) (n : ℕ) where
   -- the words are stored, or refused by 5
   stored-limited : length text ≤ mostText → (ws : List ℕ) → Limited text n (stored n ws)
@@ -68,6 +83,11 @@ module _ {A : Type 0} (wordsOf : A → List ℕ) (text : List ℕ) (n : ℕ) whe
       by-length : (b : Bool) → leb (length text) mostText ≡ b → Limited text n (outcomeBy wordsOf n (pick b (wholeText text rule) (refused 1 mostText)))
       by-length true e = answer-limited (leb-true _ _ e) (whole-placed text h)
       by-length false e = record { least = omega arith; most = omega arith; inside = omega arith }
+
+-- No rule of programs refuses by 5.
+pub program-rules-refused : (text : List ℕ) {number place : ℕ} → readTreeOfProgram text ≡ refused number place → number ≤ 4
+unfolding readTreeOfProgram parseProgram
+program-rules-refused text = whole-refused text (TopLevel-stays text (suc (length text)) (gallery-stays text (suc (length text)) mostDepth))
 
 module _ (text : List ℕ) (n : ℕ) where
   expression-limited : Limited text n (readExpression text n)
