@@ -12,7 +12,6 @@ use Rattle.tree.specs.Claims.{expression-unique, append}
 use Rattle.grammar.specs.Grammar.{Tree}
 use Rattle.grammar.specs.OperatorTrees.{OperatorTree, DerivesWithin}
 use Rattle.grammar.specs.Reading.{Outcome, words, refusal, treeWords, stored, outcome, readTree, readExpression}
-use Rattle.reading.specs.Code.{outcomeOf}
 use Rattle.reading.specs.TreeRead.{Answered, Leaves}
 use Rattle.grammar.specs.Bridge.Limits.{read-derives, derives-gives, stored-inv, stored-fits}
 use Rattle.reading.specs.declared.entry.Reading.{Reading}

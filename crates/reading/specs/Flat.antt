@@ -6,7 +6,7 @@ use mathlib.Core.List.{List, [], _∷_, _++_}
 use lib.ListN.{length, getD, drop, replicate}
 use lib.Dec.{eqb}
 use Rattle.lexing.specs.Answer.{pick}
-use Rattle.reading.specs.Arena.{Run, Holds}
+use Rattle.rules.specs.Arena.{Run, Holds}
 
 -- ---- frames
 

@@ -6,10 +6,14 @@ use lib.ListN.{length, replicate}
 use Rattle.tree.specs.Ast.{Span, Expr}
 use Rattle.tree.specs.Resolve.{resolveExpr}
 use Rattle.grammar.specs.Grammar.{Tree}
-use Rattle.grammar.specs.Reading.{treeWords, readExpression, readProgram}
-use Rattle.reading.specs.Code.{outcomeOf}
+use Rattle.grammar.specs.Reading.{Outcome, words, refusal, treeWords, readExpression, readProgram}
 use Rattle.reading.specs.declared.entry.Reading.{Reading}
-use Rattle.reading.specs.declared.entry.Reading.the-variants.{Words}
+use Rattle.reading.specs.declared.entry.Reading.the-variants.{Words, Refused}
+
+-- The code's answer, with the table as the code leaves it.
+abbrev pub outcomeOf : Reading → List ℕ → Outcome
+outcomeOf (Words count) table = words count table
+outcomeOf (Refused number place) table = refusal number place table
 
 -- What `read_expression` ensures of its answer r and of the table of n words after it.
 abbrev pub Answered : List ℕ → ℕ → Reading → List ℕ → Type 0

@@ -1,46 +1,28 @@
 // Read expression and read program.
-use crate::arena::Built;
-use crate::arena::END;
-use crate::arena::ONE;
-use crate::arena::node;
 use crate::flat::flatten;
-use crate::program::program;
-use crate::rules::expr;
-use lexing::Reach;
-use lexing::UNCLOSED_COMMENT;
-use lexing::blanks;
+use rules::Parsed;
+use rules::Whole;
+use rules::parse;
 use tree::MOST_TEXT;
 use tree::MOST_WORDS;
 ghost use mathlib.Core.Path.{_≡_};
 ghost use Prim.Native.Nat.{_≤_, min};
 ghost use mathlib.Core.List.{[]};
 ghost use lib.ListN.{length, replicate};
-ghost use Rattle.lexing.specs.Answer.{Answer};
 ghost use Rattle.tree.specs.Limits.{mostText};
-ghost use Rattle.grammar.specs.Steps.{need};
-ghost use Rattle.grammar.specs.Reading.{outcomeBy, stored, toEnd};
-ghost use Rattle.reading.specs.Arena.{Run, Holds, Room, Builds};
-ghost use Rattle.reading.specs.Code.{outcomeOf};
-ghost use Rattle.reading.specs.Entry.{Buffers, RunAnswer, RunRead, wholeRule, wholeOutcome, readOutcome};
+ghost use Rattle.grammar.specs.Reading.{stored};
+ghost use Rattle.rules.specs.Arena.{Run, Holds};
+ghost use Rattle.reading.specs.Entry.{Buffers, wholeOutcome, readOutcome};
 ghost use Rattle.reading.specs.Flat.{Rooted};
-ghost use Rattle.reading.specs.TreeRead.{Answered, ProgramAnswered};
+ghost use Rattle.reading.specs.TreeRead.{outcomeOf, Answered, ProgramAnswered};
 
-// What reading answers: `outcomeOf` in specs/Code.antt gives document 01's number and values of each case.
+// What reading answers: `outcomeOf` in specs/TreeRead.antt gives document 01's number and values of each case.
 pub enum Reading {
     // How many words the tree has.
     Words(usize),
     // The refusal's number and place.
     Refused(u64, usize),
 }
-
-// What a text is read as.
-pub(crate) enum Whole {
-    Expression,
-    Program,
-}
-
-// Document 01's depth limit.
-const MOST_DEPTH: usize = 200;
 
 // All words become 0.
 fn clear(table: &mut [u32])
@@ -75,42 +57,6 @@ fn store(arena: &[u32], root: u32, stack: &mut [u32], table: &mut [u32]) -> Read
     Reading::Refused(5, 0)
 }
 
-// What an entry answers, by what its rule built from `at` on: the node's words in the table, if the rule read the text to its end.
-fn finish(
-    text: &[u8],
-    at: usize,
-    built: Built,
-    arena: &[u32],
-    stack: &mut [u32],
-    table: &mut [u32],
-) -> Reading
-    requires { ⌜ Buffers (now text) (now arena) (now stack) (now table) ⌝ }
-    requires { ⌜ RunRead (now text) (now arena) at built ⌝ }
-    ensures { λ r. ⌜ ((answer : Answer Run) → RunAnswer (now (text .entry)) (now (arena .entry)) at answer built → outcomeOf r (now (table .exit)) ≡ outcomeBy (λ f. f []) (length (now (table .entry))) (need at answer (toEnd (now (text .entry))))) ⌝ }
-{
-    match built {
-        Built::Ok(root, next, _) => {
-            if next == text.len() {
-                return store(arena, root, stack, table);
-            }
-            Reading::Refused(2, next)
-        }
-        Built::None => Reading::Refused(2, at),
-        Built::Refused(number, place) => Reading::Refused(number, place),
-    }
-}
-
-// The rule of a whole text.
-fn rule(text: &[u8], at: usize, arena: &mut [u32], whole: Whole) -> Built
-    requires { ⌜ Room (now text) (now arena) at 8 36 ⌝ }
-    ensures { λ r. ⌜ Builds (λ f. f) (now (text .entry)) (now (arena .entry)) (now (arena .exit)) at 8 0 36 (wholeRule whole (now (text .entry)) at) r ⌝ }
-{
-    match whole {
-        Whole::Expression => expr(text, at, arena, 8, MOST_DEPTH),
-        Whole::Program => program(text, at, arena, 8, MOST_DEPTH),
-    }
-}
-
 // Reads a text over an arena of 44 words and eight for each byte, and a stack of eleven words and two for each byte.
 fn read_in(
     text: &[u8],
@@ -122,13 +68,9 @@ fn read_in(
     requires { ⌜ Buffers (now text) (now arena) (now stack) (now table) ⌝ }
     ensures { λ r. ⌜ outcomeOf r (now (table .exit)) ≡ wholeOutcome whole (length (now (table .entry))) (now (text .entry)) ⌝ }
 {
-    match blanks(text) {
-        Reach::Unclosed(at) => Reading::Refused(UNCLOSED_COMMENT, at),
-        Reach::Passed(at) => {
-            node(arena, END as usize, ONE, 0, 0, 0);
-            let built = rule(text, at, arena, whole);
-            finish(text, at, built, arena, stack, table)
-        }
+    match parse(text, arena, whole) {
+        Parsed::Tree(root) => store(arena, root, stack, table),
+        Parsed::Refused(number, place) => Reading::Refused(number, place),
     }
 }
 

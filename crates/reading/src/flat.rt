@@ -1,18 +1,18 @@
 // A node's words, written to a table by a walk with a stack of frames. The stack grows down from its end.
-use crate::arena::BINARY;
-use crate::arena::CLOSED;
-use crate::arena::HEADED;
-use crate::arena::IDENT;
-use crate::arena::ITEM;
-use crate::arena::ONE;
-use crate::arena::PAIR;
-use crate::arena::THREE;
-use crate::arena::TWO;
-use crate::arena::UNARY;
+use rules::BINARY;
+use rules::CLOSED;
+use rules::HEADED;
+use rules::IDENT;
+use rules::ITEM;
+use rules::ONE;
+use rules::PAIR;
+use rules::THREE;
+use rules::TWO;
+use rules::UNARY;
 ghost use Prim.Native.Nat.{_+_, _*_, _/_, _≤_, _<_};
 ghost use mathlib.Core.List.{[], _∷_};
 ghost use lib.ListN.{length};
-ghost use Rattle.reading.specs.Arena.{Run, Holds};
+ghost use Rattle.rules.specs.Arena.{Run, Holds};
 ghost use Rattle.reading.specs.Flat.{nodeHead, nodeParts, whole, headOf, partsOf, Fit, Replaced, Writes, Rooted, Flattened};
 
 // A frame is a node times four and one of these: the word 0, and no node; the node; 1 and the node; 1, the node and 0.

@@ -2,18 +2,14 @@
 use Prim.Native.Nat.{ℕ, _≤_}
 use native.Mathlib.Omega.{arith}
 use mathlib.Core.Path.{_≡_, refl, sym, ap, subst, _∙_}
-use mathlib.Core.Bool.{Bool, true, false}
 use mathlib.Core.Option.{none}
 use mathlib.Core.List.{List}
 use lib.ListN.{length, take, length-take}
-use lib.Dec.{eqb}
 use Rattle.tree.specs.Limits.{mostText, mostWords}
 use Rattle.tree.specs.Check.{programRefusal}
 use Rattle.grammar.specs.Reading.{words, refusal, readProgram}
 use Rattle.grammar.specs.Refusals.Entries.{Refused, Held, program-refused, program-held}
-use Rattle.grammar.specs.Tables.{short}
-use Rattle.grammar.specs.Claims.{read-program-accepted}
-use Rattle.reading.specs.Code.{outcomeOf}
+use Rattle.grammar.specs.Claims.{read-program-accepted, program-table-long}
 use Rattle.reading.specs.TreeRead.{ProgramAnswered}
 use Rattle.reading.specs.declared.entry.Reading.{Reading}
 use Rattle.reading.specs.declared.entry.Reading.the-variants.{Words as ReadWords, Refused as ReadRefused}
@@ -23,14 +19,6 @@ use Rattle.printing.specs.declared.Printed.{Printed}
 use Rattle.printing.specs.declared.Printed.the-variants.{Written as PrintWritten, Refused as PrintRefused}
 use Rattle.tidy.specs.Tidy.{Answered, Tidied, refusalNumber, ofPrint, ofReading, tidied}
 use Rattle.tidy.specs.TidyLaws.{shorter, Limited, print-limited}
-
--- ---- `short`
-
-pub words-long : {read : Reading} {n : ℕ} → read ≡ ReadWords n → (table : List ℕ) → false ≡ short (outcomeOf read table)
-words-long e table = rw e refl
-
-pub refused-short : {read : Reading} {number place : ℕ} → read ≡ ReadRefused number place → (table : List ℕ) → eqb number 5 ≡ short (outcomeOf read table)
-refused-short e table = rw e refl
 
 -- ---- `print`
 
@@ -91,7 +79,7 @@ pub any-answered : (text out : List ℕ) (n : ℕ) (w : Answered) → w ≡ ofRe
 unfolding tidied
 any-answered text out n w h e = h ∙ ap (λ k. ofReading text out (readProgram text k)) e
 
-pub small-answered : (text out table : List ℕ) (n m : ℕ) (r : Reading) (w : Answered) → ProgramAnswered text n r table → short (outcomeOf r table) ≡ false
-    → n ≤ mostWords → w ≡ ofReading text out (readProgram text m) → m ≡ n → w ≡ tidied text out
-small-answered text out table n m r w a l k h e =
-    h ∙ ap (λ j. ofReading text out (readProgram text j)) e ∙ shorter text out n k (sym (ap short a) ∙ l)
+-- five words, and five for each of at most 512 bytes
+pub small-answered : (text out : List ℕ) (n : ℕ) (w : Answered) → w ≡ ofReading text out (readProgram text n) → length text ≤ 512 → 2565 ≤ n → n ≤ mostWords
+    → w ≡ tidied text out
+small-answered text out n w h l least most = h ∙ shorter text out n most (program-table-long text n (omega arith) most)

@@ -4,16 +4,13 @@ use printing::print_program;
 use reading::Reading;
 use reading::read_program;
 use tree::MOST_WORDS;
-ghost use Prim.Native.Nat.{ℕ, _≤_};
+ghost use Prim.Native.Nat.{_≤_};
 ghost use mathlib.Core.Path.{_≡_};
-ghost use mathlib.Core.List.{List};
 ghost use mathlib.Core.Option.{none};
 ghost use lib.ListN.{length};
 ghost use Rattle.tree.specs.Limits.{mostText};
 ghost use Rattle.tree.specs.Check.{programRefusal};
 ghost use Rattle.grammar.specs.Reading.{readProgram};
-ghost use Rattle.grammar.specs.Tables.{short as tooShort};
-ghost use Rattle.reading.specs.Code.{outcomeOf};
 ghost use Rattle.reading.specs.TreeRead.{ProgramAnswered};
 ghost use Rattle.printing.specs.Entries.{printProgram};
 ghost use Rattle.tidy.specs.Tidy.{Tidied, refusalNumber, ofPrint, ofReading};
@@ -32,15 +29,13 @@ pub extern "C" fn tidy(text: &[u8], out: &mut [u8]) -> u64
     tidy_any(text, out)
 }
 
-// A text of at most 512 bytes clears a small table. Should its tree have more words, it is read again; no proof needs to know that none has.
+// A text of at most 512 bytes clears a small table, which has room for its tree.
 fn tidy_small(text: &[u8], out: &mut [u8]) -> u64
+    requires { ⌜ length (now text) ≤ 512 ⌝ }
     ensures { λ r. ⌜ Tidied (now (text .entry)) (now (out .entry)) r (now (out .exit)) ⌝ }
 {
     let mut table = [0u32; FEW_WORDS];
     let read = read_program(text, &mut table);
-    if short(read) {
-        return tidy_any(text, out);
-    }
     answer(text, read, &table, out)
 }
 
@@ -50,16 +45,6 @@ fn tidy_any(text: &[u8], out: &mut [u8]) -> u64
     let mut table = [0u32; MOST_WORDS];
     let read = read_program(text, &mut table);
     answer(text, read, &table, out)
-}
-
-// Whether the table was too short.
-fn short(read: Reading) -> bool
-    ensures { λ r. ⌜ ((table : List ℕ) → r ≡ tooShort (outcomeOf read table)) ⌝ }
-{
-    match read {
-        Reading::Words(_) => false,
-        Reading::Refused(number, _) => number == 5,
-    }
 }
 
 // The print of what a reading left in a table, or its refusal.

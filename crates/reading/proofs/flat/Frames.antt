@@ -7,7 +7,7 @@ use mathlib.Core.List.{List, [], _∷_, _++_}
 use lib.ListN.{length, getD, drop, set, length-set}
 use lib.Seq.{drop-cons, drop-set-lt, getD-set-same}
 use lib.Pow.{pow-pos, pow-lt, add-lt-pow}
-use Rattle.reading.specs.Arena.{Run, Node, Holds, empty, one, two, three, ident, unary, binary, item, pair, closed, headed}
+use Rattle.rules.specs.Arena.{Run, Node, Holds, empty, one, two, three, ident, unary, binary, item, pair, closed, headed}
 use Rattle.reading.specs.Flat.{nodeHead, nodeParts, whole, next, last, headOf, partsOf, Small, Replaced}
 
 -- ---- frames in the place of another

@@ -4,7 +4,7 @@ use native.Mathlib.Omega.{arith}
 use mathlib.Core.Path.{_≡_, refl, sym, ap, _∙_}
 use mathlib.Core.List.{List, [], _∷_, append-nil}
 use lib.ListN.{length, getD, drop, set, replicate, length-append, length-drop, length-set, drop-of-length-le}
-use Rattle.reading.specs.Arena.{Run, Holds}
+use Rattle.rules.specs.Arena.{Run, Holds}
 use Rattle.reading.specs.Flat.{whole, headOf, partsOf, Fit, Replaced, Written, Writes, Rooted, Flattened}
 use Rattle.reading.proofs.flat.Words.{fill-none}
 use Rattle.reading.proofs.flat.Frames.{rest, drop-set, alone, Pending, nothing, push, few, top-below, small, weight, Stepped, step}

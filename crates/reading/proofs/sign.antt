@@ -1,2 +1,0 @@
--- Signs of operators.
-pub mod Signs

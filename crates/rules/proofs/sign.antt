@@ -1,0 +1,3 @@
+-- Signs of operators.
+pub mod Signs
+pub mod FirstBytes

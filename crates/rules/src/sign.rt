@@ -1,0 +1,177 @@
+// Operators between operands and before them.
+ghost use mathlib.Core.Path.{_≡_};
+ghost use Prim.Native.Nat.{_≤_};
+ghost use lib.ListN.{length};
+ghost use Rattle.tree.specs.Words.{operatorWord};
+ghost use Rattle.rules.specs.Code.{Signs, whereRead, wordOf, swapOf, noSwap, classOf, beginsOperator};
+ghost use Rattle.grammar.specs.Rules.{unaryOperator, equalityOperator, lessOperator, moreOperator, parseComparisonOperator, termOperator, factorOperator, operatorOf};
+use crate::leaf::peek;
+use crate::step::keyword;
+use crate::step::sym;
+use crate::step::sym_not_prefix;
+use lexing::Lexed;
+
+// The levels of binary operators.
+pub(crate) enum Level {
+    Product,
+    Sum,
+    Comparison,
+    Conjunction,
+    Disjunction,
+    Implication,
+    Explication,
+    Equivalence,
+}
+
+// An operator at a place.
+pub(crate) enum Sign {
+    // Its word, whether its operands swap, and the place after it.
+    Found(u32, bool, usize),
+    None,
+    Refused(u64, usize),
+}
+
+// The operator, where its token stands.
+pub(crate) fn where_read(r: Lexed, op: u32, swap: bool) -> Sign
+    ensures { λ s. ⌜ s ≡ whereRead r op swap ⌝ }
+{
+    match r {
+        Lexed::Ok(_, next) => Sign::Found(op, swap, next),
+        Lexed::None => Sign::None,
+        Lexed::Refused(number, place) => Sign::Refused(number, place),
+    }
+}
+
+pub(crate) fn equality(text: &[u8], at: usize) -> Sign
+    requires { ⌜ at ≤ length (now text) ⌝ }
+    ensures { λ r. ⌜ Signs wordOf swapOf (now (text .entry)) at (equalityOperator (now (text .entry)) at) r ⌝ }
+{
+    let r = where_read(sym_not_prefix(text, at, b"==", b"==>"), 6, false);
+    let Sign::None = r else {
+        return r;
+    };
+    where_read(sym(text, at, b"!="), 7, false)
+}
+
+pub(crate) fn less(text: &[u8], at: usize) -> Sign
+    requires { ⌜ at ≤ length (now text) ⌝ }
+    ensures { λ r. ⌜ Signs wordOf swapOf (now (text .entry)) at (lessOperator (now (text .entry)) at) r ⌝ }
+{
+    let r = where_read(sym_not_prefix(text, at, b"<=", b"<=="), 9, false);
+    let Sign::None = r else {
+        return r;
+    };
+    where_read(sym_not_prefix(text, at, b"<", b"<=="), 8, false)
+}
+
+pub(crate) fn more(text: &[u8], at: usize) -> Sign
+    requires { ⌜ at ≤ length (now text) ⌝ }
+    ensures { λ r. ⌜ Signs wordOf swapOf (now (text .entry)) at (moreOperator (now (text .entry)) at) r ⌝ }
+{
+    let r = where_read(sym(text, at, b">="), 9, true);
+    let Sign::None = r else {
+        return r;
+    };
+    where_read(sym(text, at, b">"), 8, true)
+}
+
+pub(crate) fn comparison(text: &[u8], at: usize) -> Sign
+    requires { ⌜ at ≤ length (now text) ⌝ }
+    ensures { λ r. ⌜ Signs wordOf swapOf (now (text .entry)) at (parseComparisonOperator (now (text .entry)) at) r ⌝ }
+{
+    let r = equality(text, at);
+    let Sign::None = r else {
+        return r;
+    };
+    let r = less(text, at);
+    let Sign::None = r else {
+        return r;
+    };
+    more(text, at)
+}
+
+pub(crate) fn term(text: &[u8], at: usize) -> Sign
+    requires { ⌜ at ≤ length (now text) ⌝ }
+    ensures { λ r. ⌜ Signs wordOf swapOf (now (text .entry)) at (termOperator (now (text .entry)) at) r ⌝ }
+{
+    let r = where_read(sym(text, at, b"+"), 10, false);
+    let Sign::None = r else {
+        return r;
+    };
+    where_read(sym(text, at, b"-"), 11, false)
+}
+
+pub(crate) fn factor(text: &[u8], at: usize) -> Sign
+    requires { ⌜ at ≤ length (now text) ⌝ }
+    ensures { λ r. ⌜ Signs wordOf swapOf (now (text .entry)) at (factorOperator (now (text .entry)) at) r ⌝ }
+{
+    let r = where_read(sym(text, at, b"*"), 12, false);
+    let Sign::None = r else {
+        return r;
+    };
+    let r = where_read(keyword(text, at, b"div"), 13, false);
+    let Sign::None = r else {
+        return r;
+    };
+    where_read(keyword(text, at, b"mod"), 14, false)
+}
+
+// Whether a byte begins an operator between operands.
+fn begins_operator(b: u8) -> bool
+    ensures { λ r. ⌜ r ≡ beginsOperator b ⌝ }
+{
+    match b {
+        b'!' => true,
+        b'&' => true,
+        b'*' => true,
+        b'+' => true,
+        b'-' => true,
+        b'<' => true,
+        b'=' => true,
+        b'>' => true,
+        b'd' => true,
+        b'm' => true,
+        b'|' => true,
+        _ => false,
+    }
+}
+
+// The operator of a level. After an operand that is the last, one look at the next byte tells that there is none.
+pub(crate) fn operator(text: &[u8], at: usize, level: Level) -> Sign
+    requires { ⌜ at ≤ length (now text) ⌝ }
+    ensures { λ r. ⌜ Signs wordOf swapOf (now (text .entry)) at (operatorOf (now (text .entry)) (classOf level) at) r ⌝ }
+{
+    let next = peek(text, at);
+    if begins_operator(next) {
+        return level_operator(text, at, level);
+    }
+    Sign::None
+}
+
+// The operator of a level, token by token.
+fn level_operator(text: &[u8], at: usize, level: Level) -> Sign
+    requires { ⌜ at ≤ length (now text) ⌝ }
+    ensures { λ r. ⌜ Signs wordOf swapOf (now (text .entry)) at (operatorOf (now (text .entry)) (classOf level) at) r ⌝ }
+{
+    match level {
+        Level::Product => factor(text, at),
+        Level::Sum => term(text, at),
+        Level::Comparison => comparison(text, at),
+        Level::Conjunction => where_read(sym(text, at, b"&&"), 4, false),
+        Level::Disjunction => where_read(sym(text, at, b"||"), 5, false),
+        Level::Implication => where_read(sym(text, at, b"==>"), 3, false),
+        Level::Explication => where_read(sym_not_prefix(text, at, b"<==", b"<==>"), 3, true),
+        Level::Equivalence => where_read(sym(text, at, b"<==>"), 2, false),
+    }
+}
+
+pub(crate) fn unary_operator(text: &[u8], at: usize) -> Sign
+    requires { ⌜ at ≤ length (now text) ⌝ }
+    ensures { λ r. ⌜ Signs operatorWord noSwap (now (text .entry)) at (unaryOperator (now (text .entry)) at) r ⌝ }
+{
+    let r = where_read(sym_not_prefix(text, at, b"!", b"!="), 15, false);
+    let Sign::None = r else {
+        return r;
+    };
+    where_read(sym(text, at, b"-"), 16, false)
+}
