@@ -6,10 +6,10 @@ use Rattle.tree.specs.Ast.{Expr, Exprs, noExprs, _then_, Program as Tree}
 use Rattle.tree.specs.Words.{exprWords, exprsWords}
 use Rattle.printing.specs.declared.parts.Step.{Step}
 use Rattle.printing.specs.declared.program.Decl.{Decl}
-use Rattle.printing.specs.Text.{_▹_, _▸_}
-use Rattle.printing.specs.PrintUtil.{Indent}
-use Rattle.printing.specs.Statements.{inline}
-use Rattle.printing.specs.Program.{TypeDecl, TaggerDecl, whenClauses, FunctionDecl, AxiomDecl, Procedure, declarations, Program}
+use Rattle.prints.specs.Text.{_▹_, _▸_}
+use Rattle.prints.specs.PrintUtil.{Indent}
+use Rattle.prints.specs.Statements.{inline}
+use Rattle.prints.specs.Program.{TypeDecl, TaggerDecl, whenClauses, FunctionDecl, AxiomDecl, Procedure, declarations, Program}
 use Rattle.printing.specs.Entries.{nameIn}
 use Rattle.printing.specs.Parts.{Prints}
 use Rattle.printing.specs.StmtParts.{N}
@@ -17,9 +17,9 @@ use Rattle.printing.specs.DeclParts.{aDecl, whenList}
 use Rattle.printing.proofs.Sequences.{View, nothing, something, Listing}
 
 -- a declaration of a kind
-pub of-kind : (text table counts : List ℕ) (at : ℕ) {k kind : Decl} {b : List ℕ} {p : ℕ} {b₁ : List ℕ} {s : Step} → kind ≡ k → Prints (aDecl text table counts at k) table at b p b₁ s
-    → Prints (aDecl text table counts at kind) table at b p b₁ s
-of-kind text table counts at {b = b} {p = p} {b₁ = b₁} {s = s} e x = subst (λ (d : Decl). Prints (aDecl text table counts at d) table at b p b₁ s) (sym e) x
+pub of-kind : (text table counts : List ℕ) (step at : ℕ) {k kind : Decl} {b : List ℕ} {p : ℕ} {b₁ : List ℕ} {s : Step} → kind ≡ k → Prints (aDecl text table counts step at k) table at b p b₁ s
+    → Prints (aDecl text table counts step at kind) table at b p b₁ s
+of-kind text table counts step at {b = b} {p = p} {b₁ = b₁} {s = s} e x = subst (λ (d : Decl). Prints (aDecl text table counts step at d) table at b p b₁ s) (sym e) x
 
 -- ---- the `when` clauses are a list
 
@@ -27,29 +27,29 @@ of-kind text table counts at {b = b} {p = p} {b₁ = b₁} {s = s} e x = subst (
 abbrev pub whensOf : {M : Type 0} → Expr M × Exprs M → Exprs M
 whensOf a = _then_ (a .0) (a .1)
 
-pub some-whens : (text table counts : List ℕ) (at : ℕ) → Listing (whenList text table counts at) whensOf
+pub some-whens : (text table counts : List ℕ) (step at : ℕ) → Listing (whenList text table counts step at) whensOf
 unfolding whenClauses
-some-whens text table counts at = record { view = by-items }
+some-whens text table counts step at = record { view = by-items }
   where
-    by-items : (t : Exprs (N text)) → View (whenList text table counts at) whensOf t
+    by-items : (t : Exprs (N text)) → View (whenList text table counts step at) whensOf t
     by-items noExprs = nothing (λ rest. refl) refl
     by-items (_then_ e es) = something (e, es) refl (λ rest. (exprWords (λ n. n .span) e (exprsWords (λ n. n .span) es rest), refl))
 
 -- the print of a clause and the others
-pub whens-print : (text : List ℕ) (e : Expr (N text)) (es : Exprs (N text))
-    → _≡_ {A = List ℕ → List ℕ} (λ r. whenClauses (nameIn text) 2 (_then_ e es) r)
-    (λ r. Indent 2 ▹ "when " ▸ inline (nameIn text) 2 e ("\n" ▸ whenClauses (nameIn text) 2 es r))
+pub whens-print : (text : List ℕ) (step : ℕ) (e : Expr (N text)) (es : Exprs (N text))
+    → _≡_ {A = List ℕ → List ℕ} (λ r. whenClauses (nameIn text) step (_then_ e es) r)
+    (λ r. Indent step ▹ "when " ▸ inline (nameIn text) step e ("\n" ▸ whenClauses (nameIn text) step es r))
 unfolding whenClauses
-whens-print text e es = refl
+whens-print text step e es = refl
 
 -- ---- the print of a program
 
-pub program-print : (text : List ℕ) (p : Tree (N text))
-    → _≡_ {A = List ℕ → List ℕ} (λ r. Program (nameIn text) 2 p r)
+pub program-print : (text : List ℕ) (step : ℕ) (p : Tree (N text))
+    → _≡_ {A = List ℕ → List ℕ} (λ r. Program (nameIn text) step p r)
     (λ r. "// B3 program\n"
-    ▸ declarations (nameIn text) 2 (TypeDecl (nameIn text) 2) (p .types)
-    (declarations (nameIn text) 2 (TaggerDecl (nameIn text) 2) (p .taggers)
-    (declarations (nameIn text) 2 (FunctionDecl (nameIn text) 2) (p .functions)
-    (declarations (nameIn text) 2 (AxiomDecl (nameIn text) 2) (p .axioms) (declarations (nameIn text) 2 (Procedure (nameIn text) 2) (p .procedures) r)))))
+    ▸ declarations (TypeDecl (nameIn text)) (p .types)
+    (declarations (TaggerDecl (nameIn text)) (p .taggers)
+    (declarations (FunctionDecl (nameIn text) step) (p .functions)
+    (declarations (AxiomDecl (nameIn text) step) (p .axioms) (declarations (Procedure (nameIn text) step) (p .procedures) r)))))
 unfolding Program
-program-print text p = refl
+program-print text step p = refl

@@ -21,6 +21,7 @@ use Rattle.printing.specs.Entries.{mostPrint, mostIndent, written, refus
 use Rattle.printing.specs.EntryLaws.{Lawful, expression-laws, program-laws, prints, refuses}
 use Rattle.printing.specs.Wrote.{Wrote}
 use Rattle.printing.specs.Parts.{Prints}
+use Rattle.printing.specs.ExprParts.{mostStep}
 use Rattle.printing.specs.Stores.{rooted, rootCounts, rootPart, RootCounted, Numbered, Stores, delivered}
 
 -- ---- from a buffer to the output
@@ -95,53 +96,53 @@ few : (P : Printable) (words : List ℕ) → P .refused words ≡ none → lengt
 few P words e = P .unrefused words .0 e .0
 
 -- what the check that accepts a table notes are the numbers of items
-pub numbered : (text words before : List ℕ) (root : Root) {after : List ℕ} → (length words ≤ mostWords → length words ≤ length before)
-    → rooted text root .refused words ≡ none → after ≡ rootCounts root words (length text) before → Numbered text words after root
-numbered text words before root {after} h e f =
-    let l : length words ≤ mostWords = few (rooted text root) words e in
-    record { few = l; counted = λ t d. subst (λ (c : List ℕ). RootCounted text words c root t) (sym f) (by-root root t d l (h l)) }
+pub numbered : (text words before : List ℕ) (step : ℕ) (root : Root) {after : List ℕ} → (length words ≤ mostWords → length words ≤ length before)
+    → rooted step text root .refused words ≡ none → after ≡ rootCounts root words (length text) before → Numbered text words after step root
+numbered text words before step root {after} h e f =
+    let l : length words ≤ mostWords = few (rooted step text root) words e in
+    record { few = l; counted = λ t d. subst (λ (c : List ℕ). RootCounted text words c step root t) (sym f) (by-root root t d l (h l)) }
   where
-    by-root : (r : Root) (t : rooted text r .Tree) → rooted text r .words t ≡ words → length words ≤ mostWords → length words ≤ length before
-        → RootCounted text words (rootCounts r words (length text) before) r t
+    by-root : (r : Root) (t : rooted step text r .Tree) → rooted step text r .words t ≡ words → length words ≤ mostWords → length words ≤ length before
+        → RootCounted text words (rootCounts r words (length text) before) step r t
     by-root (AnExpression format) t d l m = expression-counted words (length text) before t d l m
     by-root AProgram t d l m = program-counted words (length text) before t d l m
 
 -- the print of a tree in a buffer is handed over
-handed-tree : (text words counts out : List ℕ) (root : Root) {b b₁ : List ℕ} {s : Step} → rooted text root .indent ≤ mostIndent → length words ≤ mostWords
-    → length b ≤ mostPrint → min (length out) mostPrint ≤ length b → Prints (rootPart text words counts root) words 0 b 0 b₁ s
-    → (t : rooted text root .Tree) → RootCounted text words counts root t → rooted text root .words t ≡ words
-    → delivered b₁ (s .pos) out ≡ stored (rooted text root .print t) out
+handed-tree : (text words counts out : List ℕ) (step : ℕ) (root : Root) {b b₁ : List ℕ} {s : Step} → step ≤ mostStep → rooted step text root .indent ≤ mostIndent → length words ≤ mostWords
+    → length b ≤ mostPrint → min (length out) mostPrint ≤ length b → Prints (rootPart text words counts step root) words 0 b 0 b₁ s
+    → (t : rooted step text root .Tree) → RootCounted text words counts step root t → rooted step text root .words t ≡ words
+    → delivered b₁ (s .pos) out ≡ stored (rooted step text root .print t) out
 unfolding printOf programPrintOf
-handed-tree text words counts out (AnExpression format) i l h k x t c f =
-    handed out (x .prints t [] (record { few = l; room = omega arith }, c) (sym f) .wrote) h k
-handed-tree text words counts out AProgram i l h k x t c f =
-    handed out (x .prints t [] (record { few = l; room = omega arith }, c) (sym f) .wrote) h k
+handed-tree text words counts out step (AnExpression format) n i l h k x t c f =
+    handed out (x .prints t [] (record { few = l; short = n; room = omega arith }, c) (sym f) .wrote) h k
+handed-tree text words counts out step AProgram n i l h k x t c f =
+    handed out (x .prints t [] (record { few = l; short = n; room = omega arith }, c) (sym f) .wrote) h k
 
 -- the print of the tree is delivered, for every tree with the table's words
-pub through : (text : List ℕ) (root : Root) {words counts : List ℕ} {b b₁ : List ℕ} {s : Step} {out out′ : List ℕ} {r : Printed}
-    → rooted text root .indent ≤ mostIndent → Numbered text words counts root → length b ≤ mostPrint → min (length out) mostPrint ≤ length b
-    → Prints (rootPart text words counts root) words 0 b 0 b₁ s → outcomeOf r out′ ≡ delivered b₁ (s .pos) out → Stores (rooted text root) words out out′ r
-through text root {words} {counts} {out = out} i n h k x e =
-    record { stores = λ t f. e ∙ handed-tree text words counts out root i (n .few) h k x t (n .counted t f) f }
+pub through : (step : ℕ) (text : List ℕ) (root : Root) {words counts : List ℕ} {b b₁ : List ℕ} {s : Step} {out out′ : List ℕ} {r : Printed}
+    → step ≤ mostStep → rooted step text root .indent ≤ mostIndent → Numbered text words counts step root → length b ≤ mostPrint → min (length out) mostPrint ≤ length b
+    → Prints (rootPart text words counts step root) words 0 b 0 b₁ s → outcomeOf r out′ ≡ delivered b₁ (s .pos) out → Stores (rooted step text root) words out out′ r
+through step text root {words} {counts} {out = out} m i n h k x e =
+    record { stores = λ t f. e ∙ handed-tree text words counts out step root m i (n .few) h k x t (n .counted t f) f }
 
 -- ---- by the root
 
 -- each root's trees are lawful
-pub root-laws : (text : List ℕ) (root : Root) → Lawful (rooted text root)
-root-laws text (AnExpression format) = expression-laws 2 text format
-root-laws text AProgram = program-laws 2 text
+pub root-laws : (step : ℕ) (text : List ℕ) (root : Root) → Lawful (rooted step text root)
+root-laws step text (AnExpression format) = expression-laws step text format
+root-laws step text AProgram = program-laws step text
 
 -- the check of a table by its root
-pub checked-by : (text words before : List ℕ) {root k : Root} {q : Option Refusal} {after : List ℕ} → root ≡ k
-    → (q ≡ rooted text k .refused words) × (after ≡ rootCounts k words (length text) before)
-    → (q ≡ rooted text root .refused words) × (after ≡ rootCounts root words (length text) before)
-checked-by text words before {q = q} {after = after} e x =
-    subst (λ (r : Root). (q ≡ rooted text r .refused words) × (after ≡ rootCounts r words (length text) before)) (sym e) x
+pub checked-by : (text words before : List ℕ) (step : ℕ) {root k : Root} {q : Option Refusal} {after : List ℕ} → root ≡ k
+    → (q ≡ rooted step text k .refused words) × (after ≡ rootCounts k words (length text) before)
+    → (q ≡ rooted step text root .refused words) × (after ≡ rootCounts root words (length text) before)
+checked-by text words before step {q = q} {after = after} e x =
+    subst (λ (r : Root). (q ≡ rooted step text r .refused words) × (after ≡ rootCounts r words (length text) before)) (sym e) x
 
 -- the print of a table by its root
-pub printed-by : (text words counts : List ℕ) {root k : Root} {b b₁ : List ℕ} {s : Step} → root ≡ k
-    → Prints (rootPart text words counts k) words 0 b 0 b₁ s → Prints (rootPart text words counts root) words 0 b 0 b₁ s
-printed-by text words counts {b = b} {b₁ = b₁} {s = s} e x = subst (λ (r : Root). Prints (rootPart text words counts r) words 0 b 0 b₁ s) (sym e) x
+pub printed-by : (text words counts : List ℕ) (step : ℕ) {root k : Root} {b b₁ : List ℕ} {s : Step} → root ≡ k
+    → Prints (rootPart text words counts step k) words 0 b 0 b₁ s → Prints (rootPart text words counts step root) words 0 b 0 b₁ s
+printed-by text words counts step {b = b} {b₁ = b₁} {s = s} e x = subst (λ (r : Root). Prints (rootPart text words counts step r) words 0 b 0 b₁ s) (sym e) x
 
 -- ---- the refusals, and the print of an accepted table
 

@@ -9,26 +9,28 @@ use lib.ListN.{length, drop}
 use lib.Seq.{drop-drop}
 use Rattle.printing.specs.declared.parts.Step.{Step}
 use Rattle.printing.specs.Wrote.{Wrote}
+use Rattle.printing.specs.ExprParts.{Ready}
 use Rattle.printing.specs.Parts.{Part, Done, Prints, Next}
 use Rattle.printing.proofs.Writing.Bytes.{none, then}
 
--- where a print begins: a place of the table and a place of the buffer
-pub record Origin : Type 1 where
+-- where a print begins: a place of the table and a place of the buffer, and what else is known there
+pub record Origin (K : List ℕ → ℕ → Type 0) : Type 1 where
   pub part : Part
   pub table : List ℕ
   pub at : ℕ
   pub buffer : List ℕ
   pub pos : ℕ
+  pub known : K table at
 
 -- a tree that stands there, with what its print needs
-pub record Begun (o : Origin) : Type 0 where
+pub record Begun {K : List ℕ → ℕ → Type 0} (o : Origin K) : Type 0 where
   pub tree : o .part .Tree
   pub rest : List ℕ
   pub given : o .part .given tree rest
   pub stands : drop (o .at) (o .table) ≡ o .part .words tree rest
 
-pub record Place : Type 1 where
-  pub origin : Origin
+pub record PlaceOf (K : List ℕ → ℕ → Type 0) : Type 1 where
+  pub origin : Origin K
   pub next : ℕ
   pub buffer : List ℕ
   pub pos : ℕ
@@ -41,10 +43,10 @@ pub record Place : Type 1 where
   pub wrote : (x : Begun origin) {b : List ℕ} {p : ℕ} → Wrote (print x) buffer pos b p → Wrote (origin .part .print (x .tree)) (origin .buffer) (origin .pos) b p
 
 -- the place where a print begins
-abbrev pub begin : (P : Part) (table : List ℕ) (at : ℕ) (b : List ℕ) (p : ℕ) → Place
-begin P table at b p =
+abbrev pub start : {K : List ℕ → ℕ → Type 0} (P : Part) (table : List ℕ) (at : ℕ) (b : List ℕ) (p : ℕ) → K table at → PlaceOf K
+start P table at b p k =
     record {
-      origin = record { part = P; table = table; at = at; buffer = b; pos = p };
+      origin = record { part = P; table = table; at = at; buffer = b; pos = p; known = k };
       next = at;
       buffer = b;
       pos = p;
@@ -56,6 +58,14 @@ begin P table at b p =
       wrote = λ x w. w;
     }
 
+-- places where nothing else is known
+abbrev pub Place : Type 1
+Place = PlaceOf (λ table at. Unit {0})
+
+-- where such a print begins
+abbrev pub begin : (P : Part) (table : List ℕ) (at : ℕ) (b : List ℕ) (p : ℕ) → Place
+begin P table at b p = start P table at b p tt
+
 -- ---- steps
 
 -- k words more are passed
@@ -63,7 +73,7 @@ pub further : (at n m k : ℕ) → at + n ≤ m → at + (n + k) ≤ m + k
 further at n m k h = omega arith
 
 -- past k words whose values are known
-abbrev pub ahead : (l : Place) (k : ℕ) (ws : Begun (l .origin) → List ℕ) → ((x : Begun (l .origin)) → drop k (l .words x) ≡ ws x) → Place
+abbrev pub ahead : {K : List ℕ → ℕ → Type 0} (l : PlaceOf K) (k : ℕ) (ws : Begun (l .origin) → List ℕ) → ((x : Begun (l .origin)) → drop k (l .words x) ≡ ws x) → PlaceOf K
 ahead l k ws e =
     record {
       origin = l .origin;
@@ -79,8 +89,8 @@ ahead l k ws e =
     }
 
 -- past one word, by `after`
-abbrev pub passed : (l : Place) {next : ℕ} → Next (l .origin .table) (l .next) next → (w : Begun (l .origin) → ℕ) (ws : Begun (l .origin) → List ℕ)
-    → ((x : Begun (l .origin)) → l .words x ≡ w x ∷ ws x) → Place
+abbrev pub passed : {K : List ℕ → ℕ → Type 0} (l : PlaceOf K) {next : ℕ} → Next (l .origin .table) (l .next) next → (w : Begun (l .origin) → ℕ) (ws : Begun (l .origin) → List ℕ)
+    → ((x : Begun (l .origin)) → l .words x ≡ w x ∷ ws x) → PlaceOf K
 passed l {next} n w ws e =
     record {
       origin = l .origin;
@@ -100,8 +110,8 @@ pub strictly : (at n m k : ℕ) → at + n ≤ m → m < k → at + (n + 1) ≤ 
 strictly at n m k h l = omega arith
 
 -- the same of a word that stands in the table
-abbrev pub item : (l : Place) {next : ℕ} → Next (l .origin .table) (l .next) next → l .next < length (l .origin .table) → (w : Begun (l .origin) → ℕ) (ws : Begun (l .origin) → List ℕ)
-    → ((x : Begun (l .origin)) → l .words x ≡ w x ∷ ws x) → Place
+abbrev pub item : {K : List ℕ → ℕ → Type 0} (l : PlaceOf K) {next : ℕ} → Next (l .origin .table) (l .next) next → l .next < length (l .origin .table) → (w : Begun (l .origin) → ℕ) (ws : Begun (l .origin) → List ℕ)
+    → ((x : Begun (l .origin)) → l .words x ≡ w x ∷ ws x) → PlaceOf K
 item l {next} n h w ws e =
     record {
       origin = l .origin;
@@ -117,7 +127,7 @@ item l {next} n h w ws e =
     }
 
 -- what is left of the print in other terms
-abbrev pub seen : (l : Place) (Y : Begun (l .origin) → List ℕ → List ℕ) → ((x : Begun (l .origin)) → l .print x ≡ Y x) → Place
+abbrev pub seen : {K : List ℕ → ℕ → Type 0} (l : PlaceOf K) (Y : Begun (l .origin) → List ℕ → List ℕ) → ((x : Begun (l .origin)) → l .print x ≡ Y x) → PlaceOf K
 seen l Y e =
     record {
       origin = l .origin;
@@ -133,14 +143,14 @@ seen l Y e =
     }
 
 -- a print, and then what is left
-pub continued : (l : Place) (X Y : Begun (l .origin) → List ℕ → List ℕ) → ((x : Begun (l .origin)) → l .print x ≡ (λ r. X x (Y x r)))
+pub continued : {K : List ℕ → ℕ → Type 0} (l : PlaceOf K) (X Y : Begun (l .origin) → List ℕ → List ℕ) → ((x : Begun (l .origin)) → l .print x ≡ (λ r. X x (Y x r)))
     → {b : List ℕ} {p : ℕ} → ((x : Begun (l .origin)) → Wrote (X x) (l .buffer) (l .pos) b p) → (x : Begun (l .origin)) {b₁ : List ℕ} {p₁ : ℕ}
     → Wrote (Y x) b p b₁ p₁ → Wrote (l .origin .part .print (x .tree)) (l .origin .buffer) (l .origin .pos) b₁ p₁
 continued l X Y e v x {b₁} {p₁} w = l .wrote x (subst (λ (Z : List ℕ → List ℕ). Wrote Z (l .buffer) (l .pos) b₁ p₁) (sym (e x)) (then (v x) w))
 
 -- bytes were written, which may depend on the tree
-abbrev pub text-of : (l : Place) (X Y : Begun (l .origin) → List ℕ → List ℕ) {b : List ℕ} {p : ℕ} → ((x : Begun (l .origin)) → Wrote (X x) (l .buffer) (l .pos) b p)
-    → ((x : Begun (l .origin)) → l .print x ≡ (λ r. X x (Y x r))) → Place
+abbrev pub text-of : {K : List ℕ → ℕ → Type 0} (l : PlaceOf K) (X Y : Begun (l .origin) → List ℕ → List ℕ) {b : List ℕ} {p : ℕ} → ((x : Begun (l .origin)) → Wrote (X x) (l .buffer) (l .pos) b p)
+    → ((x : Begun (l .origin)) → l .print x ≡ (λ r. X x (Y x r))) → PlaceOf K
 text-of l X Y {b} {p} v e =
     record {
       origin = l .origin;
@@ -156,15 +166,14 @@ text-of l X Y {b} {p} v e =
     }
 
 -- bytes were written
-abbrev pub text : (l : Place) {X : List ℕ → List ℕ} {b : List ℕ} {p : ℕ} → Wrote X (l .buffer) (l .pos) b p → (Y : Begun (l .origin) → List ℕ → List ℕ)
-    → ((x : Begun (l .origin)) → l .print x ≡ (λ r. X (Y x r))) → Place
+abbrev pub text : {K : List ℕ → ℕ → Type 0} (l : PlaceOf K) {X : List ℕ → List ℕ} {b : List ℕ} {p : ℕ} → Wrote X (l .buffer) (l .pos) b p → (Y : Begun (l .origin) → List ℕ → List ℕ)
+    → ((x : Begun (l .origin)) → l .print x ≡ (λ r. X (Y x r))) → PlaceOf K
 text l {X} v Y e = text-of l (λ x. X) Y (λ x. v) e
 
--- the words from here on were printed as a part
-abbrev pub part : (l : Place) {Q : Part} {b : List ℕ} {s : Step} → Prints Q (l .origin .table) (l .next) (l .buffer) (l .pos) b s → (of : Begun (l .origin) → Q .Tree)
-    (ws : Begun (l .origin) → List ℕ) → ((x : Begun (l .origin)) → Q .given (of x) (ws x)) → (Y : Begun (l .origin) → List ℕ → List ℕ)
-    → ((x : Begun (l .origin)) → l .words x ≡ Q .words (of x) (ws x)) → ((x : Begun (l .origin)) → l .print x ≡ (λ r. Q .print (of x) (Y x r))) → Place
-part l {Q} {b} {s} q of ws g Y d e =
+-- the words from here on were printed, which may depend on the tree
+abbrev pub print-of : {K : List ℕ → ℕ → Type 0} (l : PlaceOf K) (X : Begun (l .origin) → List ℕ → List ℕ) (ws : Begun (l .origin) → List ℕ) (Y : Begun (l .origin) → List ℕ → List ℕ) {b : List ℕ} {s : Step} → l .next ≤ s .next
+    → ((x : Begun (l .origin)) → Done (l .origin .table) (X x) (ws x) (l .buffer) (l .pos) b s) → ((x : Begun (l .origin)) → l .print x ≡ (λ r. X x (Y x r))) → PlaceOf K
+print-of l X ws Y {b} {s} f d e =
     record {
       origin = l .origin;
       next = s .next;
@@ -173,15 +182,32 @@ part l {Q} {b} {s} q of ws g Y d e =
       taken = l .taken;
       words = ws;
       print = Y;
-      forward = le-trans (l .forward) (q .forward);
-      left = λ x. q .prints (of x) (ws x) (g x) (l .left x ∙ d x) .after;
-      wrote = continued l (λ x. Q .print (of x)) Y e (λ x. q .prints (of x) (ws x) (g x) (l .left x ∙ d x) .wrote);
+      forward = le-trans (l .forward) f;
+      left = λ x. d x .after;
+      wrote = continued l X Y e (λ x. d x .wrote);
     }
+
+-- a part was printed
+abbrev pub part : {K : List ℕ → ℕ → Type 0} (l : PlaceOf K) {Q : Part} {b : List ℕ} {s : Step} → Prints Q (l .origin .table) (l .next) (l .buffer) (l .pos) b s → (of : Begun (l .origin) → Q .Tree)
+    → (ws : Begun (l .origin) → List ℕ) → ((x : Begun (l .origin)) → Q .given (of x) (ws x)) → (Y : Begun (l .origin) → List ℕ → List ℕ) → ((x : Begun (l .origin)) → l .words x ≡ Q .words (of x) (ws x))
+    → ((x : Begun (l .origin)) → l .print x ≡ (λ r. Q .print (of x) (Y x r))) → PlaceOf K
+part l {Q} q of ws g Y d e = print-of l (λ x. Q .print (of x)) ws Y (q .forward) (λ x. q .prints (of x) (ws x) (g x) (l .left x ∙ d x)) e
+
+-- ---- indents
+
+-- further on an indent fits that fitted before
+pub ready : {K : List ℕ → ℕ → Type 0} (l : PlaceOf K) {step i j : ℕ} → j ≤ i → Ready (l .origin .table) step (l .origin .at) i → Ready (l .origin .table) step (l .next) j
+ready l h k = let r = k .room in let f = l .forward in record { few = k .few; short = k .short; room = omega arith }
+
+-- and one step deeper once a word is passed
+pub ready-deeper : {K : List ℕ → ℕ → Type 0} (l : PlaceOf K) {step i j : ℕ} → 1 ≤ l .taken → j ≤ i + step → Ready (l .origin .table) step (l .origin .at) i
+    → Ready (l .origin .table) step (l .next) j
+ready-deeper l t h k = let r = k .room in let s = k .short in let f = l .forward in record { few = k .few; short = k .short; room = omega arith }
 
 -- ---- the end
 
 -- the words and the print are at their end
-pub done : (l : Place) → ((x : Begun (l .origin)) → l .words x ≡ x .rest) → ((x : Begun (l .origin)) → l .print x ≡ (λ r. r))
+pub done : {K : List ℕ → ℕ → Type 0} (l : PlaceOf K) → ((x : Begun (l .origin)) → l .words x ≡ x .rest) → ((x : Begun (l .origin)) → l .print x ≡ (λ r. r))
     → Prints (l .origin .part) (l .origin .table) (l .origin .at) (l .origin .buffer) (l .origin .pos) (l .buffer) (record { next = l .next; pos = l .pos })
 done l d e =
     record {

@@ -7,7 +7,7 @@ use lib.ListN.{drop, getD}
 use Rattle.tree.specs.Clash.{impossible}
 use Rattle.tree.specs.Words.{optionWords, seqWords}
 use Rattle.printing.specs.declared.parts.Step.{Step}
-use Rattle.printing.specs.Statements.{optional, separated}
+use Rattle.prints.specs.Statements.{optional, separated}
 use Rattle.printing.specs.Parts.{Part, Done, Prints, Next}
 use Rattle.printing.proofs.Writing.Bytes.{none as no-bytes}
 use Rattle.printing.proofs.PartPrints.Joins.{word-at}

@@ -6,48 +6,48 @@ use lib.ListN.{length}
 use Rattle.tree.specs.Ast.{Expr, Exprs, Stmt, Tagger, FunctionDefinition, Function, Axiom, Procedure as Proc, Program as Tree}
 use Rattle.tree.specs.Words.{optionWords, seqWords, nameWords, exprWords, exprsWords, stmtWords, taggerWords, functionDefinitionWords, functionWords, axiomWords, procedureWords, programWords}
 use Rattle.tree.specs.Counted.{CountedOption, CountedItems, CountedExpr, CountedExprs, CountedStmt, CountedDefinition, CountedFunction, CountedAxiom, CountedProcedure, CountedProgram}
-use Rattle.printing.specs.declared.format.ExprFormatOption.the-variants.{MultipleLines}
+use Rattle.prints.specs.declared.format.ExprFormatOption.the-variants.{MultipleLines}
 use Rattle.printing.specs.declared.program.Decl.{Decl}
 use Rattle.printing.specs.declared.program.Decl.the-variants.{Types, Taggers, Functions, Axioms, Procedures}
-use Rattle.printing.specs.Text.{_▹_}
-use Rattle.printing.specs.PrintUtil.{Indent, Init}
-use Rattle.printing.specs.Printer.{Expression}
-use Rattle.printing.specs.Statements.{Before, optional}
-use Rattle.printing.specs.Program.{TypeDecl, TaggerDecl, whenClauses, definition, FunctionDecl, AxiomDecl, body, Procedure, declarations, Program}
+use Rattle.prints.specs.Text.{_▹_}
+use Rattle.prints.specs.PrintUtil.{Indent, Init}
+use Rattle.prints.specs.Printer.{Expression}
+use Rattle.prints.specs.Statements.{Before, optional}
+use Rattle.prints.specs.Program.{TypeDecl, TaggerDecl, whenClauses, definition, FunctionDecl, AxiomDecl, body, Procedure, declarations, Program}
 use Rattle.printing.specs.Entries.{nameIn}
 use Rattle.printing.specs.Parts.{Part}
 use Rattle.printing.specs.StmtParts.{N, free, counted}
 
 module _ (text : List ℕ) where
   abbrev pub aTypeDecl : Part
-  aTypeDecl = free (nameWords (λ n. n .span)) (λ (n : N text) rest. TypeDecl (nameIn text) 2 n rest)
+  aTypeDecl = free (nameWords (λ n. n .span)) (λ (n : N text) rest. TypeDecl (nameIn text) n rest)
 
   abbrev pub aTaggerDecl : Part
-  aTaggerDecl = free (taggerWords (λ n. n .span)) (λ (t : Tagger (N text)) rest. TaggerDecl (nameIn text) 2 t rest)
+  aTaggerDecl = free (taggerWords (λ n. n .span)) (λ (t : Tagger (N text)) rest. TaggerDecl (nameIn text) t rest)
 
-  module _ (table counts : List ℕ) (at : ℕ) where
+  module _ (table counts : List ℕ) (step at : ℕ) where
     -- ---- parts of declarations
 
     -- an expression on broken lines from the first indent on
     abbrev pub broken : Part
     broken =
-        counted text table counts at 2 (CountedExpr {N = N text} (λ n. n .span) counts (length table)) (exprWords (λ n. n .span))
-        (λ e rest. Indent 2 ▹ Expression (nameIn text) 2 e Init (MultipleLines 2) rest)
+        counted text table counts step at step (CountedExpr {N = N text} (λ n. n .span) counts (length table)) (exprWords (λ n. n .span))
+        (λ e rest. Indent step ▹ Expression (nameIn text) step e Init (MultipleLines step) rest)
 
     abbrev pub whenList : Part
     whenList =
-        counted text table counts at 2 (CountedExprs {N = N text} (λ n. n .span) counts (length table)) (exprsWords (λ n. n .span))
-        (λ es rest. whenClauses (nameIn text) 2 es rest)
+        counted text table counts step at step (CountedExprs {N = N text} (λ n. n .span) counts (length table)) (exprsWords (λ n. n .span))
+        (λ es rest. whenClauses (nameIn text) step es rest)
 
     abbrev pub optionalDefinition : Part
     optionalDefinition =
-        counted text table counts at 2 (CountedOption (CountedDefinition {N = N text} (λ n. n .span) counts (length table))) (optionWords (functionDefinitionWords (λ n. n .span)))
-        (λ d rest. optional (definition (nameIn text) 2) [] d rest)
+        counted text table counts step at step (CountedOption (CountedDefinition {N = N text} (λ n. n .span) counts (length table))) (optionWords (functionDefinitionWords (λ n. n .span)))
+        (λ d rest. optional (definition (nameIn text) step) [] d rest)
 
     abbrev pub optionalBody : Part
     optionalBody =
-        counted text table counts at 2 (CountedOption (CountedStmt {N = N text} (λ n. n .span) counts (length table))) (optionWords (stmtWords (λ n. n .span)))
-        (λ s rest. optional (body (nameIn text) 2) [] s rest)
+        counted text table counts step at step (CountedOption (CountedStmt {N = N text} (λ n. n .span) counts (length table))) (optionWords (stmtWords (λ n. n .span)))
+        (λ s rest. optional (body (nameIn text) step) [] s rest)
 
     -- ---- declarations, by their kind
 
@@ -66,11 +66,11 @@ module _ (text : List ℕ) where
     declWords Procedures = procedureWords (λ n. n .span)
 
     abbrev pub declPrint : (k : Decl) → DeclTree k → Before
-    declPrint Types = TypeDecl (nameIn text) 2
-    declPrint Taggers = TaggerDecl (nameIn text) 2
-    declPrint Functions = FunctionDecl (nameIn text) 2
-    declPrint Axioms = AxiomDecl (nameIn text) 2
-    declPrint Procedures = Procedure (nameIn text) 2
+    declPrint Types = TypeDecl (nameIn text)
+    declPrint Taggers = TaggerDecl (nameIn text)
+    declPrint Functions = FunctionDecl (nameIn text) step
+    declPrint Axioms = AxiomDecl (nameIn text) step
+    declPrint Procedures = Procedure (nameIn text) step
 
     abbrev pub DeclCounted : (k : Decl) → DeclTree k → List ℕ → Type 0
     DeclCounted Types d rest = Unit {0}
@@ -80,15 +80,15 @@ module _ (text : List ℕ) where
     DeclCounted Procedures d rest = CountedProcedure (λ n. n .span) counts (length table) d rest
 
     abbrev pub aDecl : Decl → Part
-    aDecl k = counted text table counts at 2 (DeclCounted k) (declWords k) (declPrint k)
+    aDecl k = counted text table counts step at step (DeclCounted k) (declWords k) (declPrint k)
 
     abbrev pub declList : Decl → Part
     declList k =
-        counted text table counts at 2 (CountedItems (declWords k) (DeclCounted k)) (seqWords (declWords k))
-        (λ l rest. declarations (nameIn text) 2 (declPrint k) l rest)
+        counted text table counts step at step (CountedItems (declWords k) (DeclCounted k)) (seqWords (declWords k))
+        (λ l rest. declarations (declPrint k) l rest)
 
   -- a program, from the table's first word on
-  abbrev pub aProgram : (table counts : List ℕ) → Part
-  aProgram table counts =
-      counted text table counts 0 2 (CountedProgram {N = N text} (λ n. n .span) counts (length table)) (programWords (λ n. n .span))
-      (λ p rest. Program (nameIn text) 2 p rest)
+  abbrev pub aProgram : (table counts : List ℕ) (step : ℕ) → Part
+  aProgram table counts step =
+      counted text table counts step 0 step (CountedProgram {N = N text} (λ n. n .span) counts (length table)) (programWords (λ n. n .span))
+      (λ p rest. Program (nameIn text) step p rest)

@@ -14,13 +14,13 @@ use Rattle.tree.specs.Resolve.{bytes}
 use Rattle.tree.specs.Words.{exprWords, programWords}
 use Rattle.tree.specs.Check.{NameIn, Refusal, expressionRefusal, programRefusal}
 use Rattle.tree.specs.Refused.{expression-unrefused, program-unrefused}
-use Rattle.printing.specs.declared.format.ExprFormatOption.{ExprFormatOption}
-use Rattle.printing.specs.declared.format.ExprFormatOption.the-variants.{SingleLine, MultipleLines}
+use Rattle.prints.specs.declared.format.ExprFormatOption.{ExprFormatOption}
+use Rattle.prints.specs.declared.format.ExprFormatOption.the-variants.{SingleLine, MultipleLines}
 use Rattle.printing.specs.declared.Printed.{Printed}
 use Rattle.printing.specs.declared.Printed.the-variants.{Written, Refused}
-use Rattle.printing.specs.PrintUtil.{Init}
-use Rattle.printing.specs.Printer.{Expression}
-use Rattle.printing.specs.Program.{Program}
+use Rattle.prints.specs.PrintUtil.{startIndent, Init}
+use Rattle.prints.specs.Printer.{Expression}
+use Rattle.prints.specs.Program.{Program}
 
 -- the bytes of a print (document 01, refusal 8)
 abbrev pub mostPrint : ℕ
@@ -60,11 +60,6 @@ pub record Printable : Type 1 where
 -- a name as the part of the text that it occupies
 abbrev pub nameIn : (text : List ℕ) → NameIn (length text) → List ℕ
 nameIn text n = bytes text (n .span)
-
--- the start indent of a format; 0 on one line
-abbrev pub startIndent : ExprFormatOption → ℕ
-startIndent SingleLine = 0
-startIndent (MultipleLines indent) = indent
 
 -- the print of an expression in a format, and that of a program, without what follows
 unfoldable pub printOf : (step : ℕ) (text : List ℕ) → ExprFormatOption → Expr (NameIn (length text)) → List ℕ

@@ -16,7 +16,7 @@ use Rattle.tree.specs.Trees.{Trees, namesIn}
 use Rattle.tree.specs.Accepted.{unique}
 use Rattle.tree.specs.Refused.{expression-too-many, expression-misfit, program-too-many, program-misfit}
 use Rattle.tree.specs.declared.Checked.{Checked}
-use Rattle.printing.specs.declared.format.ExprFormatOption.{ExprFormatOption}
+use Rattle.prints.specs.declared.format.ExprFormatOption.{ExprFormatOption}
 use Rattle.printing.specs.Entries.{mostIndent, refusal, stored, Printable, expressions, programs, treeOf, printChecked, printTable, Holds, HoldsProgram}
 
 -- ---- the two kinds of table

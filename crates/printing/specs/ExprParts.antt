@@ -1,5 +1,5 @@
 -- The parts of a table that hold expressions, with their prints: what the functions of src/expression.rt print.
-use Prim.Native.Nat.{ℕ, _+_, _*_, _≤_, _<_}
+use Prim.Native.Nat.{ℕ, _+_, _*_, _≤_}
 use mathlib.Core.Path.{_≡_}
 use mathlib.Core.Bool.{Bool}
 use mathlib.Core.Option.{Option}
@@ -14,20 +14,20 @@ use Rattle.tree.specs.Words.{exprWords, exprsWords, patternsWords, closureBindi
 use Rattle.tree.specs.Limits.{mostWords}
 use Rattle.tree.specs.Check.{NameIn}
 use Rattle.tree.specs.Counted.{exprCount, CountedExpr, CountedExprs, CountedPatterns, CountedClosureBindings, CountedClosureProperties}
-use Rattle.printing.specs.declared.power.BindingPower.{BindingPower}
-use Rattle.printing.specs.declared.format.ExprFormatOption.{ExprFormatOption}
-use Rattle.printing.specs.declared.format.ExprFormatOption.the-variants.{SingleLine}
-use Rattle.printing.specs.PrintUtil.{Space, More, Init}
-use Rattle.printing.specs.Printer.{Operand, ExpressionList, conditional, unary, binary, listed, operatorForm, isIf, Expression, operands, patterns, closureBindings, triggers, properties}
-use Rattle.printing.specs.Entries.{nameIn, startIndent}
-use Rattle.printing.specs.Text.{_▹_, _▸_}
+use Rattle.prints.specs.declared.power.BindingPower.{BindingPower}
+use Rattle.prints.specs.declared.format.ExprFormatOption.{ExprFormatOption}
+use Rattle.prints.specs.declared.format.ExprFormatOption.the-variants.{SingleLine}
+use Rattle.prints.specs.PrintUtil.{Space, Deeper, startIndent, Init}
+use Rattle.prints.specs.Printer.{Operand, ExpressionList, conditional, unary, binary, listed, operatorForm, isIf, Expression, operands, patterns, closureBindings, triggers, properties}
+use Rattle.printing.specs.Entries.{nameIn}
+use Rattle.prints.specs.Text.{_▹_, _▸_}
 use Rattle.printing.specs.Wrote.{Wrote}
-use Rattle.printing.specs.Text.{unless}
+use Rattle.prints.specs.Text.{unless}
 use Rattle.printing.specs.Parts.{Part}
 
 -- an operand of an operator
-abbrev pub operand : (text : List ℕ) → Expr (NameIn (length text)) → Operand
-operand text e = record { print = λ c f r. Expression (nameIn text) 2 e c f r; isIf = isIf e }
+abbrev pub operand : (text : List ℕ) (step : ℕ) → Expr (NameIn (length text)) → Operand
+operand text step e = record { print = λ c f r. Expression (nameIn text) step e c f r; isIf = isIf e }
 
 -- the number of the alternative that prints an operator: its operands where they are as many as it takes, else 0
 abbrev pub formNumber : {N : Type 0} → Operator → Exprs N → ℕ
@@ -37,25 +37,27 @@ pub record FormIs (table counts : List ℕ) (at r : ℕ) : Type 0 where
   pub form-is : (len : ℕ) (o : Operator) (es : Exprs (NameIn len)) (rest : List ℕ) → CountedExpr (λ n. n .span) counts (length table) (OperatorExpr o es) rest
       → drop at table ≡ exprWords (λ n. n .span) (OperatorExpr o es) rest → r ≡ formNumber o es
 
--- a format one step deeper; no print has an indent of 65,536 or more
-pub record Deeper (format r : ExprFormatOption) : Type 0 where
-  pub deeper : startIndent format < 65536 → r ≡ More 2 format
-
 -- the format of the expression after `else`, and what stands before it
-pub record ElseFormat (text table : List ℕ) (at : ℕ) (format r : ExprFormatOption) : Type 0 where
-  pub else-format : startIndent format < 65536 → (t : Expr (NameIn (length text))) (rest : List ℕ) → drop at table ≡ exprWords (λ n. n .span) t rest
-      → r ≡ pick (isIf t) format (More 2 format)
+pub record ElseFormat (text table : List ℕ) (step at : ℕ) (format r : ExprFormatOption) : Type 0 where
+  pub else-format : (t : Expr (NameIn (length text))) (rest : List ℕ) → drop at table ≡ exprWords (λ n. n .span) t rest
+      → r ≡ pick (isIf t) format (Deeper step format)
 
-pub record ElseHead (text table : List ℕ) (at : ℕ) (format : ExprFormatOption) (b : List ℕ) (p : ℕ) (b′ : List ℕ) (p′ : ℕ) : Type 0 where
-  pub else-head : startIndent format < 65536 → (t : Expr (NameIn (length text))) (rest : List ℕ) → drop at table ≡ exprWords (λ n. n .span) t rest
-      → Wrote (λ r. Space format ▹ "else" ▸ Space (pick (isIf t) SingleLine (More 2 format)) ▹ r) b p b′ p′
+pub record ElseHead (text table : List ℕ) (step at : ℕ) (format : ExprFormatOption) (b : List ℕ) (p : ℕ) (b′ : List ℕ) (p′ : ℕ) : Type 0 where
+  pub else-head : (t : Expr (NameIn (length text))) (rest : List ℕ) → drop at table ≡ exprWords (λ n. n .span) t rest
+      → Wrote (λ r. Space format ▹ "else" ▸ Space (pick (isIf t) SingleLine (Deeper step format)) ▹ r) b p b′ p′
 
--- what the prints need beside the numbers of items: a table no longer than a checked one, and an indent that grows no faster than the place
-pub record Ready (table : List ℕ) (at indent : ℕ) : Type 0 where
+-- the greatest indent step that the prints are proved for
+abbrev pub mostStep : ℕ
+mostStep = 8
+
+-- what the prints need beside the numbers of items: a table no longer than a checked one, a step that is not too great, and an indent that
+-- grows no faster than the place
+pub record Ready (table : List ℕ) (step at indent : ℕ) : Type 0 where
   pub few : length table ≤ mostWords
-  pub room : indent ≤ 255 + 2 * at
+  pub short : step ≤ mostStep
+  pub room : indent ≤ 255 + mostStep * at
 
-module _ (text table counts : List ℕ) (at : ℕ) where
+module _ (text table counts : List ℕ) (step at : ℕ) where
   abbrev N : Type 0
   N = NameIn (length text)
 
@@ -64,9 +66,9 @@ module _ (text table counts : List ℕ) (at : ℕ) where
   made {A} make context format =
       record {
         Tree = A;
-        given = λ a rest. Ready table at (startIndent format) × CountedExpr (λ n. n .span) counts (length table) (make a) rest;
+        given = λ a rest. Ready table step at (startIndent format) × CountedExpr (λ n. n .span) counts (length table) (make a) rest;
         words = λ a rest. exprWords (λ n. n .span) (make a) rest;
-        print = λ a rest. Expression (nameIn text) 2 (make a) context format rest;
+        print = λ a rest. Expression (nameIn text) step (make a) context format rest;
       }
 
   abbrev pub anExpr : BindingPower → ExprFormatOption → Part
@@ -95,46 +97,46 @@ module _ (text table counts : List ℕ) (at : ℕ) where
   operators {A} op es print context format =
       record {
         Tree = A;
-        given = λ a rest. Ready table at (startIndent format) × CountedExpr (λ n. n .span) counts (length table) (OperatorExpr (op a) (es a)) rest;
+        given = λ a rest. Ready table step at (startIndent format) × CountedExpr (λ n. n .span) counts (length table) (OperatorExpr (op a) (es a)) rest;
         words = λ a rest. exprWords (λ n. n .span) (OperatorExpr (op a) (es a)) rest;
         print = λ a rest. print a context format rest;
       }
 
   abbrev pub aForm : BindingPower → ExprFormatOption → Part
-  aForm = operators (λ (a : Operator × Exprs N). a .0) (λ a. a .1) (λ a. operatorForm 2 (a .0) (operands (nameIn text) 2 (a .1)))
+  aForm = operators (λ (a : Operator × Exprs N). a .0) (λ a. a .1) (λ a. operatorForm step (a .0) (operands (nameIn text) step (a .1)))
 
   abbrev pub aListed : Part
-  aListed = operators (λ (a : Operator × Exprs N). a .0) (λ a. a .1) (λ a. listed (a .0) (operands (nameIn text) 2 (a .1))) Init SingleLine
+  aListed = operators (λ (a : Operator × Exprs N). a .0) (λ a. a .1) (λ a. listed (a .0) (operands (nameIn text) step (a .1))) Init SingleLine
 
   abbrev pub aUnary : BindingPower → Part
-  aUnary context = operators (λ (a : Operator × Expr N). a .0) (λ a. _then_ (a .1) noExprs) (λ a. unary (a .0) (operand text (a .1))) context SingleLine
+  aUnary context = operators (λ (a : Operator × Expr N). a .0) (λ a. _then_ (a .1) noExprs) (λ a. unary (a .0) (operand text step (a .1))) context SingleLine
 
   abbrev pub aBinary : BindingPower → ExprFormatOption → Part
   aBinary =
       operators (λ (a : Operator × Expr N × Expr N). a .0) (λ a. _then_ (a .1) (_then_ (a .2) noExprs))
-      (λ a. binary (a .0) (operand text (a .1)) (operand text (a .2)))
+      (λ a. binary (a .0) (operand text step (a .1)) (operand text step (a .2)))
 
   abbrev pub aConditional : BindingPower → ExprFormatOption → Part
   aConditional =
       operators (λ (a : Operator × Expr N × Expr N × Expr N). a .0) (λ a. _then_ (a .1) (_then_ (a .2) (_then_ (a .3) noExprs)))
-      (λ a. conditional 2 (a .0) (operand text (a .1)) (operand text (a .2)) (operand text (a .3)))
+      (λ a. conditional step (a .0) (operand text step (a .1)) (operand text step (a .2)) (operand text step (a .3)))
 
   -- sequences
   abbrev pub sequence : {A : Type 0} → (A → List ℕ → Type 0) → (A → List ℕ → List ℕ) → (A → List ℕ → List ℕ) → ExprFormatOption → Part
   sequence {A} counted words print format =
-      record { Tree = A; given = λ a rest. Ready table at (startIndent format) × counted a rest; words = words; print = print }
+      record { Tree = A; given = λ a rest. Ready table step at (startIndent format) × counted a rest; words = words; print = print }
 
   abbrev pub expressionList : (first : Bool) → Part
-  expressionList first = sequence (CountedExprs (λ n. n .span) counts (length table)) (exprsWords (λ n. n .span)) (λ es rest. ExpressionList (unless first (bytes ", ")) (operands (nameIn text) 2 es) rest) SingleLine
+  expressionList first = sequence (CountedExprs (λ n. n .span) counts (length table)) (exprsWords (λ n. n .span)) (λ es rest. ExpressionList (unless first (bytes ", ")) (operands (nameIn text) step es) rest) SingleLine
 
   abbrev pub patternList : ExprFormatOption → Part
-  patternList ind = sequence (CountedPatterns (λ n. n .span) counts (length table)) (patternsWords (λ n. n .span)) (λ ps rest. patterns (nameIn text) 2 ps ind rest) ind
+  patternList ind = sequence (CountedPatterns (λ n. n .span) counts (length table)) (patternsWords (λ n. n .span)) (λ ps rest. patterns (nameIn text) step ps ind rest) ind
 
   abbrev pub triggerList : Part
-  triggerList = sequence (CountedPatterns (λ n. n .span) counts (length table)) (patternsWords (λ n. n .span)) (λ ps rest. triggers (nameIn text) 2 ps rest) SingleLine
+  triggerList = sequence (CountedPatterns (λ n. n .span) counts (length table)) (patternsWords (λ n. n .span)) (λ ps rest. triggers (nameIn text) step ps rest) SingleLine
 
   abbrev pub closureList : (first : Bool) → Part
-  closureList first = sequence (CountedClosureBindings (λ n. n .span) counts (length table)) (closureBindingsWords (λ n. n .span)) (λ bs rest. closureBindings (nameIn text) 2 bs (unless first (bytes ", ")) rest) SingleLine
+  closureList first = sequence (CountedClosureBindings (λ n. n .span) counts (length table)) (closureBindingsWords (λ n. n .span)) (λ bs rest. closureBindings (nameIn text) step bs (unless first (bytes ", ")) rest) SingleLine
 
   abbrev pub propertyList : (first : Bool) → Part
-  propertyList first = sequence (CountedClosureProperties (λ n. n .span) counts (length table)) (closurePropertiesWords (λ n. n .span)) (λ ps rest. properties (nameIn text) 2 ps (unless first (bytes ", ")) rest) SingleLine
+  propertyList first = sequence (CountedClosureProperties (λ n. n .span) counts (length table)) (closurePropertiesWords (λ n. n .span)) (λ ps rest. properties (nameIn text) step ps (unless first (bytes ", ")) rest) SingleLine

@@ -1,11 +1,6 @@
--- The prints of B3: PrintUtil.dfy and Printer.dfy.
-pub mod Text
+-- The code that prints, held to the prints of the crate `prints`: what is asked of each function, and what is proved of the entries.
 pub mod Wrote
 pub mod OperatorWords
-pub mod PrintUtil
-pub mod Printer
-pub mod Statements
-pub mod Program
 pub mod Entries
 pub mod EntryLaws
 pub mod PrintCases
@@ -15,7 +10,3 @@ pub mod ExprParts
 pub mod StmtParts
 pub mod DeclParts
 pub mod Stores
-pub mod Examples
-pub mod FormExamples
-pub mod StatementExamples
-pub mod ProgramExamples

@@ -9,13 +9,13 @@ use Rattle.grammar.specs.Words.{bytes}
 use Rattle.tree.specs.Ast.{Binding, Expr}
 use Rattle.tree.specs.Words.{boolWord, naturalWords, nameWords, optionWords, seqWords, bindingWords, exprWords}
 use Rattle.tree.specs.Check.{NameIn}
-use Rattle.printing.specs.declared.power.Side.the-variants.{Left}
-use Rattle.printing.specs.declared.power.BindingPower.{BindingPower}
-use Rattle.printing.specs.declared.format.ExprFormatOption.{ExprFormatOption}
+use Rattle.prints.specs.declared.power.Side.the-variants.{Left}
+use Rattle.prints.specs.declared.power.BindingPower.{BindingPower}
+use Rattle.prints.specs.declared.format.ExprFormatOption.{ExprFormatOption}
 use Rattle.printing.specs.declared.parts.Step.{Step}
-use Rattle.printing.specs.Text.{_▹_, _▸_, decimal}
-use Rattle.printing.specs.PrintUtil.{EndlessOperator, Parenthesis}
-use Rattle.printing.specs.Printer.{boolText, oldText, quantifierText, IdTypeDecl, Bindings, parameters, Expression, isIf}
+use Rattle.prints.specs.Text.{_▹_, _▸_, decimal}
+use Rattle.prints.specs.PrintUtil.{EndlessOperator, Parenthesis}
+use Rattle.prints.specs.Printer.{boolText, oldText, quantifierText, IdTypeDecl, Bindings, parameters, Expression, isIf}
 use Rattle.printing.specs.Entries.{nameIn}
 use Rattle.printing.specs.Wrote.{Wrote}
 
@@ -71,7 +71,7 @@ module _ (text : List ℕ) where
         Tree = N × Option N;
         given = λ _ _. Unit {0};
         words = λ a rest. nameWords (λ n. n .span) (a .0) (optionWords (nameWords (λ n. n .span)) (a .1) rest);
-        print = λ a rest. IdTypeDecl (nameIn text) 2 [] (a .0) (a .1) rest;
+        print = λ a rest. IdTypeDecl (nameIn text) [] (a .0) (a .1) rest;
       }
 
   abbrev pub bindings : List ℕ → Part
@@ -80,7 +80,7 @@ module _ (text : List ℕ) where
         Tree = List (Binding N);
         given = λ _ _. Unit {0};
         words = seqWords (bindingWords (λ n. n .span));
-        print = λ bs rest. Bindings (nameIn text) 2 prefix bs rest;
+        print = λ bs rest. Bindings (nameIn text) prefix bs rest;
       }
 
   -- a quantifier's Bool and bindings
@@ -90,7 +90,7 @@ module _ (text : List ℕ) where
         Tree = Bool × List (Binding N);
         given = λ _ _. Unit {0};
         words = λ a rest. boolWord (a .0) ∷ seqWords (bindingWords (λ n. n .span)) (a .1) rest;
-        print = λ a rest. Bindings (nameIn text) 2 (bytes (quantifierText (a .0))) (a .1) rest;
+        print = λ a rest. Bindings (nameIn text) (bytes (quantifierText (a .0))) (a .1) rest;
       }
 
   abbrev pub closureParameters : Part
@@ -99,7 +99,7 @@ module _ (text : List ℕ) where
         Tree = List (Binding N);
         given = λ _ _. Unit {0};
         words = seqWords (bindingWords (λ n. n .span));
-        print = λ bs rest. parameters (nameIn text) 2 bs rest;
+        print = λ bs rest. parameters (nameIn text) bs rest;
       }
 
   -- ---- the leaves, after their first word
@@ -122,14 +122,14 @@ module _ (text : List ℕ) where
         print = λ a rest. oldText (a .1) ▸ nameIn text (a .0) ▹ rest;
       }
 
-  -- an expression without expressions in it, in any context and format
+  -- an expression without expressions in it, by any step, in any context and format
   abbrev pub leaf : List ℕ → ℕ → Part
   leaf table at =
       record {
-        Tree = Expr N × BindingPower × ExprFormatOption;
+        Tree = ℕ × Expr N × BindingPower × ExprFormatOption;
         given = λ _ _. getD table at 0 < 5;
-        words = λ a rest. exprWords (λ n. n .span) (a .0) rest;
-        print = λ a rest. Expression (nameIn text) 2 (a .0) (a .1) (a .2) rest;
+        words = λ a rest. exprWords (λ n. n .span) (a .1) rest;
+        print = λ a rest. Expression (nameIn text) (a .0) (a .1) (a .2) (a .3) rest;
       }
 
   -- whether an expression is an IfThenElse, of any number of operands
@@ -155,7 +155,7 @@ module _ (text : List ℕ) where
         Tree = N × Option N;
         given = λ _ _. Unit {0};
         words = λ a rest. nameWords (λ n. n .span) (a .0) (optionWords (nameWords (λ n. n .span)) (a .1) rest);
-        print = λ a rest. Parenthesis Left EndlessOperator context ▹ IdTypeDecl (nameIn text) 2 (bytes "val ") (a .0) (a .1) (" := " ▸ rest);
+        print = λ a rest. Parenthesis Left EndlessOperator context ▹ IdTypeDecl (nameIn text) (bytes "val ") (a .0) (a .1) (" := " ▸ rest);
       }
 
   -- of a quantifier
@@ -165,7 +165,7 @@ module _ (text : List ℕ) where
         Tree = Bool × List (Binding N);
         given = λ _ _. Unit {0};
         words = λ a rest. boolWord (a .0) ∷ seqWords (bindingWords (λ n. n .span)) (a .1) rest;
-        print = λ a rest. Parenthesis Left EndlessOperator context ▹ Bindings (nameIn text) 2 (bytes (quantifierText (a .0))) (a .1) rest;
+        print = λ a rest. Parenthesis Left EndlessOperator context ▹ Bindings (nameIn text) (bytes (quantifierText (a .0))) (a .1) rest;
       }
 
   -- of a call
@@ -179,7 +179,7 @@ module _ (text : List ℕ) where
         Tree = N × List (Binding N);
         given = λ _ _. Unit {0};
         words = λ a rest. nameWords (λ n. n .span) (a .0) (seqWords (bindingWords (λ n. n .span)) (a .1) rest);
-        print = λ a rest. sep ▹ nameIn text (a .0) ▹ parameters (nameIn text) 2 (a .1) (" := " ▸ rest);
+        print = λ a rest. sep ▹ nameIn text (a .0) ▹ parameters (nameIn text) (a .1) (" := " ▸ rest);
       }
 
   -- between a closure's bindings and its properties

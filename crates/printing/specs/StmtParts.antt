@@ -15,12 +15,12 @@ use Rattle.tree.specs.Counted.{Noted, stmtCount, CountedOption, CountedItems, C
 use Rattle.tree.specs.Check.{NameIn}
 use Rattle.printing.specs.declared.items.Item.{Item}
 use Rattle.printing.specs.declared.items.Item.the-variants.{Name, Argument, Formal, Parameter}
-use Rattle.printing.specs.Text.{_▹_, _▸_}
-use Rattle.printing.specs.PrintUtil.{Indent}
-use Rattle.printing.specs.Printer.{IdTypeDecl}
-use Rattle.printing.specs.Statements.{Before, Shown, optional, separated, mutability, inline, OptionalAutoInvariant, argument, shown, BlockAsStatementList, StmtAsBlock}
-use Rattle.printing.specs.Statements.{StatementList, choices, caseList, aexpr, PrintAExprs}
-use Rattle.printing.specs.Program.{formal, parameter}
+use Rattle.prints.specs.Text.{_▹_, _▸_}
+use Rattle.prints.specs.PrintUtil.{Indent}
+use Rattle.prints.specs.Printer.{IdTypeDecl}
+use Rattle.prints.specs.Statements.{Before, Shown, optional, separated, mutability, inline, OptionalAutoInvariant, argument, shown, BlockAsStatementList, StmtAsBlock}
+use Rattle.prints.specs.Statements.{StatementList, choices, caseList, aexpr, PrintAExprs}
+use Rattle.prints.specs.Program.{formal, parameter}
 use Rattle.printing.specs.Entries.{nameIn}
 use Rattle.printing.specs.ExprParts.{Ready}
 use Rattle.printing.specs.Parts.{Part}
@@ -57,7 +57,7 @@ pub record NextName (table : List ℕ) (at next : ℕ) : Type 0 where
 
 -- what a test says of the statement at a place
 pub record Tells (table : List ℕ) (at : ℕ) (test : Shown → Bool) (r : Bool) : Type 0 where
-  pub tells : (text : List ℕ) (t : Stmt (NameIn (length text))) (rest : List ℕ) → drop at table ≡ stmtWords (λ n. n .span) t rest → r ≡ test (shown (nameIn text) 2 t)
+  pub tells : (text : List ℕ) (step : ℕ) (t : Stmt (NameIn (length text))) (rest : List ℕ) → drop at table ≡ stmtWords (λ n. n .span) t rest → r ≡ test (shown (nameIn text) step t)
 
 -- ---- parts that need nothing
 
@@ -87,7 +87,7 @@ module _ (text : List ℕ) where
 
   -- a function's parameter
   abbrev pub formalPart : Part
-  formalPart = free (fParameterWords (λ n. n .span)) (λ (a : FParameter N) rest. formal (nameIn text) 2 a rest)
+  formalPart = free (fParameterWords (λ n. n .span)) (λ (a : FParameter N) rest. formal (nameIn text) a rest)
 
   -- the label of an Exit
   abbrev pub anExit : Part
@@ -101,11 +101,11 @@ module _ (text : List ℕ) where
 
   -- ---- parts with counted sequences, at a place and an indent
 
-  module _ (table counts : List ℕ) (at indent : ℕ) where
+  module _ (table counts : List ℕ) (step at indent : ℕ) where
     -- trees whose sequences are counted
     abbrev pub counted : {A : Type 0} → (A → List ℕ → Type 0) → (A → List ℕ → List ℕ) → (A → List ℕ → List ℕ) → Part
     counted {A} Counted words print =
-        record { Tree = A; given = λ a rest. Ready table at indent × Counted a rest; words = words; print = print }
+        record { Tree = A; given = λ a rest. Ready table step at indent × Counted a rest; words = words; print = print }
 
     abbrev pub exprCounted : Expr N → List ℕ → Type 0
     exprCounted = CountedExpr (λ n. n .span) counts (length table)
@@ -115,12 +115,12 @@ module _ (text : List ℕ) where
 
     -- an expression on one line
     abbrev pub oneLine : Part
-    oneLine = counted exprCounted (exprWords (λ n. n .span)) (λ e rest. inline (nameIn text) 2 e rest)
+    oneLine = counted exprCounted (exprWords (λ n. n .span)) (λ e rest. inline (nameIn text) step e rest)
 
     -- an optional expression after text
     abbrev pub optionalExpr : List ℕ → Part
     optionalExpr prefix =
-        counted (CountedOption exprCounted) (optionWords (exprWords (λ n. n .span))) (λ o rest. optional (inline (nameIn text) 2) prefix o rest)
+        counted (CountedOption exprCounted) (optionWords (exprWords (λ n. n .span))) (λ o rest. optional (inline (nameIn text) step) prefix o rest)
 
     -- ---- lists of names, arguments and parameters
 
@@ -138,9 +138,9 @@ module _ (text : List ℕ) where
 
     abbrev pub itemPrint : (k : Item) → ItemTree k → Before
     itemPrint Name = named
-    itemPrint Argument = argument (nameIn text) 2
-    itemPrint Formal = formal (nameIn text) 2
-    itemPrint Parameter = parameter (nameIn text) 2
+    itemPrint Argument = argument (nameIn text) step
+    itemPrint Formal = formal (nameIn text)
+    itemPrint Parameter = parameter (nameIn text) step
 
     abbrev pub ItemCounted : (k : Item) → ItemTree k → List ℕ → Type 0
     ItemCounted Name a rest = Unit {0}
@@ -160,7 +160,7 @@ module _ (text : List ℕ) where
     abbrev pub anAssign : Part
     anAssign =
         counted (λ (a : N × Expr N) rest. exprCounted (a .1) rest) (λ a rest. nameWords (λ n. n .span) (a .0) (exprWords (λ n. n .span) (a .1) rest))
-        (λ a rest. nameIn text (a .0) ▹ " := " ▸ inline (nameIn text) 2 (a .1) ("\n" ▸ rest))
+        (λ a rest. nameIn text (a .0) ▹ " := " ▸ inline (nameIn text) step (a .1) ("\n" ▸ rest))
 
     abbrev pub aReinit : Part
     aReinit = counted (λ (l : List N) rest. Unit {0}) (seqWords (nameWords (λ n. n .span))) (λ l rest. "reinit " ▸ separated named [] (bytes ", ") l ("\n" ▸ rest))
@@ -169,34 +169,34 @@ module _ (text : List ℕ) where
     aCallStmt =
         counted (λ (a : N × List (CallArgument N)) rest. CountedItems (itemWords Argument) (ItemCounted Argument) (a .1) rest)
         (λ a rest. nameWords (λ n. n .span) (a .0) (seqWords (callArgumentWords (λ n. n .span)) (a .1) rest))
-        (λ a rest. nameIn text (a .0) ▹ "(" ▸ separated (argument (nameIn text) 2) [] (bytes ", ") (a .1) (")\n" ▸ rest))
+        (λ a rest. nameIn text (a .0) ▹ "(" ▸ separated (argument (nameIn text) step) [] (bytes ", ") (a .1) (")\n" ▸ rest))
 
     -- with its word
     abbrev pub anExpressionStmt : Part
     anExpressionStmt =
         counted (λ (a : ℕ × Expr N) rest. exprCounted (a .1) rest) (λ a rest. a .0 ∷ exprWords (λ n. n .span) (a .1) rest)
-        (λ a rest. keywordBytes (a .0) ▹ inline (nameIn text) 2 (a .1) ("\n" ▸ rest))
+        (λ a rest. keywordBytes (a .0) ▹ inline (nameIn text) step (a .1) ("\n" ▸ rest))
 
     -- ---- statements
 
     -- a statement without its initial indent
     abbrev pub aStmt : (followed : Bool) → Part
-    aStmt followed = counted stmtCounted (stmtWords (λ n. n .span)) (λ s rest. shown (nameIn text) 2 s .print indent followed rest)
+    aStmt followed = counted stmtCounted (stmtWords (λ n. n .span)) (λ s rest. shown (nameIn text) step s .print indent followed rest)
 
     -- the statements that are made in one way
     abbrev pub madeStmt : {A : Type 0} → (A → Stmt N) → (followed : Bool) → Part
     madeStmt {A} make followed =
         counted (λ (a : A) rest. stmtCounted (make a) rest) (λ a rest. stmtWords (λ n. n .span) (make a) rest)
-        (λ a rest. shown (nameIn text) 2 (make a) .print indent followed rest)
+        (λ a rest. shown (nameIn text) step (make a) .print indent followed rest)
 
     -- a statement without statements in it
     abbrev pub simplePart : (followed : Bool) → Part
     simplePart followed =
         record {
           Tree = Stmt N;
-          given = λ s rest. Simple (getD table at 0) × Ready table at 0 × stmtCounted s rest;
+          given = λ s rest. Simple (getD table at 0) × Ready table step at 0 × stmtCounted s rest;
           words = stmtWords (λ n. n .span);
-          print = λ s rest. shown (nameIn text) 2 s .print indent followed rest;
+          print = λ s rest. shown (nameIn text) step s .print indent followed rest;
         }
 
     -- a variable's declaration before its body
@@ -206,8 +206,8 @@ module _ (text : List ℕ) where
         (λ (a : Variable N × Option (Expr N)) rest.
         CountedOption exprCounted (a .0 .optionalAutoInv) (optionWords (exprWords (λ n. n .span)) (a .1) rest) × CountedOption exprCounted (a .1) rest)
         (λ a rest. variableWords (λ n. n .span) (a .0) (optionWords (exprWords (λ n. n .span)) (a .1) rest))
-        (λ a rest. IdTypeDecl (nameIn text) 2 (bytes (mutability (a .0 .isMutable))) (a .0 .name) (a .0 .optionalType)
-        (OptionalAutoInvariant (nameIn text) 2 (a .0 .optionalAutoInv) (optional (inline (nameIn text) 2) (bytes " := ") (a .1) ("\n" ▸ rest))))
+        (λ a rest. IdTypeDecl (nameIn text) (bytes (mutability (a .0 .isMutable))) (a .0 .name) (a .0 .optionalType)
+        (OptionalAutoInvariant (nameIn text) step (a .0 .optionalAutoInv) (optional (inline (nameIn text) step) (bytes " := ") (a .1) ("\n" ▸ rest))))
 
     -- the statements with statements in them
     abbrev pub aVariable : (followed : Bool) → Part
@@ -236,16 +236,16 @@ module _ (text : List ℕ) where
 
     -- `BlockAsStatementList`
     abbrev pub anInner : (followed : Bool) → Part
-    anInner followed = counted stmtCounted (stmtWords (λ n. n .span)) (λ s rest. BlockAsStatementList (nameIn text) 2 (shown (nameIn text) 2 s) indent followed rest)
+    anInner followed = counted stmtCounted (stmtWords (λ n. n .span)) (λ s rest. BlockAsStatementList (nameIn text) step (shown (nameIn text) step s) indent followed rest)
 
     -- `StmtAsBlock` without its suffix
     abbrev pub aBlock : Part
     aBlock =
         record {
           Tree = Stmt N;
-          given = λ s rest. Ready table at (indent + 2) × stmtCounted s rest;
+          given = λ s rest. Ready table step at (indent + step) × stmtCounted s rest;
           words = stmtWords (λ n. n .span);
-          print = λ s rest. StmtAsBlock (nameIn text) 2 (shown (nameIn text) 2 s) indent "" rest;
+          print = λ s rest. StmtAsBlock (nameIn text) step (shown (nameIn text) step s) indent "" rest;
         }
 
     -- a statement after `else` or a label
@@ -253,9 +253,9 @@ module _ (text : List ℕ) where
     anOnward stays =
         record {
           Tree = Stmt N;
-          given = λ s rest. Ready table at (indent + 2) × stmtCounted s rest;
+          given = λ s rest. Ready table step at (indent + step) × stmtCounted s rest;
           words = stmtWords (λ n. n .span);
-          print = λ s rest. let e = shown (nameIn text) 2 s in pick stays (e .print indent false rest) (StmtAsBlock (nameIn text) 2 e indent "\n" rest);
+          print = λ s rest. let e = shown (nameIn text) step s in pick stays (e .print indent false rest) (StmtAsBlock (nameIn text) step e indent "\n" rest);
         }
 
     -- ---- sequences of statements
@@ -265,23 +265,23 @@ module _ (text : List ℕ) where
     statementList =
         counted
         (λ (ss : Stmts N) rest. Noted {N = N} (λ n. n .span) counts (length table) (stmtsWords (λ n. n .span) ss rest) (stmtCount ss) × CountedStmts (λ n. n .span) counts (length table) ss rest)
-        (stmtsWords (λ n. n .span)) (λ ss rest. StatementList (nameIn text) 2 ss indent rest)
+        (stmtsWords (λ n. n .span)) (λ ss rest. StatementList (nameIn text) step ss indent rest)
 
     -- the last so many statements of a list
     abbrev pub lastStatements : (left : ℕ) → Part
     lastStatements left =
         counted (λ (ss : Stmts N) rest. (left ≡ stmtCount ss) × CountedStmts (λ n. n .span) counts (length table) ss rest)
-        (stmtsWords (λ n. n .span)) (λ ss rest. StatementList (nameIn text) 2 ss indent rest)
+        (stmtsWords (λ n. n .span)) (λ ss rest. StatementList (nameIn text) step ss indent rest)
 
     abbrev pub branchList : Part
-    branchList = counted (CountedStmts (λ n. n .span) counts (length table)) (stmtsWords (λ n. n .span)) (λ ss rest. choices (nameIn text) 2 ss indent rest)
+    branchList = counted (CountedStmts (λ n. n .span) counts (length table)) (stmtsWords (λ n. n .span)) (λ ss rest. choices (nameIn text) step ss indent rest)
 
     abbrev pub caseSequence : Part
-    caseSequence = counted (CountedCases (λ n. n .span) counts (length table)) (casesWords (λ n. n .span)) (λ cs rest. caseList (nameIn text) 2 cs indent rest)
+    caseSequence = counted (CountedCases (λ n. n .span) counts (length table)) (casesWords (λ n. n .span)) (λ cs rest. caseList (nameIn text) step cs indent rest)
 
     abbrev pub anAExpr : Part
-    anAExpr = counted (CountedAExpr (λ n. n .span) counts (length table)) (aExprWords (λ n. n .span)) (λ a rest. aexpr (nameIn text) 2 a indent rest)
+    anAExpr = counted (CountedAExpr (λ n. n .span) counts (length table)) (aExprWords (λ n. n .span)) (λ a rest. aexpr (nameIn text) step a indent rest)
 
     -- `PrintAExprs`
     abbrev pub aExprList : List ℕ → Part
-    aExprList prefix = counted (CountedAExprs (λ n. n .span) counts (length table)) (aExprsWords (λ n. n .span)) (λ es rest. PrintAExprs (nameIn text) 2 es prefix indent rest)
+    aExprList prefix = counted (CountedAExprs (λ n. n .span) counts (length table)) (aExprsWords (λ n. n .span)) (λ es rest. PrintAExprs (nameIn text) step es prefix indent rest)

@@ -13,37 +13,37 @@ use Rattle.tree.specs.Counted.{CountedExpr, CountedProgram}
 use Rattle.printing.specs.declared.Printed.{Printed}
 use Rattle.printing.specs.declared.entry.Root.{Root}
 use Rattle.printing.specs.declared.entry.Root.the-variants.{AnExpression, AProgram}
-use Rattle.printing.specs.PrintUtil.{Init}
+use Rattle.prints.specs.PrintUtil.{Init}
 use Rattle.printing.specs.Entries.{Outcome, written, refusal, outcomeOf, stored, Printable, expressions, programs}
 use Rattle.printing.specs.Parts.{Part}
 use Rattle.printing.specs.ExprParts.{anExpr}
 use Rattle.printing.specs.DeclParts.{aProgram}
 
--- the trees of a root with their words and prints
-abbrev pub rooted : (text : List ℕ) → Root → Printable
-rooted text (AnExpression format) = expressions 2 text format
-rooted text AProgram = programs 2 text
+-- the trees of a root with their words and their prints by a step
+abbrev pub rooted : (step : ℕ) (text : List ℕ) → Root → Printable
+rooted step text (AnExpression format) = expressions step text format
+rooted step text AProgram = programs step text
 
 -- the numbers of items that the check of a table notes
 abbrev pub rootCounts : Root → (table : List ℕ) (len : ℕ) (before : List ℕ) → List ℕ
 rootCounts (AnExpression format) table len before = expressionCounts table len before
 rootCounts AProgram table len before = programCounts table len before
 
-module _ (text table counts : List ℕ) where
+module _ (text table counts : List ℕ) (step : ℕ) where
   -- a table's tree as a part of it
   abbrev pub rootPart : Root → Part
-  rootPart (AnExpression format) = anExpr text table counts 0 Init format
-  rootPart AProgram = aProgram text table counts
+  rootPart (AnExpression format) = anExpr text table counts step 0 Init format
+  rootPart AProgram = aProgram text table counts step
 
   -- the numbers of a tree's sequences
-  abbrev pub RootCounted : (root : Root) → rooted text root .Tree → Type 0
+  abbrev pub RootCounted : (root : Root) → rooted step text root .Tree → Type 0
   RootCounted (AnExpression format) t = CountedExpr {N = NameIn (length text)} (λ n. n .span) counts (length table) t []
   RootCounted AProgram t = CountedProgram {N = NameIn (length text)} (λ n. n .span) counts (length table) t []
 
   -- what the print of a table needs: as many words as a checked table has at most, and the numbers of its tree
   pub record Numbered (root : Root) : Type 0 where
     pub few : length table ≤ mostWords
-    pub counted : (t : rooted text root .Tree) → rooted text root .words t ≡ table → RootCounted root t
+    pub counted : (t : rooted step text root .Tree) → rooted step text root .words t ≡ table → RootCounted root t
 
 -- the print of the tree that a table holds was stored, or refused
 pub record Stores (P : Printable) (words out out′ : List ℕ) (r : Printed) : Type 0 where

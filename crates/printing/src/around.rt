@@ -1,5 +1,4 @@
 // What stands around statements in statements: the beginnings and ends of their prints, and what is known of them before.
-use crate::format::deeper;
 use crate::items::after_name;
 use crate::items::optional_expr;
 use crate::items::optional_name;
@@ -11,15 +10,16 @@ use crate::write::put;
 use crate::write::put_either;
 use crate::write::put_indent_unless;
 use crate::write::put_unless;
+use prints::deeper;
 use tree::get;
-ghost use Prim.Native.Nat.{_+_, _-_, _<_};
+ghost use Prim.Native.Nat.{_-_};
 ghost use mathlib.Core.Path.{_≡_};
 ghost use mathlib.Core.List.{_++_};
 ghost use lib.ListN.{getD};
 ghost use Rattle.lexing.specs.Answer.{pick};
 ghost use Rattle.grammar.specs.Words.{bytes};
-ghost use Rattle.printing.specs.PrintUtil.{Indent};
-ghost use Rattle.printing.specs.Text.{unless};
+ghost use Rattle.prints.specs.PrintUtil.{Indent, deeperBy};
+ghost use Rattle.prints.specs.Text.{unless};
 ghost use Rattle.printing.specs.Wrote.{Wrote};
 ghost use Rattle.printing.specs.Parts.{Prints};
 ghost use Rattle.printing.specs.StmtParts.{variableHead, forHead, Tells};
@@ -29,18 +29,19 @@ pub(crate) fn variable(
     text: &[u8],
     words: &[u32],
     counts: &[u16],
+    step: usize,
     at: usize,
     out: &mut [u8],
     pos: usize,
 ) -> Step
-    ensures { λ r. ⌜ Prints (variableHead (now (text .entry)) (now (words .entry)) (now (counts .entry)) at 0) (now (words .entry)) at (now (out .entry)) pos (now (out .exit)) r ⌝ }
+    ensures { λ r. ⌜ Prints (variableHead (now (text .entry)) (now (words .entry)) (now (counts .entry)) step at 0) (now (words .entry)) at (now (out .entry)) pos (now (out .exit)) r ⌝ }
 {
     let third = after_name(words, at);
     let a = put_either(out, pos, get(words, third) == 0, b"val ", b"var ");
     let s = put_name(text, words, at, out, a);
     let t = optional_name(text, words, after(words, s.next), b": ", out, s.pos);
-    let u = optional_expr(text, words, counts, t.next, b" autoinv ", out, t.pos);
-    let v = optional_expr(text, words, counts, u.next, b" := ", out, u.pos);
+    let u = optional_expr(text, words, counts, step, t.next, b" autoinv ", out, t.pos);
+    let v = optional_expr(text, words, counts, step, u.next, b" := ", out, u.pos);
     Step {
         next: v.next,
         pos: put(out, v.pos, b"\n"),
@@ -48,13 +49,13 @@ pub(crate) fn variable(
 }
 
 // The indent of a declaration: one step deeper in braces of its own.
-pub(crate) fn indent_inside(followed: bool, indent: usize) -> usize
-    ensures { λ r. ⌜ (indent < 65536 → r ≡ pick followed indent (indent + 2)) ⌝ }
+pub(crate) fn indent_inside(followed: bool, indent: usize, step: usize) -> usize
+    ensures { λ r. ⌜ r ≡ pick followed indent (deeperBy step indent) ⌝ }
 {
     if followed {
         return indent;
     }
-    deeper(indent)
+    deeper(indent, step)
 }
 
 // The `{` of a declaration's own braces, and the indent after it.

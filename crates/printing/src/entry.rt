@@ -2,11 +2,12 @@
 // whatever tree a table holds.
 use crate::Printed;
 use crate::expression::expr;
-use crate::format::ExprFormatOption;
 use crate::parts::Step;
-use crate::power::BindingPower;
 use crate::program::program;
 use crate::write::store;
+use prints::BindingPower;
+use prints::ExprFormatOption;
+use prints::INDENT_AMOUNT;
 use tree::Checked;
 use tree::MOST_TEXT;
 use tree::MOST_WORDS;
@@ -17,7 +18,7 @@ ghost use mathlib.Core.Path.{_≡_};
 ghost use lib.ListN.{length};
 ghost use Rattle.tree.specs.Limits.{mostText, mostWords};
 ghost use Rattle.tree.specs.Check.{refusal};
-ghost use Rattle.printing.specs.declared.format.ExprFormatOption.the-variants.{SingleLine, MultipleLines};
+ghost use Rattle.prints.specs.declared.format.ExprFormatOption.the-variants.{SingleLine, MultipleLines};
 ghost use Rattle.printing.specs.Entries.{mostPrint, mostIndent, outcomeOf, Answered, PrintAnswered, ProgramAnswered};
 ghost use Rattle.printing.specs.Parts.{Prints};
 ghost use Rattle.printing.specs.Stores.{rooted, rootCounts, rootPart, Numbered, Stores, delivered};
@@ -67,8 +68,8 @@ pub fn print_program(text: &[u8], words: &[u32], out: &mut [u8]) -> Printed
 
 // A small table takes a small table of numbers.
 fn print(text: &[u8], words: &[u32], root: Root, out: &mut [u8]) -> Printed
-    requires { ⌜ rooted (now text) root .indent ≤ mostIndent ⌝ }
-    ensures { λ r. ⌜ Answered (rooted (now (text .entry)) root) (now (text .entry)) (now (words .entry)) (now (out .entry)) r (now (out .exit)) ⌝ }
+    requires { ⌜ rooted 2 (now text) root .indent ≤ mostIndent ⌝ }
+    ensures { λ r. ⌜ Answered (rooted 2 (now (text .entry)) root) (now (text .entry)) (now (words .entry)) (now (out .entry)) r (now (out .exit)) ⌝ }
 {
     if MOST_TEXT < text.len() {
         return Printed::Refused(6, 0);
@@ -89,8 +90,8 @@ fn print_counted(
     root: Root,
     out: &mut [u8],
 ) -> Printed
-    requires { ⌜ (length (now text) ≤ mostText) × (rooted (now text) root .indent ≤ mostIndent) × (length (now words) ≤ mostWords → length (now words) ≤ length (now counts)) ⌝ }
-    ensures { λ r. ⌜ Answered (rooted (now (text .entry)) root) (now (text .entry)) (now (words .entry)) (now (out .entry)) r (now (out .exit)) ⌝ }
+    requires { ⌜ (length (now text) ≤ mostText) × (rooted 2 (now text) root .indent ≤ mostIndent) × (length (now words) ≤ mostWords → length (now words) ≤ length (now counts)) ⌝ }
+    ensures { λ r. ⌜ Answered (rooted 2 (now (text .entry)) root) (now (text .entry)) (now (words .entry)) (now (out .entry)) r (now (out .exit)) ⌝ }
 {
     let found = count_root(text, words, counts, root);
     match found {
@@ -102,7 +103,7 @@ fn print_counted(
 
 // The check of a table by its root.
 fn count_root(text: &[u8], words: &[u32], counts: &mut [u16], root: Root) -> Checked
-    ensures { λ r. ⌜ (refusal r ≡ rooted (now (text .entry)) root .refused (now (words .entry))) × (now (counts .exit) ≡ rootCounts root (now (words .entry)) (length (now (text .entry))) (now (counts .entry))) ⌝ }
+    ensures { λ r. ⌜ (refusal r ≡ rooted 2 (now (text .entry)) root .refused (now (words .entry))) × (now (counts .exit) ≡ rootCounts root (now (words .entry)) (length (now (text .entry))) (now (counts .entry))) ⌝ }
 {
     match root {
         Root::AnExpression(_) => count_expression(words, text.len(), counts),
@@ -112,8 +113,8 @@ fn count_root(text: &[u8], words: &[u32], counts: &mut [u16], root: Root) -> Che
 
 // The print of a table's tree, by the numbers of items. A small output takes a small buffer.
 fn print_by(text: &[u8], words: &[u32], counts: &[u16], root: Root, out: &mut [u8]) -> Printed
-    requires { ⌜ (rooted (now text) root .indent ≤ mostIndent) × Numbered (now text) (now words) (now counts) root ⌝ }
-    ensures { λ r. ⌜ Stores (rooted (now (text .entry)) root) (now (words .entry)) (now (out .entry)) (now (out .exit)) r ⌝ }
+    requires { ⌜ (rooted 2 (now text) root .indent ≤ mostIndent) × Numbered (now text) (now words) (now counts) 2 root ⌝ }
+    ensures { λ r. ⌜ Stores (rooted 2 (now (text .entry)) root) (now (words .entry)) (now (out .entry)) (now (out .exit)) r ⌝ }
 {
     if out.len() <= 1024 {
         let mut buffer = [0u8; 1024];
@@ -132,8 +133,8 @@ fn print_through(
     buffer: &mut [u8],
     out: &mut [u8],
 ) -> Printed
-    requires { ⌜ (rooted (now text) root .indent ≤ mostIndent) × Numbered (now text) (now words) (now counts) root × (length (now buffer) ≤ mostPrint) × (min (length (now out)) mostPrint ≤ length (now buffer)) ⌝ }
-    ensures { λ r. ⌜ Stores (rooted (now (text .entry)) root) (now (words .entry)) (now (out .entry)) (now (out .exit)) r ⌝ }
+    requires { ⌜ (rooted 2 (now text) root .indent ≤ mostIndent) × Numbered (now text) (now words) (now counts) 2 root × (length (now buffer) ≤ mostPrint) × (min (length (now out)) mostPrint ≤ length (now buffer)) ⌝ }
+    ensures { λ r. ⌜ Stores (rooted 2 (now (text .entry)) root) (now (words .entry)) (now (out .entry)) (now (out .exit)) r ⌝ }
 {
     let s = print_root(text, words, counts, root, buffer);
     deliver(buffer, s.pos, out)
@@ -141,7 +142,7 @@ fn print_through(
 
 // The print of a table's tree from a buffer's first byte on, by its root.
 fn print_root(text: &[u8], words: &[u32], counts: &[u16], root: Root, buffer: &mut [u8]) -> Step
-    ensures { λ r. ⌜ Prints (rootPart (now (text .entry)) (now (words .entry)) (now (counts .entry)) root) (now (words .entry)) 0 (now (buffer .entry)) 0 (now (buffer .exit)) r ⌝ }
+    ensures { λ r. ⌜ Prints (rootPart (now (text .entry)) (now (words .entry)) (now (counts .entry)) 2 root) (now (words .entry)) 0 (now (buffer .entry)) 0 (now (buffer .exit)) r ⌝ }
 {
     match root {
         Root::AnExpression(format) => {
@@ -149,6 +150,7 @@ fn print_root(text: &[u8], words: &[u32], counts: &[u16], root: Root, buffer: &m
                 text,
                 words,
                 counts,
+                INDENT_AMOUNT,
                 0,
                 BindingPower::INIT,
                 format,
@@ -156,7 +158,7 @@ fn print_root(text: &[u8], words: &[u32], counts: &[u16], root: Root, buffer: &m
                 0,
             )
         }
-        Root::AProgram => program(text, words, counts, buffer, 0),
+        Root::AProgram => program(text, words, counts, INDENT_AMOUNT, buffer, 0),
     }
 }
 

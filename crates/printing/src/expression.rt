@@ -6,7 +6,6 @@ use crate::expression::list::closures;
 use crate::expression::list::exprs;
 use crate::expression::list::patterns;
 use crate::expression::list::properties;
-use crate::format::ExprFormatOption;
 use crate::forms::else_format;
 use crate::forms::else_head;
 use crate::forms::format_after;
@@ -24,9 +23,13 @@ use crate::parts::label_head;
 use crate::parts::leaf;
 use crate::parts::let_head;
 use crate::parts::quantifier_head;
-use crate::power::BindingPower;
-use crate::power::Side;
+use crate::write::endless_parenthesis;
+use crate::write::parenthesis;
 use crate::write::put;
+use crate::write::space;
+use prints::BindingPower;
+use prints::ExprFormatOption;
+use prints::Side;
 use tree::get;
 ghost use Prim.Native.Nat.{_<_};
 ghost use lib.ListN.{length};
@@ -38,21 +41,22 @@ pub(crate) fn expr(
     text: &[u8],
     words: &[u32],
     counts: &[u16],
+    step: usize,
     at: usize,
     context: BindingPower,
     format: ExprFormatOption,
     out: &mut [u8],
     pos: usize,
 ) -> Step
-    ensures { λ r. ⌜ Prints (anExpr (now (text .entry)) (now (words .entry)) (now (counts .entry)) at context format) (now (words .entry)) at (now (out .entry)) pos (now (out .exit)) r ⌝ }
+    ensures { λ r. ⌜ Prints (anExpr (now (text .entry)) (now (words .entry)) (now (counts .entry)) step at context format) (now (words .entry)) at (now (out .entry)) pos (now (out .exit)) r ⌝ }
 {
     match get(words, at) {
-        5 => oper(text, words, counts, at, context, format, out, pos),
-        6 => call(text, words, counts, at, out, pos),
-        7 => label(text, words, counts, at, context, format, out, pos),
-        8 => let_expr(text, words, counts, at, context, format, out, pos),
-        9 => quant(text, words, counts, at, context, format, out, pos),
-        10 => lift(text, words, counts, at, out, pos),
+        5 => oper(text, words, counts, step, at, context, format, out, pos),
+        6 => call(text, words, counts, step, at, out, pos),
+        7 => label(text, words, counts, step, at, context, format, out, pos),
+        8 => let_expr(text, words, counts, step, at, context, format, out, pos),
+        9 => quant(text, words, counts, step, at, context, format, out, pos),
+        10 => lift(text, words, counts, step, at, out, pos),
         _ => leaf(text, words, at, out, pos),
     }
 }
@@ -62,6 +66,7 @@ fn oper(
     text: &[u8],
     words: &[u32],
     counts: &[u16],
+    step: usize,
     at: usize,
     context: BindingPower,
     format: ExprFormatOption,
@@ -69,14 +74,14 @@ fn oper(
     pos: usize,
 ) -> Step
     requires { ⌜ at < length (now words) ⌝ }
-    ensures { λ r. ⌜ Prints (anOperatorExpr (now (text .entry)) (now (words .entry)) (now (counts .entry)) at context format) (now (words .entry)) at (now (out .entry)) pos (now (out .exit)) r ⌝ }
+    ensures { λ r. ⌜ Prints (anOperatorExpr (now (text .entry)) (now (words .entry)) (now (counts .entry)) step at context format) (now (words .entry)) at (now (out .entry)) pos (now (out .exit)) r ⌝ }
 {
     let strength = binding_strength(get(words, at + 1));
-    let a = strength.parenthesis(Side::Left, context, out, pos);
-    let s = form(text, words, counts, at, context, format, out, a);
+    let a = parenthesis(strength, Side::Left, context, out, pos);
+    let s = form(text, words, counts, step, at, context, format, out, a);
     Step {
         next: s.next,
-        pos: strength.parenthesis(Side::Right, context, out, s.pos),
+        pos: parenthesis(strength, Side::Right, context, out, s.pos),
     }
 }
 
@@ -85,6 +90,7 @@ fn form(
     text: &[u8],
     words: &[u32],
     counts: &[u16],
+    step: usize,
     at: usize,
     context: BindingPower,
     format: ExprFormatOption,
@@ -92,13 +98,13 @@ fn form(
     pos: usize,
 ) -> Step
     requires { ⌜ at < length (now words) ⌝ }
-    ensures { λ r. ⌜ Prints (aForm (now (text .entry)) (now (words .entry)) (now (counts .entry)) at context format) (now (words .entry)) at (now (out .entry)) pos (now (out .exit)) r ⌝ }
+    ensures { λ r. ⌜ Prints (aForm (now (text .entry)) (now (words .entry)) (now (counts .entry)) step at context format) (now (words .entry)) at (now (out .entry)) pos (now (out .exit)) r ⌝ }
 {
     match operator_form(words, counts, at) {
-        1 => unary(text, words, counts, at, context, out, pos),
-        2 => binary(text, words, counts, at, context, format, out, pos),
-        3 => cond(text, words, counts, at, context, format, out, pos),
-        _ => listed(text, words, counts, at, out, pos),
+        1 => unary(text, words, counts, step, at, context, out, pos),
+        2 => binary(text, words, counts, step, at, context, format, out, pos),
+        3 => cond(text, words, counts, step, at, context, format, out, pos),
+        _ => listed(text, words, counts, step, at, out, pos),
     }
 }
 
@@ -106,13 +112,14 @@ fn unary(
     text: &[u8],
     words: &[u32],
     counts: &[u16],
+    step: usize,
     at: usize,
     context: BindingPower,
     out: &mut [u8],
     pos: usize,
 ) -> Step
     requires { ⌜ at < length (now words) ⌝ }
-    ensures { λ r. ⌜ Prints (aUnary (now (text .entry)) (now (words .entry)) (now (counts .entry)) at context) (now (words .entry)) at (now (out .entry)) pos (now (out .exit)) r ⌝ }
+    ensures { λ r. ⌜ Prints (aUnary (now (text .entry)) (now (words .entry)) (now (counts .entry)) step at context) (now (words .entry)) at (now (out .entry)) pos (now (out .exit)) r ⌝ }
 {
     let op = at + 1;
     let right = operand_power(words, op, Side::Right, context);
@@ -121,6 +128,7 @@ fn unary(
         text,
         words,
         counts,
+        step,
         at + 3,
         right,
         ExprFormatOption::SingleLine,
@@ -137,6 +145,7 @@ fn binary(
     text: &[u8],
     words: &[u32],
     counts: &[u16],
+    step: usize,
     at: usize,
     context: BindingPower,
     format: ExprFormatOption,
@@ -144,7 +153,7 @@ fn binary(
     pos: usize,
 ) -> Step
     requires { ⌜ at < length (now words) ⌝ }
-    ensures { λ r. ⌜ Prints (aBinary (now (text .entry)) (now (words .entry)) (now (counts .entry)) at context format) (now (words .entry)) at (now (out .entry)) pos (now (out .exit)) r ⌝ }
+    ensures { λ r. ⌜ Prints (aBinary (now (text .entry)) (now (words .entry)) (now (counts .entry)) step at context format) (now (words .entry)) at (now (out .entry)) pos (now (out .exit)) r ⌝ }
 {
     let op = at + 1;
     let left = operand_power(words, op, Side::Left, context);
@@ -152,6 +161,7 @@ fn binary(
         text,
         words,
         counts,
+        step,
         at + 3,
         left,
         ExprFormatOption::SingleLine,
@@ -162,7 +172,7 @@ fn binary(
     let a = put_sign(words, op, broken, out, s.pos);
     let right = operand_power(words, op, Side::Right, context);
     let second = after(words, s.next);
-    let t = expr(text, words, counts, second, right, broken, out, a);
+    let t = expr(text, words, counts, step, second, right, broken, out, a);
     Step {
         next: after(words, t.next),
         pos: t.pos,
@@ -174,6 +184,7 @@ fn cond(
     text: &[u8],
     words: &[u32],
     counts: &[u16],
+    step: usize,
     at: usize,
     context: BindingPower,
     format: ExprFormatOption,
@@ -181,13 +192,14 @@ fn cond(
     pos: usize,
 ) -> Step
     requires { ⌜ at < length (now words) ⌝ }
-    ensures { λ r. ⌜ Prints (aConditional (now (text .entry)) (now (words .entry)) (now (counts .entry)) at context format) (now (words .entry)) at (now (out .entry)) pos (now (out .exit)) r ⌝ }
+    ensures { λ r. ⌜ Prints (aConditional (now (text .entry)) (now (words .entry)) (now (counts .entry)) step at context format) (now (words .entry)) at (now (out .entry)) pos (now (out .exit)) r ⌝ }
 {
     let a = put(out, pos, b"if ");
     let s = expr(
         text,
         words,
         counts,
+        step,
         at + 3,
         BindingPower::INIT,
         ExprFormatOption::SingleLine,
@@ -195,19 +207,30 @@ fn cond(
         a,
     );
     let second = after(words, s.next);
-    let ind = format.more();
-    let b = ind.space(out, s.pos);
-    let t = expr(text, words, counts, second, BindingPower::INIT, ind, out, b);
+    let ind = format.more(step);
+    let b = space(ind, out, s.pos);
+    let t = expr(
+        text,
+        words,
+        counts,
+        step,
+        second,
+        BindingPower::INIT,
+        ind,
+        out,
+        b,
+    );
     let third = after(words, t.next);
-    let c = else_head(text, words, third, format, out, t.pos);
+    let c = else_head(text, words, step, third, format, out, t.pos);
     let right = operand_power(words, at + 1, Side::Right, context);
     let u = expr(
         text,
         words,
         counts,
+        step,
         third,
         right,
-        else_format(text, words, third, format),
+        else_format(text, words, step, third, format),
         out,
         c,
     );
@@ -218,12 +241,20 @@ fn cond(
 }
 
 // `op(args)`.
-fn listed(text: &[u8], words: &[u32], counts: &[u16], at: usize, out: &mut [u8], pos: usize) -> Step
+fn listed(
+    text: &[u8],
+    words: &[u32],
+    counts: &[u16],
+    step: usize,
+    at: usize,
+    out: &mut [u8],
+    pos: usize,
+) -> Step
     requires { ⌜ at < length (now words) ⌝ }
-    ensures { λ r. ⌜ Prints (aListed (now (text .entry)) (now (words .entry)) (now (counts .entry)) at) (now (words .entry)) at (now (out .entry)) pos (now (out .exit)) r ⌝ }
+    ensures { λ r. ⌜ Prints (aListed (now (text .entry)) (now (words .entry)) (now (counts .entry)) step at) (now (words .entry)) at (now (out .entry)) pos (now (out .exit)) r ⌝ }
 {
     let a = listed_head(words, at + 1, out, pos);
-    let s = exprs(text, words, counts, at + 2, true, out, a);
+    let s = exprs(text, words, counts, step, at + 2, true, out, a);
     Step {
         next: s.next,
         pos: put(out, s.pos, b")"),
@@ -231,12 +262,20 @@ fn listed(text: &[u8], words: &[u32], counts: &[u16], at: usize, out: &mut [u8],
 }
 
 // FunctionCallExpr.
-fn call(text: &[u8], words: &[u32], counts: &[u16], at: usize, out: &mut [u8], pos: usize) -> Step
+fn call(
+    text: &[u8],
+    words: &[u32],
+    counts: &[u16],
+    step: usize,
+    at: usize,
+    out: &mut [u8],
+    pos: usize,
+) -> Step
     requires { ⌜ at < length (now words) ⌝ }
-    ensures { λ r. ⌜ Prints (aCall (now (text .entry)) (now (words .entry)) (now (counts .entry)) at) (now (words .entry)) at (now (out .entry)) pos (now (out .exit)) r ⌝ }
+    ensures { λ r. ⌜ Prints (aCall (now (text .entry)) (now (words .entry)) (now (counts .entry)) step at) (now (words .entry)) at (now (out .entry)) pos (now (out .exit)) r ⌝ }
 {
     let s = call_head(text, words, at + 1, out, pos);
-    let t = exprs(text, words, counts, s.next, true, out, s.pos);
+    let t = exprs(text, words, counts, step, s.next, true, out, s.pos);
     Step {
         next: t.next,
         pos: put(out, t.pos, b")"),
@@ -248,6 +287,7 @@ fn label(
     text: &[u8],
     words: &[u32],
     counts: &[u16],
+    step: usize,
     at: usize,
     context: BindingPower,
     format: ExprFormatOption,
@@ -255,14 +295,14 @@ fn label(
     pos: usize,
 ) -> Step
     requires { ⌜ at < length (now words) ⌝ }
-    ensures { λ r. ⌜ Prints (aLabel (now (text .entry)) (now (words .entry)) (now (counts .entry)) at context format) (now (words .entry)) at (now (out .entry)) pos (now (out .exit)) r ⌝ }
+    ensures { λ r. ⌜ Prints (aLabel (now (text .entry)) (now (words .entry)) (now (counts .entry)) step at context format) (now (words .entry)) at (now (out .entry)) pos (now (out .exit)) r ⌝ }
 {
     let s = label_head(text, words, at + 1, context, out, pos);
     let right = BindingPower::ENDLESS_OPERATOR.subexpression_power(Side::Right, context);
-    let t = expr(text, words, counts, s.next, right, format, out, s.pos);
+    let t = expr(text, words, counts, step, s.next, right, format, out, s.pos);
     Step {
         next: t.next,
-        pos: BindingPower::ENDLESS_OPERATOR.parenthesis(Side::Right, context, out, t.pos),
+        pos: endless_parenthesis(Side::Right, context, out, t.pos),
     }
 }
 
@@ -271,6 +311,7 @@ fn let_expr(
     text: &[u8],
     words: &[u32],
     counts: &[u16],
+    step: usize,
     at: usize,
     context: BindingPower,
     format: ExprFormatOption,
@@ -278,25 +319,26 @@ fn let_expr(
     pos: usize,
 ) -> Step
     requires { ⌜ at < length (now words) ⌝ }
-    ensures { λ r. ⌜ Prints (aLet (now (text .entry)) (now (words .entry)) (now (counts .entry)) at context format) (now (words .entry)) at (now (out .entry)) pos (now (out .exit)) r ⌝ }
+    ensures { λ r. ⌜ Prints (aLet (now (text .entry)) (now (words .entry)) (now (counts .entry)) step at context format) (now (words .entry)) at (now (out .entry)) pos (now (out .exit)) r ⌝ }
 {
     let s = let_head(text, words, at + 1, context, out, pos);
     let t = expr(
         text,
         words,
         counts,
+        step,
         s.next,
         BindingPower::INIT,
         ExprFormatOption::SingleLine,
         out,
         s.pos,
     );
-    let a = format.space(out, t.pos);
+    let a = space(format, out, t.pos);
     let right = BindingPower::ENDLESS_OPERATOR.subexpression_power(Side::Right, context);
-    let u = expr(text, words, counts, t.next, right, format, out, a);
+    let u = expr(text, words, counts, step, t.next, right, format, out, a);
     Step {
         next: u.next,
-        pos: BindingPower::ENDLESS_OPERATOR.parenthesis(Side::Right, context, out, u.pos),
+        pos: endless_parenthesis(Side::Right, context, out, u.pos),
     }
 }
 
@@ -305,6 +347,7 @@ fn quant(
     text: &[u8],
     words: &[u32],
     counts: &[u16],
+    step: usize,
     at: usize,
     context: BindingPower,
     format: ExprFormatOption,
@@ -312,29 +355,37 @@ fn quant(
     pos: usize,
 ) -> Step
     requires { ⌜ at < length (now words) ⌝ }
-    ensures { λ r. ⌜ Prints (aQuantifier (now (text .entry)) (now (words .entry)) (now (counts .entry)) at context format) (now (words .entry)) at (now (out .entry)) pos (now (out .exit)) r ⌝ }
+    ensures { λ r. ⌜ Prints (aQuantifier (now (text .entry)) (now (words .entry)) (now (counts .entry)) step at context format) (now (words .entry)) at (now (out .entry)) pos (now (out .exit)) r ⌝ }
 {
     let s = quantifier_head(text, words, at + 1, context, out, pos);
-    let ind = format.more();
-    let t = patterns(text, words, counts, s.next, ind, out, s.pos);
-    let a = ind.space(out, t.pos);
+    let ind = format.more(step);
+    let t = patterns(text, words, counts, step, s.next, ind, out, s.pos);
+    let a = space(ind, out, t.pos);
     let right = BindingPower::ENDLESS_OPERATOR.subexpression_power(Side::Right, context);
-    let u = expr(text, words, counts, t.next, right, ind, out, a);
+    let u = expr(text, words, counts, step, t.next, right, ind, out, a);
     Step {
         next: u.next,
-        pos: BindingPower::ENDLESS_OPERATOR.parenthesis(Side::Right, context, out, u.pos),
+        pos: endless_parenthesis(Side::Right, context, out, u.pos),
     }
 }
 
 // ClosureExpr.
-fn lift(text: &[u8], words: &[u32], counts: &[u16], at: usize, out: &mut [u8], pos: usize) -> Step
+fn lift(
+    text: &[u8],
+    words: &[u32],
+    counts: &[u16],
+    step: usize,
+    at: usize,
+    out: &mut [u8],
+    pos: usize,
+) -> Step
     requires { ⌜ at < length (now words) ⌝ }
-    ensures { λ r. ⌜ Prints (aClosure (now (text .entry)) (now (words .entry)) (now (counts .entry)) at) (now (words .entry)) at (now (out .entry)) pos (now (out .exit)) r ⌝ }
+    ensures { λ r. ⌜ Prints (aClosure (now (text .entry)) (now (words .entry)) (now (counts .entry)) step at) (now (words .entry)) at (now (out .entry)) pos (now (out .exit)) r ⌝ }
 {
     let a = put(out, pos, b"lift ");
-    let s = closures(text, words, counts, at + 1, true, out, a);
+    let s = closures(text, words, counts, step, at + 1, true, out, a);
     let t = closure_result(text, words, s.next, out, s.pos);
-    let u = properties(text, words, counts, t.next, true, out, t.pos);
+    let u = properties(text, words, counts, step, t.next, true, out, t.pos);
     Step {
         next: u.next,
         pos: put(out, u.pos, b" }"),

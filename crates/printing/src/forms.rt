@@ -1,24 +1,25 @@
 // What stands around the operands of an operator: signs, spaces, the contexts and formats of the operands.
 use crate::around::count_at;
-use crate::format::ExprFormatOption;
 use crate::operator::argument_count;
 use crate::operator::binding_strength;
 use crate::operator::breaks_line;
 use crate::operator::put_operator;
 use crate::parts::after;
 use crate::parts::is_if;
-use crate::power::BindingPower;
-use crate::power::Side;
 use crate::write::put;
+use crate::write::space;
+use prints::BindingPower;
+use prints::ExprFormatOption;
+use prints::Side;
 use tree::get;
 ghost use mathlib.Core.Path.{_≡_};
 ghost use mathlib.Core.List.{_++_};
 ghost use lib.ListN.{getD};
 ghost use Rattle.lexing.specs.Answer.{pick};
 ghost use Rattle.grammar.specs.Words.{bytes};
-ghost use Rattle.printing.specs.declared.format.ExprFormatOption.the-variants.{SingleLine};
-ghost use Rattle.printing.specs.PrintUtil.{Space, SubexpressionPower, ToString, BindingStrength};
-ghost use Rattle.printing.specs.Printer.{breaksLine};
+ghost use Rattle.prints.specs.declared.format.ExprFormatOption.the-variants.{SingleLine};
+ghost use Rattle.prints.specs.PrintUtil.{Space, SubexpressionPower, ToString, BindingStrength};
+ghost use Rattle.prints.specs.Printer.{breaksLine};
 ghost use Rattle.printing.specs.OperatorWords.{operatorOf};
 ghost use Rattle.printing.specs.Wrote.{Wrote};
 ghost use Rattle.printing.specs.ExprParts.{FormIs, ElseFormat, ElseHead};
@@ -70,7 +71,7 @@ pub(crate) fn put_sign(
 {
     let a = put(out, pos, b" ");
     let b = put_operator(out, a, get(words, at));
-    format.space(out, b)
+    space(format, out, b)
 }
 
 // What stands before the operands of `op(args)`.
@@ -85,39 +86,41 @@ pub(crate) fn listed_head(words: &[u32], at: usize, out: &mut [u8], pos: usize) 
 pub(crate) fn else_format(
     text: &[u8],
     words: &[u32],
+    step: usize,
     at: usize,
     format: ExprFormatOption,
 ) -> ExprFormatOption
-    ensures { λ r. ⌜ ElseFormat (now (text .entry)) (now (words .entry)) at format r ⌝ }
+    ensures { λ r. ⌜ ElseFormat (now (text .entry)) (now (words .entry)) step at format r ⌝ }
 {
-    ExprFormatOption::choose(is_if(text, words, at), format, format.more())
+    ExprFormatOption::choose(is_if(text, words, at), format, format.more(step))
 }
 
 // What stands before the expression after `else`.
 pub(crate) fn else_head(
     text: &[u8],
     words: &[u32],
+    step: usize,
     at: usize,
     format: ExprFormatOption,
     out: &mut [u8],
     pos: usize,
 ) -> usize
-    ensures { λ r. ⌜ ElseHead (now (text .entry)) (now (words .entry)) at format (now (out .entry)) pos (now (out .exit)) r ⌝ }
+    ensures { λ r. ⌜ ElseHead (now (text .entry)) (now (words .entry)) step at format (now (out .entry)) pos (now (out .exit)) r ⌝ }
 {
-    let a = format.space(out, pos);
+    let a = space(format, out, pos);
     let b = put(out, a, b"else");
     let gap = ExprFormatOption::choose(
         is_if(text, words, at),
         ExprFormatOption::SingleLine,
-        format.more(),
+        format.more(step),
     );
-    gap.space(out, b)
+    space(gap, out, b)
 }
 
 // What stands before a pattern's expressions.
 pub(crate) fn pattern_head(format: ExprFormatOption, out: &mut [u8], pos: usize) -> usize
     ensures { λ r. ⌜ Wrote (λ rest. Space format ++ (bytes "pattern " ++ rest)) (now (out .entry)) pos (now (out .exit)) r ⌝ }
 {
-    let a = format.space(out, pos);
+    let a = space(format, out, pos);
     put(out, a, b"pattern ")
 }

@@ -1,13 +1,13 @@
 // Optional parts, and lists of names, arguments and parameters. Each function prints the words at a place, and answers the place after
 // them and the place in the output.
 use crate::expression::expr;
-use crate::format::ExprFormatOption;
 use crate::parts::Step;
 use crate::parts::after;
 use crate::parts::put_name;
-use crate::power::BindingPower;
 use crate::write::put;
 use crate::write::put_unless;
+use prints::BindingPower;
+use prints::ExprFormatOption;
 use tree::get;
 ghost use mathlib.Core.List.{_++_};
 ghost use lib.ListN.{getD};
@@ -21,16 +21,18 @@ pub(crate) fn inline(
     text: &[u8],
     words: &[u32],
     counts: &[u16],
+    step: usize,
     at: usize,
     out: &mut [u8],
     pos: usize,
 ) -> Step
-    ensures { λ r. ⌜ Prints (oneLine (now (text .entry)) (now (words .entry)) (now (counts .entry)) at 0) (now (words .entry)) at (now (out .entry)) pos (now (out .exit)) r ⌝ }
+    ensures { λ r. ⌜ Prints (oneLine (now (text .entry)) (now (words .entry)) (now (counts .entry)) step at 0) (now (words .entry)) at (now (out .entry)) pos (now (out .exit)) r ⌝ }
 {
     expr(
         text,
         words,
         counts,
+        step,
         at,
         BindingPower::INIT,
         ExprFormatOption::SingleLine,
@@ -63,19 +65,20 @@ pub(crate) fn optional_expr(
     text: &[u8],
     words: &[u32],
     counts: &[u16],
+    step: usize,
     at: usize,
     prefix: &[u8],
     out: &mut [u8],
     pos: usize,
 ) -> Step
-    ensures { λ r. ⌜ Prints (optionalExpr (now (text .entry)) (now (words .entry)) (now (counts .entry)) at 0 (now (prefix .entry))) (now (words .entry)) at (now (out .entry)) pos (now (out .exit)) r ⌝ }
+    ensures { λ r. ⌜ Prints (optionalExpr (now (text .entry)) (now (words .entry)) (now (counts .entry)) step at 0 (now (prefix .entry))) (now (words .entry)) at (now (out .entry)) pos (now (out .exit)) r ⌝ }
 {
     let inside = after(words, at);
     if get(words, at) == 0 {
         return Step { next: inside, pos };
     }
     let a = put(out, pos, prefix);
-    inline(text, words, counts, inside, out, a)
+    inline(text, words, counts, step, inside, out, a)
 }
 
 // `ParameterMode`.
@@ -122,39 +125,41 @@ pub(crate) fn separated(
     text: &[u8],
     words: &[u32],
     counts: &[u16],
+    step: usize,
     kind: Item,
     at: usize,
     first: &[u8],
     out: &mut [u8],
     pos: usize,
 ) -> Step
-    ensures { λ r. ⌜ Prints (itemList (now (text .entry)) (now (words .entry)) (now (counts .entry)) at 0 kind (now (first .entry))) (now (words .entry)) at (now (out .entry)) pos (now (out .exit)) r ⌝ }
+    ensures { λ r. ⌜ Prints (itemList (now (text .entry)) (now (words .entry)) (now (counts .entry)) step at 0 kind (now (first .entry))) (now (words .entry)) at (now (out .entry)) pos (now (out .exit)) r ⌝ }
 {
     let inside = after(words, at);
     if get(words, at) == 0 {
         return Step { next: inside, pos };
     }
     let a = put(out, pos, first);
-    let s = one(text, words, counts, kind, inside, out, a);
-    separated(text, words, counts, kind, s.next, b", ", out, s.pos)
+    let s = one(text, words, counts, step, kind, inside, out, a);
+    separated(text, words, counts, step, kind, s.next, b", ", out, s.pos)
 }
 
 fn one(
     text: &[u8],
     words: &[u32],
     counts: &[u16],
+    step: usize,
     kind: Item,
     at: usize,
     out: &mut [u8],
     pos: usize,
 ) -> Step
-    ensures { λ r. ⌜ Prints (anItem (now (text .entry)) (now (words .entry)) (now (counts .entry)) at 0 kind) (now (words .entry)) at (now (out .entry)) pos (now (out .exit)) r ⌝ }
+    ensures { λ r. ⌜ Prints (anItem (now (text .entry)) (now (words .entry)) (now (counts .entry)) step at 0 kind) (now (words .entry)) at (now (out .entry)) pos (now (out .exit)) r ⌝ }
 {
     match kind {
         Item::Name => put_name(text, words, at, out, pos),
-        Item::Argument => argument(text, words, counts, at, out, pos),
+        Item::Argument => argument(text, words, counts, step, at, out, pos),
         Item::Formal => formal(text, words, at, out, pos),
-        Item::Parameter => parameter(text, words, counts, at, out, pos),
+        Item::Parameter => parameter(text, words, counts, step, at, out, pos),
     }
 }
 
@@ -162,14 +167,15 @@ fn argument(
     text: &[u8],
     words: &[u32],
     counts: &[u16],
+    step: usize,
     at: usize,
     out: &mut [u8],
     pos: usize,
 ) -> Step
-    ensures { λ r. ⌜ Prints (anItem (now (text .entry)) (now (words .entry)) (now (counts .entry)) at 0 Argument) (now (words .entry)) at (now (out .entry)) pos (now (out .exit)) r ⌝ }
+    ensures { λ r. ⌜ Prints (anItem (now (text .entry)) (now (words .entry)) (now (counts .entry)) step at 0 Argument) (now (words .entry)) at (now (out .entry)) pos (now (out .exit)) r ⌝ }
 {
     let a = put_mode(words, at, out, pos);
-    inline(text, words, counts, after(words, at), out, a)
+    inline(text, words, counts, step, after(words, at), out, a)
 }
 
 // A name and its type, with one word between them.
@@ -200,14 +206,15 @@ fn parameter(
     text: &[u8],
     words: &[u32],
     counts: &[u16],
+    step: usize,
     at: usize,
     out: &mut [u8],
     pos: usize,
 ) -> Step
-    ensures { λ r. ⌜ Prints (anItem (now (text .entry)) (now (words .entry)) (now (counts .entry)) at 0 Parameter) (now (words .entry)) at (now (out .entry)) pos (now (out .exit)) r ⌝ }
+    ensures { λ r. ⌜ Prints (anItem (now (text .entry)) (now (words .entry)) (now (counts .entry)) step at 0 Parameter) (now (words .entry)) at (now (out .entry)) pos (now (out .exit)) r ⌝ }
 {
     let third = after_name(words, at);
     let a = put_mode(words, third, out, pos);
     let s = typed_apart(text, words, at, out, a);
-    optional_expr(text, words, counts, s.next, b" autoinv ", out, s.pos)
+    optional_expr(text, words, counts, step, s.next, b" autoinv ", out, s.pos)
 }

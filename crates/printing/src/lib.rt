@@ -2,12 +2,10 @@
 mod around;
 mod entry;
 mod expression;
-mod format;
 mod forms;
 mod items;
 mod operator;
 mod parts;
-mod power;
 mod program;
 mod simple;
 mod statement;

@@ -1,7 +1,7 @@
 // The operators of RawAst.dfy, by their words 1 to 16.
-use crate::power::BindingPower;
-use crate::power::TieBreaker;
 use crate::write::put;
+use prints::BindingPower;
+use prints::TieBreaker;
 use tree::get;
 use tree::name;
 ghost use Rattle.tree.specs.Ast.{ArgumentCount};
@@ -11,8 +11,8 @@ ghost use Prim.Native.Nat.{_<_, _≤_};
 ghost use Rattle.grammar.specs.Words.{bytes as text};
 ghost use Rattle.printing.specs.Wrote.{Wrote};
 ghost use Rattle.printing.specs.OperatorWords.{operatorOf};
-ghost use Rattle.printing.specs.PrintUtil.{ToString, BindingStrength};
-ghost use Rattle.printing.specs.Printer.{breaksLine};
+ghost use Rattle.prints.specs.PrintUtil.{ToString, BindingStrength};
+ghost use Rattle.prints.specs.Printer.{breaksLine};
 
 pub(crate) fn argument_count(op: u32) -> usize
     ensures { λ r. ⌜ r ≡ ArgumentCount (operatorOf op) ⌝ }

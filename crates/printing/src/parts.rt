@@ -1,16 +1,17 @@
 // The parts of an expression's print that have no expressions in them. Each function prints the words at a place, and answers the place
 // after them and the place in the output.
-use crate::power::BindingPower;
-use crate::power::Side;
+use crate::write::endless_parenthesis;
 use crate::write::put;
 use crate::write::put_decimal;
 use crate::write::put_separator;
 use crate::write::put_unless;
+use prints::BindingPower;
+use prints::Side;
 use tree::get;
 use tree::name;
 use tree::natural;
 ghost use Rattle.grammar.specs.Words.{bytes};
-ghost use Rattle.printing.specs.Text.{unless};
+ghost use Rattle.prints.specs.Text.{unless};
 ghost use Rattle.printing.specs.Parts.{Prints, Next, IsIf, aName, typedName, idType, bindings, quantified as quantifiedPart, closureParameters};
 ghost use Rattle.printing.specs.Parts.{aBool, aNatural, customLiteral, identifier, leaf as leafPart};
 ghost use Rattle.printing.specs.Parts.{labelHead, letHead, quantifierHead, callHead, closureHead, closureResult};
@@ -197,7 +198,7 @@ pub(crate) fn label_head(
 ) -> Step
     ensures { λ r. ⌜ Prints (labelHead (now (text .entry)) context) (now (words .entry)) at (now (out .entry)) pos (now (out .exit)) r ⌝ }
 {
-    let a = BindingPower::ENDLESS_OPERATOR.parenthesis(Side::Left, context, out, pos);
+    let a = endless_parenthesis(Side::Left, context, out, pos);
     let s = put_name(text, words, at, out, a);
     Step {
         next: s.next,
@@ -216,7 +217,7 @@ pub(crate) fn let_head(
 ) -> Step
     ensures { λ r. ⌜ Prints (letHead (now (text .entry)) context) (now (words .entry)) at (now (out .entry)) pos (now (out .exit)) r ⌝ }
 {
-    let a = BindingPower::ENDLESS_OPERATOR.parenthesis(Side::Left, context, out, pos);
+    let a = endless_parenthesis(Side::Left, context, out, pos);
     let b = put(out, a, b"val ");
     let s = id_type(text, words, at, out, b);
     Step {
@@ -236,7 +237,7 @@ pub(crate) fn quantifier_head(
 ) -> Step
     ensures { λ r. ⌜ Prints (quantifierHead (now (text .entry)) context) (now (words .entry)) at (now (out .entry)) pos (now (out .exit)) r ⌝ }
 {
-    let a = BindingPower::ENDLESS_OPERATOR.parenthesis(Side::Left, context, out, pos);
+    let a = endless_parenthesis(Side::Left, context, out, pos);
     quantified(text, words, at, out, a)
 }
 

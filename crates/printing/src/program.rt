@@ -1,8 +1,6 @@
 // Printer.dfy's `Program` and the declarations, over the words of a checked table. Each function prints what stands at a place and answers
 // the place after it and the place in the output.
 use crate::expression::expr;
-use crate::format::ExprFormatOption;
-use crate::format::INDENT_AMOUNT;
 use crate::items::Item;
 use crate::items::inline;
 use crate::items::name_head;
@@ -12,11 +10,12 @@ use crate::parts::Step;
 use crate::parts::after;
 use crate::parts::call_head;
 use crate::parts::put_name;
-use crate::power::BindingPower;
 use crate::statement::block;
 use crate::statement::list::aexprs;
 use crate::write::put;
 use crate::write::put_indent;
+use prints::BindingPower;
+use prints::ExprFormatOption;
 use tree::get;
 ghost use Rattle.printing.specs.Parts.{Prints};
 ghost use Rattle.printing.specs.declared.program.Decl.the-variants.{Functions, Axioms, Procedures};
@@ -35,17 +34,36 @@ pub(crate) fn program(
     text: &[u8],
     words: &[u32],
     counts: &[u16],
+    step: usize,
     out: &mut [u8],
     pos: usize,
 ) -> Step
-    ensures { λ r. ⌜ Prints (aProgram (now (text .entry)) (now (words .entry)) (now (counts .entry))) (now (words .entry)) 0 (now (out .entry)) pos (now (out .exit)) r ⌝ }
+    ensures { λ r. ⌜ Prints (aProgram (now (text .entry)) (now (words .entry)) (now (counts .entry)) step) (now (words .entry)) 0 (now (out .entry)) pos (now (out .exit)) r ⌝ }
 {
     let a = put(out, pos, b"// B3 program\n");
-    let s = decls(text, words, counts, Decl::Types, 0, out, a);
-    let t = decls(text, words, counts, Decl::Taggers, s.next, out, s.pos);
-    let u = decls(text, words, counts, Decl::Functions, t.next, out, t.pos);
-    let v = decls(text, words, counts, Decl::Axioms, u.next, out, u.pos);
-    decls(text, words, counts, Decl::Procedures, v.next, out, v.pos)
+    let s = decls(text, words, counts, step, Decl::Types, 0, out, a);
+    let t = decls(text, words, counts, step, Decl::Taggers, s.next, out, s.pos);
+    let u = decls(
+        text,
+        words,
+        counts,
+        step,
+        Decl::Functions,
+        t.next,
+        out,
+        t.pos,
+    );
+    let v = decls(text, words, counts, step, Decl::Axioms, u.next, out, u.pos);
+    decls(
+        text,
+        words,
+        counts,
+        step,
+        Decl::Procedures,
+        v.next,
+        out,
+        v.pos,
+    )
 }
 
 // The declarations of a kind, an empty line before each.
@@ -53,39 +71,41 @@ fn decls(
     text: &[u8],
     words: &[u32],
     counts: &[u16],
+    step: usize,
     kind: Decl,
     at: usize,
     out: &mut [u8],
     pos: usize,
 ) -> Step
-    ensures { λ r. ⌜ Prints (declList (now (text .entry)) (now (words .entry)) (now (counts .entry)) at kind) (now (words .entry)) at (now (out .entry)) pos (now (out .exit)) r ⌝ }
+    ensures { λ r. ⌜ Prints (declList (now (text .entry)) (now (words .entry)) (now (counts .entry)) step at kind) (now (words .entry)) at (now (out .entry)) pos (now (out .exit)) r ⌝ }
 {
     let inside = after(words, at);
     if get(words, at) == 0 {
         return Step { next: inside, pos };
     }
     let a = put(out, pos, b"\n");
-    let s = declaration(text, words, counts, kind, inside, out, a);
-    decls(text, words, counts, kind, s.next, out, s.pos)
+    let s = declaration(text, words, counts, step, kind, inside, out, a);
+    decls(text, words, counts, step, kind, s.next, out, s.pos)
 }
 
 fn declaration(
     text: &[u8],
     words: &[u32],
     counts: &[u16],
+    step: usize,
     kind: Decl,
     at: usize,
     out: &mut [u8],
     pos: usize,
 ) -> Step
-    ensures { λ r. ⌜ Prints (aDecl (now (text .entry)) (now (words .entry)) (now (counts .entry)) at kind) (now (words .entry)) at (now (out .entry)) pos (now (out .exit)) r ⌝ }
+    ensures { λ r. ⌜ Prints (aDecl (now (text .entry)) (now (words .entry)) (now (counts .entry)) step at kind) (now (words .entry)) at (now (out .entry)) pos (now (out .exit)) r ⌝ }
 {
     match kind {
         Decl::Types => type_decl(text, words, at, out, pos),
         Decl::Taggers => tagger_decl(text, words, at, out, pos),
-        Decl::Functions => function_decl(text, words, counts, at, out, pos),
-        Decl::Axioms => axiom_decl(text, words, counts, at, out, pos),
-        Decl::Procedures => procedure(text, words, counts, at, out, pos),
+        Decl::Functions => function_decl(text, words, counts, step, at, out, pos),
+        Decl::Axioms => axiom_decl(text, words, counts, step, at, out, pos),
+        Decl::Procedures => procedure(text, words, counts, step, at, out, pos),
     }
 }
 
@@ -111,20 +131,31 @@ fn function_decl(
     text: &[u8],
     words: &[u32],
     counts: &[u16],
+    step: usize,
     at: usize,
     out: &mut [u8],
     pos: usize,
 ) -> Step
-    ensures { λ r. ⌜ Prints (aDecl (now (text .entry)) (now (words .entry)) (now (counts .entry)) at Functions) (now (words .entry)) at (now (out .entry)) pos (now (out .exit)) r ⌝ }
+    ensures { λ r. ⌜ Prints (aDecl (now (text .entry)) (now (words .entry)) (now (counts .entry)) step at Functions) (now (words .entry)) at (now (out .entry)) pos (now (out .exit)) r ⌝ }
 {
     let a = put(out, pos, b"function ");
     let s = call_head(text, words, at, out, a);
-    let t = separated(text, words, counts, Item::Formal, s.next, b"", out, s.pos);
+    let t = separated(
+        text,
+        words,
+        counts,
+        step,
+        Item::Formal,
+        s.next,
+        b"",
+        out,
+        s.pos,
+    );
     let b = put(out, t.pos, b"): ");
     let u = put_name(text, words, t.next, out, b);
     let v = optional_name(text, words, u.next, b" tag ", out, u.pos);
     let c = put(out, v.pos, b"\n");
-    optional_definition(text, words, counts, v.next, out, c)
+    optional_definition(text, words, counts, step, v.next, out, c)
 }
 
 // An expression on broken lines from the first indent on.
@@ -132,20 +163,22 @@ fn broken_lines(
     text: &[u8],
     words: &[u32],
     counts: &[u16],
+    step: usize,
     at: usize,
     out: &mut [u8],
     pos: usize,
 ) -> Step
-    ensures { λ r. ⌜ Prints (broken (now (text .entry)) (now (words .entry)) (now (counts .entry)) at) (now (words .entry)) at (now (out .entry)) pos (now (out .exit)) r ⌝ }
+    ensures { λ r. ⌜ Prints (broken (now (text .entry)) (now (words .entry)) (now (counts .entry)) step at) (now (words .entry)) at (now (out .entry)) pos (now (out .exit)) r ⌝ }
 {
-    let a = put_indent(out, pos, INDENT_AMOUNT);
+    let a = put_indent(out, pos, step);
     expr(
         text,
         words,
         counts,
+        step,
         at,
         BindingPower::INIT,
-        ExprFormatOption::MultipleLines(INDENT_AMOUNT),
+        ExprFormatOption::MultipleLines(step),
         out,
         a,
     )
@@ -155,19 +188,20 @@ fn optional_definition(
     text: &[u8],
     words: &[u32],
     counts: &[u16],
+    step: usize,
     at: usize,
     out: &mut [u8],
     pos: usize,
 ) -> Step
-    ensures { λ r. ⌜ Prints (optionalDefinition (now (text .entry)) (now (words .entry)) (now (counts .entry)) at) (now (words .entry)) at (now (out .entry)) pos (now (out .exit)) r ⌝ }
+    ensures { λ r. ⌜ Prints (optionalDefinition (now (text .entry)) (now (words .entry)) (now (counts .entry)) step at) (now (words .entry)) at (now (out .entry)) pos (now (out .exit)) r ⌝ }
 {
     let inside = after(words, at);
     if get(words, at) == 0 {
         return Step { next: inside, pos };
     }
-    let s = whens(text, words, counts, inside, out, pos);
+    let s = whens(text, words, counts, step, inside, out, pos);
     let a = put(out, s.pos, b"{\n");
-    let t = broken_lines(text, words, counts, s.next, out, a);
+    let t = broken_lines(text, words, counts, step, s.next, out, a);
     Step {
         next: t.next,
         pos: put(out, t.pos, b"\n}\n"),
@@ -175,18 +209,26 @@ fn optional_definition(
 }
 
 // The `when` clauses.
-fn whens(text: &[u8], words: &[u32], counts: &[u16], at: usize, out: &mut [u8], pos: usize) -> Step
-    ensures { λ r. ⌜ Prints (whenList (now (text .entry)) (now (words .entry)) (now (counts .entry)) at) (now (words .entry)) at (now (out .entry)) pos (now (out .exit)) r ⌝ }
+fn whens(
+    text: &[u8],
+    words: &[u32],
+    counts: &[u16],
+    step: usize,
+    at: usize,
+    out: &mut [u8],
+    pos: usize,
+) -> Step
+    ensures { λ r. ⌜ Prints (whenList (now (text .entry)) (now (words .entry)) (now (counts .entry)) step at) (now (words .entry)) at (now (out .entry)) pos (now (out .exit)) r ⌝ }
 {
     let inside = after(words, at);
     if get(words, at) == 0 {
         return Step { next: inside, pos };
     }
-    let a = put_indent(out, pos, INDENT_AMOUNT);
+    let a = put_indent(out, pos, step);
     let b = put(out, a, b"when ");
-    let s = inline(text, words, counts, inside, out, b);
+    let s = inline(text, words, counts, step, inside, out, b);
     let c = put(out, s.pos, b"\n");
-    whens(text, words, counts, s.next, out, c)
+    whens(text, words, counts, step, s.next, out, c)
 }
 
 // `AxiomDecl`.
@@ -194,16 +236,27 @@ fn axiom_decl(
     text: &[u8],
     words: &[u32],
     counts: &[u16],
+    step: usize,
     at: usize,
     out: &mut [u8],
     pos: usize,
 ) -> Step
-    ensures { λ r. ⌜ Prints (aDecl (now (text .entry)) (now (words .entry)) (now (counts .entry)) at Axioms) (now (words .entry)) at (now (out .entry)) pos (now (out .exit)) r ⌝ }
+    ensures { λ r. ⌜ Prints (aDecl (now (text .entry)) (now (words .entry)) (now (counts .entry)) step at Axioms) (now (words .entry)) at (now (out .entry)) pos (now (out .exit)) r ⌝ }
 {
     let a = put(out, pos, b"axiom");
-    let s = separated(text, words, counts, Item::Name, at, b" explains ", out, a);
+    let s = separated(
+        text,
+        words,
+        counts,
+        step,
+        Item::Name,
+        at,
+        b" explains ",
+        out,
+        a,
+    );
     let b = put(out, s.pos, b"\n");
-    let t = broken_lines(text, words, counts, s.next, out, b);
+    let t = broken_lines(text, words, counts, step, s.next, out, b);
     Step {
         next: t.next,
         pos: put(out, t.pos, b"\n"),
@@ -215,11 +268,12 @@ fn procedure(
     text: &[u8],
     words: &[u32],
     counts: &[u16],
+    step: usize,
     at: usize,
     out: &mut [u8],
     pos: usize,
 ) -> Step
-    ensures { λ r. ⌜ Prints (aDecl (now (text .entry)) (now (words .entry)) (now (counts .entry)) at Procedures) (now (words .entry)) at (now (out .entry)) pos (now (out .exit)) r ⌝ }
+    ensures { λ r. ⌜ Prints (aDecl (now (text .entry)) (now (words .entry)) (now (counts .entry)) step at Procedures) (now (words .entry)) at (now (out .entry)) pos (now (out .exit)) r ⌝ }
 {
     let a = put(out, pos, b"procedure ");
     let s = call_head(text, words, at, out, a);
@@ -227,6 +281,7 @@ fn procedure(
         text,
         words,
         counts,
+        step,
         Item::Parameter,
         s.next,
         b"",
@@ -234,44 +289,37 @@ fn procedure(
         s.pos,
     );
     let b = put(out, t.pos, b")\n");
-    let u = aexprs(
-        text,
-        words,
-        counts,
-        t.next,
-        b"requires",
-        INDENT_AMOUNT,
-        out,
-        b,
-    );
+    let u = aexprs(text, words, counts, step, t.next, b"requires", step, out, b);
     let v = aexprs(
         text,
         words,
         counts,
+        step,
         u.next,
         b"ensures",
-        INDENT_AMOUNT,
+        step,
         out,
         u.pos,
     );
-    optional_body(text, words, counts, v.next, out, v.pos)
+    optional_body(text, words, counts, step, v.next, out, v.pos)
 }
 
 fn optional_body(
     text: &[u8],
     words: &[u32],
     counts: &[u16],
+    step: usize,
     at: usize,
     out: &mut [u8],
     pos: usize,
 ) -> Step
-    ensures { λ r. ⌜ Prints (optionalBody (now (text .entry)) (now (words .entry)) (now (counts .entry)) at) (now (words .entry)) at (now (out .entry)) pos (now (out .exit)) r ⌝ }
+    ensures { λ r. ⌜ Prints (optionalBody (now (text .entry)) (now (words .entry)) (now (counts .entry)) step at) (now (words .entry)) at (now (out .entry)) pos (now (out .exit)) r ⌝ }
 {
     let inside = after(words, at);
     if get(words, at) == 0 {
         return Step { next: inside, pos };
     }
-    let s = block(text, words, counts, inside, 0, out, pos);
+    let s = block(text, words, counts, step, inside, 0, out, pos);
     Step {
         next: s.next,
         pos: put(out, s.pos, b"\n"),

@@ -23,53 +23,88 @@ pub(crate) fn simple(
     text: &[u8],
     words: &[u32],
     counts: &[u16],
+    step: usize,
     at: usize,
     out: &mut [u8],
     pos: usize,
 ) -> Step
-    ensures { λ r. ⌜ ((indent : ℕ) (followed : Bool) → Prints (simplePart (now (text .entry)) (now (words .entry)) (now (counts .entry)) at indent followed) (now (words .entry)) at (now (out .entry)) pos (now (out .exit)) r) ⌝ }
+    ensures { λ r. ⌜ ((indent : ℕ) (followed : Bool) → Prints (simplePart (now (text .entry)) (now (words .entry)) (now (counts .entry)) step at indent followed) (now (words .entry)) at (now (out .entry)) pos (now (out .exit)) r) ⌝ }
 {
     let inside = after(words, at);
     match get(words, at) {
-        22 => assign(text, words, counts, inside, out, pos),
-        23 => reinit(text, words, counts, inside, out, pos),
-        25 => call(text, words, counts, inside, out, pos),
+        22 => assign(text, words, counts, step, inside, out, pos),
+        23 => reinit(text, words, counts, step, inside, out, pos),
+        25 => call(text, words, counts, step, inside, out, pos),
         36 => exit(text, words, inside, out, pos),
         37 => Step {
             next: inside,
             pos: put(out, pos, b"return\n"),
         },
-        _ => expression_stmt(text, words, counts, at, out, pos),
+        _ => expression_stmt(text, words, counts, step, at, out, pos),
     }
 }
 
-fn assign(text: &[u8], words: &[u32], counts: &[u16], at: usize, out: &mut [u8], pos: usize) -> Step
-    ensures { λ r. ⌜ Prints (anAssign (now (text .entry)) (now (words .entry)) (now (counts .entry)) at 0) (now (words .entry)) at (now (out .entry)) pos (now (out .exit)) r ⌝ }
+fn assign(
+    text: &[u8],
+    words: &[u32],
+    counts: &[u16],
+    step: usize,
+    at: usize,
+    out: &mut [u8],
+    pos: usize,
+) -> Step
+    ensures { λ r. ⌜ Prints (anAssign (now (text .entry)) (now (words .entry)) (now (counts .entry)) step at 0) (now (words .entry)) at (now (out .entry)) pos (now (out .exit)) r ⌝ }
 {
     let s = name_head(text, words, at, b" := ", out, pos);
-    let t = inline(text, words, counts, s.next, out, s.pos);
+    let t = inline(text, words, counts, step, s.next, out, s.pos);
     Step {
         next: t.next,
         pos: put(out, t.pos, b"\n"),
     }
 }
 
-fn reinit(text: &[u8], words: &[u32], counts: &[u16], at: usize, out: &mut [u8], pos: usize) -> Step
-    ensures { λ r. ⌜ Prints (aReinit (now (text .entry)) (now (words .entry)) (now (counts .entry)) at 0) (now (words .entry)) at (now (out .entry)) pos (now (out .exit)) r ⌝ }
+fn reinit(
+    text: &[u8],
+    words: &[u32],
+    counts: &[u16],
+    step: usize,
+    at: usize,
+    out: &mut [u8],
+    pos: usize,
+) -> Step
+    ensures { λ r. ⌜ Prints (aReinit (now (text .entry)) (now (words .entry)) (now (counts .entry)) step at 0) (now (words .entry)) at (now (out .entry)) pos (now (out .exit)) r ⌝ }
 {
     let a = put(out, pos, b"reinit ");
-    let s = separated(text, words, counts, Item::Name, at, b"", out, a);
+    let s = separated(text, words, counts, step, Item::Name, at, b"", out, a);
     Step {
         next: s.next,
         pos: put(out, s.pos, b"\n"),
     }
 }
 
-fn call(text: &[u8], words: &[u32], counts: &[u16], at: usize, out: &mut [u8], pos: usize) -> Step
-    ensures { λ r. ⌜ Prints (aCallStmt (now (text .entry)) (now (words .entry)) (now (counts .entry)) at 0) (now (words .entry)) at (now (out .entry)) pos (now (out .exit)) r ⌝ }
+fn call(
+    text: &[u8],
+    words: &[u32],
+    counts: &[u16],
+    step: usize,
+    at: usize,
+    out: &mut [u8],
+    pos: usize,
+) -> Step
+    ensures { λ r. ⌜ Prints (aCallStmt (now (text .entry)) (now (words .entry)) (now (counts .entry)) step at 0) (now (words .entry)) at (now (out .entry)) pos (now (out .exit)) r ⌝ }
 {
     let s = call_head(text, words, at, out, pos);
-    let t = separated(text, words, counts, Item::Argument, s.next, b"", out, s.pos);
+    let t = separated(
+        text,
+        words,
+        counts,
+        step,
+        Item::Argument,
+        s.next,
+        b"",
+        out,
+        s.pos,
+    );
     Step {
         next: t.next,
         pos: put(out, t.pos, b")\n"),
@@ -105,14 +140,15 @@ fn expression_stmt(
     text: &[u8],
     words: &[u32],
     counts: &[u16],
+    step: usize,
     at: usize,
     out: &mut [u8],
     pos: usize,
 ) -> Step
-    ensures { λ r. ⌜ Prints (anExpressionStmt (now (text .entry)) (now (words .entry)) (now (counts .entry)) at 0) (now (words .entry)) at (now (out .entry)) pos (now (out .exit)) r ⌝ }
+    ensures { λ r. ⌜ Prints (anExpressionStmt (now (text .entry)) (now (words .entry)) (now (counts .entry)) step at 0) (now (words .entry)) at (now (out .entry)) pos (now (out .exit)) r ⌝ }
 {
     let a = put_keyword(words, at, out, pos);
-    let s = inline(text, words, counts, after(words, at), out, a);
+    let s = inline(text, words, counts, step, after(words, at), out, a);
     Step {
         next: s.next,
         pos: put(out, s.pos, b"\n"),

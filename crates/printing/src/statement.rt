@@ -12,12 +12,9 @@ use crate::around::no_cases;
 use crate::around::open_own;
 use crate::around::variable;
 use crate::expression::expr;
-use crate::format::ExprFormatOption;
-use crate::format::deeper;
 use crate::items::name_head;
 use crate::parts::Step;
 use crate::parts::after;
-use crate::power::BindingPower;
 use crate::simple::simple;
 use crate::statement::list::aexprs;
 use crate::statement::list::branches;
@@ -28,6 +25,9 @@ use crate::write::put_either;
 use crate::write::put_indent;
 use crate::write::put_indent_unless;
 use crate::write::put_unless;
+use prints::BindingPower;
+use prints::ExprFormatOption;
+use prints::deeper;
 use tree::get;
 ghost use Prim.Native.Nat.{_<_};
 ghost use lib.ListN.{length};
@@ -39,24 +39,25 @@ pub(crate) fn stmt(
     text: &[u8],
     words: &[u32],
     counts: &[u16],
+    step: usize,
     at: usize,
     indent: usize,
     followed: bool,
     out: &mut [u8],
     pos: usize,
 ) -> Step
-    ensures { λ r. ⌜ Prints (aStmt (now (text .entry)) (now (words .entry)) (now (counts .entry)) at indent followed) (now (words .entry)) at (now (out .entry)) pos (now (out .exit)) r ⌝ }
+    ensures { λ r. ⌜ Prints (aStmt (now (text .entry)) (now (words .entry)) (now (counts .entry)) step at indent followed) (now (words .entry)) at (now (out .entry)) pos (now (out .exit)) r ⌝ }
 {
     match get(words, at) {
-        21 => var(text, words, counts, at, indent, followed, out, pos),
-        24 => braces(text, words, counts, at, indent, out, pos),
-        30 => forall(text, words, counts, at, indent, out, pos),
-        31 => choose(text, words, counts, at, indent, out, pos),
-        32 => cond(text, words, counts, at, indent, out, pos),
-        33 => by_case(text, words, counts, at, indent, out, pos),
-        34 => again(text, words, counts, at, indent, out, pos),
-        35 => label(text, words, counts, at, indent, out, pos),
-        _ => simple(text, words, counts, at, out, pos),
+        21 => var(text, words, counts, step, at, indent, followed, out, pos),
+        24 => braces(text, words, counts, step, at, indent, out, pos),
+        30 => forall(text, words, counts, step, at, indent, out, pos),
+        31 => choose(text, words, counts, step, at, indent, out, pos),
+        32 => cond(text, words, counts, step, at, indent, out, pos),
+        33 => by_case(text, words, counts, step, at, indent, out, pos),
+        34 => again(text, words, counts, step, at, indent, out, pos),
+        35 => label(text, words, counts, step, at, indent, out, pos),
+        _ => simple(text, words, counts, step, at, out, pos),
     }
 }
 
@@ -65,6 +66,7 @@ fn var(
     text: &[u8],
     words: &[u32],
     counts: &[u16],
+    step: usize,
     at: usize,
     indent: usize,
     followed: bool,
@@ -72,12 +74,12 @@ fn var(
     pos: usize,
 ) -> Step
     requires { ⌜ at < length (now words) ⌝ }
-    ensures { λ r. ⌜ Prints (aVariable (now (text .entry)) (now (words .entry)) (now (counts .entry)) at indent followed) (now (words .entry)) at (now (out .entry)) pos (now (out .exit)) r ⌝ }
+    ensures { λ r. ⌜ Prints (aVariable (now (text .entry)) (now (words .entry)) (now (counts .entry)) step at indent followed) (now (words .entry)) at (now (out .entry)) pos (now (out .exit)) r ⌝ }
 {
-    let own = indent_inside(followed, indent);
+    let own = indent_inside(followed, indent, step);
     let a = open_own(out, pos, followed, own);
-    let s = variable(text, words, counts, at + 1, out, a);
-    let t = inner(text, words, counts, s.next, own, true, out, s.pos);
+    let s = variable(text, words, counts, step, at + 1, out, a);
+    let t = inner(text, words, counts, step, s.next, own, true, out, s.pos);
     Step {
         next: t.next,
         pos: close_own(out, t.pos, followed, indent),
@@ -89,19 +91,20 @@ fn inner(
     text: &[u8],
     words: &[u32],
     counts: &[u16],
+    step: usize,
     at: usize,
     indent: usize,
     followed: bool,
     out: &mut [u8],
     pos: usize,
 ) -> Step
-    ensures { λ r. ⌜ Prints (anInner (now (text .entry)) (now (words .entry)) (now (counts .entry)) at indent followed) (now (words .entry)) at (now (out .entry)) pos (now (out .exit)) r ⌝ }
+    ensures { λ r. ⌜ Prints (anInner (now (text .entry)) (now (words .entry)) (now (counts .entry)) step at indent followed) (now (words .entry)) at (now (out .entry)) pos (now (out .exit)) r ⌝ }
 {
     if get(words, at) == 24 {
-        return list(text, words, counts, at + 1, indent, out, pos);
+        return list(text, words, counts, step, at + 1, indent, out, pos);
     }
     let a = put_indent(out, pos, indent);
-    stmt(text, words, counts, at, indent, followed, out, a)
+    stmt(text, words, counts, step, at, indent, followed, out, a)
 }
 
 // `StmtAsBlock`, without its suffix.
@@ -109,15 +112,26 @@ pub(crate) fn block(
     text: &[u8],
     words: &[u32],
     counts: &[u16],
+    step: usize,
     at: usize,
     indent: usize,
     out: &mut [u8],
     pos: usize,
 ) -> Step
-    ensures { λ r. ⌜ Prints (aBlock (now (text .entry)) (now (words .entry)) (now (counts .entry)) at indent) (now (words .entry)) at (now (out .entry)) pos (now (out .exit)) r ⌝ }
+    ensures { λ r. ⌜ Prints (aBlock (now (text .entry)) (now (words .entry)) (now (counts .entry)) step at indent) (now (words .entry)) at (now (out .entry)) pos (now (out .exit)) r ⌝ }
 {
     let a = put(out, pos, b"{\n");
-    let s = inner(text, words, counts, at, deeper(indent), false, out, a);
+    let s = inner(
+        text,
+        words,
+        counts,
+        step,
+        at,
+        deeper(indent, step),
+        false,
+        out,
+        a,
+    );
     let b = put_indent(out, s.pos, indent);
     Step {
         next: s.next,
@@ -130,16 +144,26 @@ fn braces(
     text: &[u8],
     words: &[u32],
     counts: &[u16],
+    step: usize,
     at: usize,
     indent: usize,
     out: &mut [u8],
     pos: usize,
 ) -> Step
     requires { ⌜ at < length (now words) ⌝ }
-    ensures { λ r. ⌜ Prints (aBraces (now (text .entry)) (now (words .entry)) (now (counts .entry)) at indent) (now (words .entry)) at (now (out .entry)) pos (now (out .exit)) r ⌝ }
+    ensures { λ r. ⌜ Prints (aBraces (now (text .entry)) (now (words .entry)) (now (counts .entry)) step at indent) (now (words .entry)) at (now (out .entry)) pos (now (out .exit)) r ⌝ }
 {
     let a = put(out, pos, b"{\n");
-    let s = list(text, words, counts, at + 1, deeper(indent), out, a);
+    let s = list(
+        text,
+        words,
+        counts,
+        step,
+        at + 1,
+        deeper(indent, step),
+        out,
+        a,
+    );
     let b = put_indent(out, s.pos, indent);
     Step {
         next: s.next,
@@ -152,16 +176,17 @@ fn forall(
     text: &[u8],
     words: &[u32],
     counts: &[u16],
+    step: usize,
     at: usize,
     indent: usize,
     out: &mut [u8],
     pos: usize,
 ) -> Step
     requires { ⌜ at < length (now words) ⌝ }
-    ensures { λ r. ⌜ Prints (aForall (now (text .entry)) (now (words .entry)) (now (counts .entry)) at indent) (now (words .entry)) at (now (out .entry)) pos (now (out .exit)) r ⌝ }
+    ensures { λ r. ⌜ Prints (aForall (now (text .entry)) (now (words .entry)) (now (counts .entry)) step at indent) (now (words .entry)) at (now (out .entry)) pos (now (out .exit)) r ⌝ }
 {
     let s = for_head(text, words, at + 1, out, pos);
-    let t = block(text, words, counts, s.next, indent, out, s.pos);
+    let t = block(text, words, counts, step, s.next, indent, out, s.pos);
     Step {
         next: t.next,
         pos: put(out, t.pos, b"\n"),
@@ -173,17 +198,18 @@ fn choose(
     text: &[u8],
     words: &[u32],
     counts: &[u16],
+    step: usize,
     at: usize,
     indent: usize,
     out: &mut [u8],
     pos: usize,
 ) -> Step
     requires { ⌜ at < length (now words) ⌝ }
-    ensures { λ r. ⌜ Prints (aChoose (now (text .entry)) (now (words .entry)) (now (counts .entry)) at indent) (now (words .entry)) at (now (out .entry)) pos (now (out .exit)) r ⌝ }
+    ensures { λ r. ⌜ Prints (aChoose (now (text .entry)) (now (words .entry)) (now (counts .entry)) step at indent) (now (words .entry)) at (now (out .entry)) pos (now (out .exit)) r ⌝ }
 {
     let a = put(out, pos, b"choose ");
     let b = put_unless(out, a, get(words, at + 1) == 1, b"{ }\n");
-    branches(text, words, counts, at + 1, indent, out, b)
+    branches(text, words, counts, step, at + 1, indent, out, b)
 }
 
 // If.
@@ -191,19 +217,21 @@ fn cond(
     text: &[u8],
     words: &[u32],
     counts: &[u16],
+    step: usize,
     at: usize,
     indent: usize,
     out: &mut [u8],
     pos: usize,
 ) -> Step
     requires { ⌜ at < length (now words) ⌝ }
-    ensures { λ r. ⌜ Prints (anIf (now (text .entry)) (now (words .entry)) (now (counts .entry)) at indent) (now (words .entry)) at (now (out .entry)) pos (now (out .exit)) r ⌝ }
+    ensures { λ r. ⌜ Prints (anIf (now (text .entry)) (now (words .entry)) (now (counts .entry)) step at indent) (now (words .entry)) at (now (out .entry)) pos (now (out .exit)) r ⌝ }
 {
     let a = put(out, pos, b"if ");
     let s = expr(
         text,
         words,
         counts,
+        step,
         at + 1,
         BindingPower::INIT,
         ExprFormatOption::SingleLine,
@@ -211,7 +239,7 @@ fn cond(
         a,
     );
     let b = put(out, s.pos, b" ");
-    let t = block(text, words, counts, s.next, indent, out, b);
+    let t = block(text, words, counts, step, s.next, indent, out, b);
     if is_empty_block(words, t.next) {
         let inside = after(words, t.next);
         return Step {
@@ -221,7 +249,7 @@ fn cond(
     }
     let c = put(out, t.pos, b" else ");
     let stays = is_conditional(words, t.next);
-    onward(text, words, counts, t.next, stays, indent, out, c)
+    onward(text, words, counts, step, t.next, stays, indent, out, c)
 }
 
 // A statement after `else` or a label: on the line where it stays there, else as a block.
@@ -229,18 +257,19 @@ fn onward(
     text: &[u8],
     words: &[u32],
     counts: &[u16],
+    step: usize,
     at: usize,
     stays: bool,
     indent: usize,
     out: &mut [u8],
     pos: usize,
 ) -> Step
-    ensures { λ r. ⌜ Prints (anOnward (now (text .entry)) (now (words .entry)) (now (counts .entry)) at indent stays) (now (words .entry)) at (now (out .entry)) pos (now (out .exit)) r ⌝ }
+    ensures { λ r. ⌜ Prints (anOnward (now (text .entry)) (now (words .entry)) (now (counts .entry)) step at indent stays) (now (words .entry)) at (now (out .entry)) pos (now (out .exit)) r ⌝ }
 {
     if stays {
-        return stmt(text, words, counts, at, indent, false, out, pos);
+        return stmt(text, words, counts, step, at, indent, false, out, pos);
     }
-    let s = block(text, words, counts, at, indent, out, pos);
+    let s = block(text, words, counts, step, at, indent, out, pos);
     Step {
         next: s.next,
         pos: put(out, s.pos, b"\n"),
@@ -252,17 +281,18 @@ fn by_case(
     text: &[u8],
     words: &[u32],
     counts: &[u16],
+    step: usize,
     at: usize,
     indent: usize,
     out: &mut [u8],
     pos: usize,
 ) -> Step
     requires { ⌜ at < length (now words) ⌝ }
-    ensures { λ r. ⌜ Prints (anIfCase (now (text .entry)) (now (words .entry)) (now (counts .entry)) at indent) (now (words .entry)) at (now (out .entry)) pos (now (out .exit)) r ⌝ }
+    ensures { λ r. ⌜ Prints (anIfCase (now (text .entry)) (now (words .entry)) (now (counts .entry)) step at indent) (now (words .entry)) at (now (out .entry)) pos (now (out .exit)) r ⌝ }
 {
     let a = put(out, pos, b"if ");
     let b = no_cases(out, a, get(words, at + 1) == 1, indent);
-    cases(text, words, counts, at + 1, indent, out, b)
+    cases(text, words, counts, step, at + 1, indent, out, b)
 }
 
 // Loop.
@@ -270,13 +300,14 @@ fn again(
     text: &[u8],
     words: &[u32],
     counts: &[u16],
+    step: usize,
     at: usize,
     indent: usize,
     out: &mut [u8],
     pos: usize,
 ) -> Step
     requires { ⌜ at < length (now words) ⌝ }
-    ensures { λ r. ⌜ Prints (aLoop (now (text .entry)) (now (words .entry)) (now (counts .entry)) at indent) (now (words .entry)) at (now (out .entry)) pos (now (out .exit)) r ⌝ }
+    ensures { λ r. ⌜ Prints (aLoop (now (text .entry)) (now (words .entry)) (now (counts .entry)) step at indent) (now (words .entry)) at (now (out .entry)) pos (now (out .exit)) r ⌝ }
 {
     let bare = get(words, at + 1) == 0;
     let a = put(out, pos, b"loop");
@@ -285,14 +316,15 @@ fn again(
         text,
         words,
         counts,
+        step,
         at + 1,
         b"invariant",
-        deeper(indent),
+        deeper(indent, step),
         out,
         b,
     );
     let c = put_indent_unless(out, s.pos, bare, indent);
-    let t = block(text, words, counts, s.next, indent, out, c);
+    let t = block(text, words, counts, step, s.next, indent, out, c);
     Step {
         next: t.next,
         pos: put(out, t.pos, b"\n"),
@@ -304,17 +336,18 @@ fn label(
     text: &[u8],
     words: &[u32],
     counts: &[u16],
+    step: usize,
     at: usize,
     indent: usize,
     out: &mut [u8],
     pos: usize,
 ) -> Step
     requires { ⌜ at < length (now words) ⌝ }
-    ensures { λ r. ⌜ Prints (aLabelled (now (text .entry)) (now (words .entry)) (now (counts .entry)) at indent) (now (words .entry)) at (now (out .entry)) pos (now (out .exit)) r ⌝ }
+    ensures { λ r. ⌜ Prints (aLabelled (now (text .entry)) (now (words .entry)) (now (counts .entry)) step at indent) (now (words .entry)) at (now (out .entry)) pos (now (out .exit)) r ⌝ }
 {
     let s = name_head(text, words, at + 1, b": ", out, pos);
     let stays = is_loop(words, s.next);
-    onward(text, words, counts, s.next, stays, indent, out, s.pos)
+    onward(text, words, counts, step, s.next, stays, indent, out, s.pos)
 }
 
 // An assertion of `PrintAExprs`, after its prefix.
@@ -322,21 +355,23 @@ pub(crate) fn aexpr(
     text: &[u8],
     words: &[u32],
     counts: &[u16],
+    step: usize,
     at: usize,
     indent: usize,
     out: &mut [u8],
     pos: usize,
 ) -> Step
-    ensures { λ r. ⌜ Prints (anAExpr (now (text .entry)) (now (words .entry)) (now (counts .entry)) at indent) (now (words .entry)) at (now (out .entry)) pos (now (out .exit)) r ⌝ }
+    ensures { λ r. ⌜ Prints (anAExpr (now (text .entry)) (now (words .entry)) (now (counts .entry)) step at indent) (now (words .entry)) at (now (out .entry)) pos (now (out .exit)) r ⌝ }
 {
     let inside = after(words, at);
     if get(words, at) == 2 {
-        return stmt(text, words, counts, inside, indent, false, out, pos);
+        return stmt(text, words, counts, step, inside, indent, false, out, pos);
     }
     let s = expr(
         text,
         words,
         counts,
+        step,
         inside,
         BindingPower::INIT,
         ExprFormatOption::SingleLine,

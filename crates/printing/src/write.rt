@@ -1,14 +1,17 @@
 // Writing into a buffer. A place past the buffer's end says that what was to be written did not fit, and stays so.
+use prints::BindingPower;
+use prints::ExprFormatOption;
+use prints::Side;
 ghost use mathlib.Core.Path.{_≡_};
 ghost use mathlib.Core.List.{_++_};
 ghost use Prim.Native.Nat.{_+_, _≤_};
 ghost use lib.ListN.{length, take, drop, replicate};
 ghost use Rattle.lexing.specs.Answer.{pick};
 ghost use Rattle.grammar.specs.Words.{bytes as text};
-ghost use Rattle.printing.specs.PrintUtil.{Indent};
-ghost use Rattle.printing.specs.Text.{decimal};
+ghost use Rattle.prints.specs.PrintUtil.{Indent, Space, EndlessOperator, Parenthesis};
+ghost use Rattle.prints.specs.Text.{decimal};
 ghost use Rattle.printing.specs.Wrote.{Wrote};
-ghost use Rattle.printing.specs.Text.{unless};
+ghost use Rattle.prints.specs.Text.{unless};
 
 // Stores bytes where they fit.
 pub(crate) fn store(out: &mut [u8], pos: usize, bytes: &[u8])
@@ -101,4 +104,48 @@ pub(crate) fn put_indent_unless(out: &mut [u8], pos: usize, skip: bool, indent: 
         return pos;
     }
     put_indent(out, pos, indent)
+}
+
+// Writes a space, or a line end and the indent.
+pub(crate) fn space(format: ExprFormatOption, out: &mut [u8], pos: usize) -> usize
+    ensures { λ r. ⌜ Wrote (λ rest. Space format ++ rest) (now (out .entry)) pos (now (out .exit)) r ⌝ }
+{
+    match format {
+        ExprFormatOption::SingleLine => put(out, pos, b" "),
+        ExprFormatOption::MultipleLines(indent) => {
+            let next = put(out, pos, b"\n");
+            put_indent(out, next, indent)
+        }
+    }
+}
+
+// Writes a parenthesis, where an operator of this strength needs one in a context.
+pub(crate) fn parenthesis(
+    strength: BindingPower,
+    side: Side,
+    context: BindingPower,
+    out: &mut [u8],
+    pos: usize,
+) -> usize
+    ensures { λ r. ⌜ Wrote (λ rest. Parenthesis side strength context ++ rest) (now (out .entry)) pos (now (out .exit)) r ⌝ }
+{
+    if strength.wins_over(context) {
+        return pos;
+    }
+    match side {
+        Side::Left => put(out, pos, b"("),
+        Side::Right => put(out, pos, b")"),
+    }
+}
+
+// Writes a parenthesis of a label, a `val` or a quantifier, where it needs one in a context.
+pub(crate) fn endless_parenthesis(
+    side: Side,
+    context: BindingPower,
+    out: &mut [u8],
+    pos: usize,
+) -> usize
+    ensures { λ r. ⌜ Wrote (λ rest. Parenthesis side EndlessOperator context ++ rest) (now (out .entry)) pos (now (out .exit)) r ⌝ }
+{
+    parenthesis(BindingPower::ENDLESS_OPERATOR, side, context, out, pos)
 }

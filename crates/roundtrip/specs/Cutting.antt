@@ -20,10 +20,10 @@ use Rattle.tree.specs.Clash.{impossible}
 use Rattle.grammar.specs.Laws.Looks.{both-true}
 use Rattle.grammar.specs.Laws.Cut.{cut-space}
 use Rattle.grammar.specs.Laws.Pieces.{Ends, lengthens, cut-name, cut-nat, cut-sign}
-use Rattle.printing.specs.declared.format.ExprFormatOption.{ExprFormatOption}
-use Rattle.printing.specs.declared.format.ExprFormatOption.the-variants.{SingleLine, MultipleLines}
-use Rattle.printing.specs.Text.{_▹_, _▸_, decimal}
-use Rattle.printing.specs.PrintUtil.{Space, ToString}
+use Rattle.prints.specs.declared.format.ExprFormatOption.{ExprFormatOption}
+use Rattle.prints.specs.declared.format.ExprFormatOption.the-variants.{SingleLine, MultipleLines}
+use Rattle.prints.specs.Text.{_▹_, _▸_, decimal}
+use Rattle.prints.specs.PrintUtil.{Space, ToString}
 use Rattle.roundtrip.specs.Operators.{tokenOf}
 use Rattle.roundtrip.specs.Decimal.{digits-written}
 

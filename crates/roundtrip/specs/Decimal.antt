@@ -10,7 +10,7 @@ use borrow.Author.Tests.{ltb-true, ltb-false, le-leb}
 use Rattle.lexing.specs.Bytes.{isDigit, run}
 use Rattle.lexing.specs.Tokens.{decimal}
 use Rattle.grammar.specs.Laws.Pieces.{run-append}
-use Rattle.printing.specs.Text.{digits}
+use Rattle.prints.specs.Text.{digits}
 
 decimal-append : (v : ℕ) (w u : List ℕ) → decimal v (w ++ u) ≡ decimal (decimal v w) u
 unfolding decimal

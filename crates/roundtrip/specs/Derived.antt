@@ -13,11 +13,11 @@ use Rattle.grammar.specs.Words.{bytes, isIdentifier, isFaithfulName}
 use Rattle.grammar.specs.Tokens.{tokensAfter, cut}
 use Rattle.grammar.specs.Grammar.{Tree, Derives, falsehood, truth, variable}
 use Rattle.grammar.specs.OperatorTrees.{Operators, AllOperators, Faithful, notOnTheRight, fitsRight}
-use Rattle.printing.specs.declared.power.BindingPower.{BindingPower}
-use Rattle.printing.specs.declared.power.Side.the-variants.{Left, Right}
-use Rattle.printing.specs.declared.format.ExprFormatOption.{ExprFormatOption}
-use Rattle.printing.specs.PrintUtil.{Init, WinsOver, SubexpressionPower, BindingStrength}
-use Rattle.printing.specs.Printer.{Print, Operand, isIf, unary, binary, operatorForm, Expression, operands}
+use Rattle.prints.specs.declared.power.BindingPower.{BindingPower}
+use Rattle.prints.specs.declared.power.Side.the-variants.{Left, Right}
+use Rattle.prints.specs.declared.format.ExprFormatOption.{ExprFormatOption}
+use Rattle.prints.specs.PrintUtil.{Init, WinsOver, SubexpressionPower, BindingStrength}
+use Rattle.prints.specs.Printer.{Print, Operand, isIf, unary, binary, operatorForm, Expression, operands}
 use Rattle.roundtrip.specs.Operators.{levelOf, unary-operators}
 use Rattle.roundtrip.specs.Table.{levelIn, all-allowed, operand-print-fits}
 use Rattle.roundtrip.specs.FaithfulNames.{faithful-identifier, faithful-name}

@@ -14,10 +14,10 @@ use Rattle.grammar.specs.Tokens.{Token, name, nat, mark, lparen, rparen, cut}
 use Rattle.grammar.specs.Grammar.{Tree, Rule, word, Operand, natural, oldVariable, bracketed, Whole}
 use Rattle.grammar.specs.Laws.Cut.{cut-space}
 use Rattle.grammar.specs.Laws.Pieces.{Ends, lengthens, cut-name, cut-mark}
-use Rattle.printing.specs.declared.power.Side.the-variants.{Left, Right}
-use Rattle.printing.specs.declared.format.ExprFormatOption.{ExprFormatOption}
-use Rattle.printing.specs.Text.{_▹_, _▸_, decimal}
-use Rattle.printing.specs.PrintUtil.{parenthesis}
+use Rattle.prints.specs.declared.power.Side.the-variants.{Left, Right}
+use Rattle.prints.specs.declared.format.ExprFormatOption.{ExprFormatOption}
+use Rattle.prints.specs.Text.{_▹_, _▸_, decimal}
+use Rattle.prints.specs.PrintUtil.{parenthesis}
 use Rattle.roundtrip.specs.Levels.{Level, operand, At, fits-in, fits-whole}
 use Rattle.roundtrip.specs.Cutting.{name-starts, natural-starts, cut-natural}
 

@@ -11,10 +11,10 @@ use Rattle.grammar.specs.Tokens.{Token, name, mark, lparen, rparen, comma, cut}
 use Rattle.grammar.specs.Grammar.{Tree, Series, last, also, Items, empty, series, call, Whole}
 use Rattle.grammar.specs.Laws.Cut.{cut-space}
 use Rattle.grammar.specs.Laws.Pieces.{Ends, cut-name, cut-mark}
-use Rattle.printing.specs.declared.format.ExprFormatOption.the-variants.{SingleLine}
-use Rattle.printing.specs.Text.{_▹_, _▸_}
-use Rattle.printing.specs.PrintUtil.{Init}
-use Rattle.printing.specs.Printer.{Operand, ExpressionList}
+use Rattle.prints.specs.declared.format.ExprFormatOption.the-variants.{SingleLine}
+use Rattle.prints.specs.Text.{_▹_, _▸_}
+use Rattle.prints.specs.PrintUtil.{Init}
+use Rattle.prints.specs.Printer.{Operand, ExpressionList}
 use Rattle.roundtrip.specs.Levels.{Level, operand}
 use Rattle.roundtrip.specs.Cutting.{name-starts}
 use Rattle.roundtrip.specs.Printed.{Printed, whole-printed}

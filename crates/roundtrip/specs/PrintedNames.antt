@@ -9,14 +9,14 @@ use Rattle.tree.specs.Ast.{Expr, BLiteral, ILiteral, CustomLiteral, IdExpr, Ope
 use Rattle.tree.specs.Ast.{Exprs, noExprs, _then_, Patterns, noPatterns, pattern}
 use Rattle.tree.specs.Ast.{ClosureBindings, noClosureBindings, closureBinding, ClosureProperties, noClosureProperties, closureProperty}
 use Rattle.tree.specs.Resolve.{mapOption, mapBinding, mapExpr, mapExprs, mapPatterns, mapClosureBindings, mapClosureProperties}
-use Rattle.printing.specs.declared.power.BindingPower.{BindingPower}
-use Rattle.printing.specs.declared.power.Side.the-variants.{Right}
-use Rattle.printing.specs.declared.format.ExprFormatOption.{ExprFormatOption}
-use Rattle.printing.specs.declared.format.ExprFormatOption.the-variants.{SingleLine}
-use Rattle.printing.specs.Text.{_▹_, _▸_}
-use Rattle.printing.specs.PrintUtil.{Space, More, Init, EndlessOperator, SubexpressionPower, BindingStrength}
-use Rattle.printing.specs.Printer.{isIf, ExpressionList, operatorForm, wrapped, quantifierText, IdTypeDecl, Bindings, parameters}
-use Rattle.printing.specs.Printer.{triggersEnd, Expression, operands, patterns, closureBindings, triggers, properties}
+use Rattle.prints.specs.declared.power.BindingPower.{BindingPower}
+use Rattle.prints.specs.declared.power.Side.the-variants.{Right}
+use Rattle.prints.specs.declared.format.ExprFormatOption.{ExprFormatOption}
+use Rattle.prints.specs.declared.format.ExprFormatOption.the-variants.{SingleLine}
+use Rattle.prints.specs.Text.{_▹_, _▸_}
+use Rattle.prints.specs.PrintUtil.{Space, More, Init, EndlessOperator, SubexpressionPower, BindingStrength}
+use Rattle.prints.specs.Printer.{isIf, ExpressionList, operatorForm, wrapped, quantifierText, IdTypeDecl, Bindings, parameters}
+use Rattle.prints.specs.Printer.{triggersEnd, Expression, operands, patterns, closureBindings, triggers, properties}
 
 module _ {N : Type 0} (name : N → List ℕ) (step : ℕ) where
   abbrev same : List ℕ → List ℕ
@@ -35,21 +35,21 @@ module _ {N : Type 0} (name : N → List ℕ) (step : ℕ) where
   isIf-named (ClosureExpr bs n t ps) = refl
 
   declared-named : (prefix : List ℕ) (n : N) (t : Option N) (r : List ℕ)
-      → IdTypeDecl name step prefix n t r ≡ IdTypeDecl same step prefix (name n) (mapOption name t) r
+      → IdTypeDecl name prefix n t r ≡ IdTypeDecl same prefix (name n) (mapOption name t) r
   declared-named prefix n none r = refl
   declared-named prefix n (some t) r = refl
 
   bindings-named : (prefix : List ℕ) (bs : List (Binding N)) (r : List ℕ)
-      → Bindings name step prefix bs r ≡ Bindings same step prefix (map (mapBinding name) bs) r
+      → Bindings name prefix bs r ≡ Bindings same prefix (map (mapBinding name) bs) r
   unfolding Bindings
   bindings-named prefix [] r = refl
   bindings-named prefix (binding n t ∷ bs) r = ap (λ l. prefix ▹ name n ▹ ": " ▸ name t ▹ l) (bindings-named (bytes ", ") bs r)
 
-  parameters-named : (bs : List (Binding N)) (r : List ℕ) → parameters name step bs r ≡ parameters same step (map (mapBinding name) bs) r
+  parameters-named : (bs : List (Binding N)) (r : List ℕ) → parameters name bs r ≡ parameters same (map (mapBinding name) bs) r
   parameters-named [] r = refl
   parameters-named (b ∷ bs) r = ap (λ l. "(" ▸ l) (bindings-named [] (b ∷ bs) (")" ▸ r))
 
-  triggersEnd-named : (ps : Patterns N) → triggersEnd name step ps ≡ triggersEnd same step (mapPatterns name ps)
+  triggersEnd-named : (ps : Patterns N) → triggersEnd ps ≡ triggersEnd (mapPatterns name ps)
   triggersEnd-named noPatterns = refl
   triggersEnd-named (pattern es ps) = refl
 

@@ -10,13 +10,13 @@ use Rattle.grammar.specs.Tokens.{Token, cut}
 use Rattle.grammar.specs.Grammar.{Tree, single}
 use Rattle.grammar.specs.Laws.Cut.{cut-space}
 use Rattle.grammar.specs.Laws.Pieces.{Ends, lengthens}
-use Rattle.printing.specs.declared.power.BindingPower.{BindingPower}
-use Rattle.printing.specs.declared.power.Side.the-variants.{Left, Right}
-use Rattle.printing.specs.declared.format.ExprFormatOption.{ExprFormatOption}
-use Rattle.printing.specs.declared.format.ExprFormatOption.the-variants.{SingleLine}
-use Rattle.printing.specs.Text.{_▸_}
-use Rattle.printing.specs.PrintUtil.{SubexpressionPower, ToString, BindingStrength}
-use Rattle.printing.specs.Printer.{Operand, unary, binary, breaksLine, rightOperand}
+use Rattle.prints.specs.declared.power.BindingPower.{BindingPower}
+use Rattle.prints.specs.declared.power.Side.the-variants.{Left, Right}
+use Rattle.prints.specs.declared.format.ExprFormatOption.{ExprFormatOption}
+use Rattle.prints.specs.declared.format.ExprFormatOption.the-variants.{SingleLine}
+use Rattle.prints.specs.Text.{_▸_}
+use Rattle.prints.specs.PrintUtil.{SubexpressionPower, ToString, BindingStrength}
+use Rattle.prints.specs.Printer.{Operand, unary, binary, breaksLine, rightOperand}
 use Rattle.roundtrip.specs.Levels.{Level, fitsIn, fits-in}
 use Rattle.roundtrip.specs.Operators.{tokenOf, levelOf, place, join, prefix, unary-operators}
 use Rattle.roundtrip.specs.Cutting.{cut-blank, Follows, blank-follows, cut-operator}

@@ -15,8 +15,8 @@ use Rattle.grammar.specs.Words.{bytes}
 use Rattle.grammar.specs.ProgramExamples.{computed as read-computed}
 use Rattle.grammar.specs.Reading.{words, refusal, readExpression, readProgram}
 use Rattle.grammar.specs.Reading as Reading
-use Rattle.printing.specs.declared.format.ExprFormatOption.the-variants.{SingleLine}
-use Rattle.printing.specs.Examples.{computed as print-computed}
+use Rattle.prints.specs.declared.format.ExprFormatOption.the-variants.{SingleLine}
+use Rattle.prints.specs.Examples.{computed as print-computed}
 use Rattle.printing.specs.Entries.{written, stored, expressions, printOf, printExpression}
 use Rattle.printing.specs.Entries as Printing
 use Rattle.printing.specs.EntryLaws as Entry

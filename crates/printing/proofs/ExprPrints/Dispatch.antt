@@ -16,10 +16,11 @@ use Rattle.tree.specs.Counted.{exprCount, CountedExpr}
 use Rattle.tree.specs.Trees.{namesIn}
 use Rattle.tree.specs.Walk.{head-at, tree-at-word, word-range}
 use Rattle.printing.specs.declared.parts.Step.{Step}
-use Rattle.printing.specs.declared.power.BindingPower.{BindingPower}
-use Rattle.printing.specs.declared.format.ExprFormatOption.{ExprFormatOption}
-use Rattle.printing.specs.Printer.{conditional, unary, binary, listed, operatorForm, Expression, operands}
-use Rattle.printing.specs.Entries.{nameIn, startIndent}
+use Rattle.prints.specs.declared.power.BindingPower.{BindingPower}
+use Rattle.prints.specs.declared.format.ExprFormatOption.{ExprFormatOption}
+use Rattle.prints.specs.Printer.{conditional, unary, binary, listed, operatorForm, Expression, operands}
+use Rattle.prints.specs.PrintUtil.{startIndent}
+use Rattle.printing.specs.Entries.{nameIn}
 use Rattle.printing.specs.OperatorWords.{operatorOf}
 use Rattle.printing.specs.Parts.{Part, Done, Prints, leaf}
 use Rattle.printing.specs.ExprParts.{operand, formNumber, FormIs, Ready, anExpr, anOperatorExpr, aCall, aLabel, aLet, aQuantifier, aClosure, aForm, aListed, aUnary, aBinary, aConditional}
@@ -28,23 +29,23 @@ use Rattle.printing.proofs.Operators.Tables.{operator-of}
 use Rattle.printing.proofs.PartPrints.LeafPrints.{Opens, made as as-made}
 
 -- the prints of a place need no more where nothing is indented
-pub plain : {table : List ℕ} {at i : ℕ} {C : Type 0} (q : ℕ) → Ready table at i × C → Ready table q 0 × C
-plain q k = (record { few = k .0 .few; room = omega arith }, k .1)
+pub plain : {table : List ℕ} {step at i : ℕ} {C : Type 0} (q : ℕ) → Ready table step at i × C → Ready table step q 0 × C
+plain q k = (record { few = k .0 .few; short = k .0 .short; room = omega arith }, k .1)
 
 -- ---- an expression by its word
 
-module _ (text counts : List ℕ) {table : List ℕ} {at : ℕ} (context : BindingPower) (format : ExprFormatOption) {b : List ℕ} {p : ℕ} {b₁ : List ℕ} {s : Step} where
+module _ (text counts : List ℕ) (step : ℕ) {table : List ℕ} {at : ℕ} (context : BindingPower) (format : ExprFormatOption) {b : List ℕ} {p : ℕ} {b₁ : List ℕ} {s : Step} where
   -- an expression is printed as the part that its word tells
-  by-word : (P : Part) (make : P .Tree → Expr (NameIn (length text))) → ((a : P .Tree) (rest : List ℕ) → Ready table at (startIndent format) × CountedExpr (λ n. n .span) counts (length table) (make a) rest → P .given a rest)
+  by-word : (P : Part) (make : P .Tree → Expr (NameIn (length text))) → ((a : P .Tree) (rest : List ℕ) → Ready table step at (startIndent format) × CountedExpr (λ n. n .span) counts (length table) (make a) rest → P .given a rest)
       → ((a : P .Tree) (rest : List ℕ) → P .words a rest ≡ exprWords (λ n. n .span) (make a) rest)
-      → ((a : P .Tree) → P .print a ≡ (λ r. Expression (nameIn text) 2 (make a) context format r))
-      → Opens text table at make → Prints P table at b p b₁ s → Prints (anExpr text table counts at context format) table at b p b₁ s
+      → ((a : P .Tree) → P .print a ≡ (λ r. Expression (nameIn text) step (make a) context format r))
+      → Opens text table at make → Prints P table at b p b₁ s → Prints (anExpr text table counts step at context format) table at b p b₁ s
   by-word P make g ws xs opens x =
       record {
         forward = x .forward;
         prints = λ t rest k d.
             let o = opens t rest d in
-            as-made text table at rest (λ u. Done table (λ r. Expression (nameIn text) 2 u context format r) rest b p b₁ s) (o .1) d
+            as-made text table at rest (λ u. Done table (λ r. Expression (nameIn text) step u context format r) rest b p b₁ s) (o .1) d
             (λ c. subst (λ (X : List ℕ → List ℕ). Done table X rest b p b₁ s) (xs (o .0)) (x .prints (o .0) rest
             (g (o .0) rest (k .0, subst (λ (u : Expr (NameIn (length text))). CountedExpr (λ n. n .span) counts (length table) u rest) (sym (o .1)) (k .1)))
             (c ∙ sym (ws (o .0) rest))));
@@ -52,57 +53,57 @@ module _ (text counts : List ℕ) {table : List ℕ} {at : ℕ} (context : Bindi
 
   module _ {g : ℕ} (e : g ≡ getD table at 0) where
     -- word 5
-    pub is-operator : g ≡ 5 → Prints (anOperatorExpr text table counts at context format) table at b p b₁ s → Prints (anExpr text table counts at context format) table at b p b₁ s
+    pub is-operator : g ≡ 5 → Prints (anOperatorExpr text table counts step at context format) table at b p b₁ s → Prints (anExpr text table counts step at context format) table at b p b₁ s
     is-operator w =
-        by-word (anOperatorExpr text table counts at context format) (λ a. OperatorExpr (a .0) (a .1)) (λ _ _ k. k) (λ a rest. refl) (λ a. refl)
+        by-word (anOperatorExpr text table counts step at context format) (λ a. OperatorExpr (a .0) (a .1)) (λ _ _ k. k) (λ a rest. refl) (λ a. refl)
         (λ t rest d. let o = tree-at-word (namesIn (length text)) table at expr t rest 5 d (sym e ∙ w) in ((o .0 .0, o .0 .1 .0), o .1))
 
     -- word 6
-    pub is-call : g ≡ 6 → Prints (aCall text table counts at) table at b p b₁ s → Prints (anExpr text table counts at context format) table at b p b₁ s
+    pub is-call : g ≡ 6 → Prints (aCall text table counts step at) table at b p b₁ s → Prints (anExpr text table counts step at context format) table at b p b₁ s
     unfolding Expression
     is-call w =
-        by-word (aCall text table counts at) (λ a. FunctionCallExpr (a .0) (a .1)) (λ _ _. plain at) (λ a rest. refl) (λ a. refl)
+        by-word (aCall text table counts step at) (λ a. FunctionCallExpr (a .0) (a .1)) (λ _ _. plain at) (λ a rest. refl) (λ a. refl)
         (λ t rest d. let o = tree-at-word (namesIn (length text)) table at expr t rest 6 d (sym e ∙ w) in ((o .0 .0, o .0 .1 .0), o .1))
 
     -- word 7
-    pub is-label : g ≡ 7 → Prints (aLabel text table counts at context format) table at b p b₁ s → Prints (anExpr text table counts at context format) table at b p b₁ s
+    pub is-label : g ≡ 7 → Prints (aLabel text table counts step at context format) table at b p b₁ s → Prints (anExpr text table counts step at context format) table at b p b₁ s
     is-label w =
-        by-word (aLabel text table counts at context format) (λ a. LabeledExpr (a .0) (a .1)) (λ _ _ k. k) (λ a rest. refl) (λ a. refl)
+        by-word (aLabel text table counts step at context format) (λ a. LabeledExpr (a .0) (a .1)) (λ _ _ k. k) (λ a rest. refl) (λ a. refl)
         (λ t rest d. let o = tree-at-word (namesIn (length text)) table at expr t rest 7 d (sym e ∙ w) in ((o .0 .0, o .0 .1 .0), o .1))
 
     -- word 8
-    pub is-let : g ≡ 8 → Prints (aLet text table counts at context format) table at b p b₁ s → Prints (anExpr text table counts at context format) table at b p b₁ s
+    pub is-let : g ≡ 8 → Prints (aLet text table counts step at context format) table at b p b₁ s → Prints (anExpr text table counts step at context format) table at b p b₁ s
     is-let w =
-        by-word (aLet text table counts at context format) (λ a. LetExpr (a .0) (a .1) (a .2) (a .3)) (λ _ _ k. k) (λ a rest. refl) (λ a. refl)
+        by-word (aLet text table counts step at context format) (λ a. LetExpr (a .0) (a .1) (a .2) (a .3)) (λ _ _ k. k) (λ a rest. refl) (λ a. refl)
         (λ t rest d.
         let o = tree-at-word (namesIn (length text)) table at expr t rest 8 d (sym e ∙ w) in ((o .0 .0, o .0 .1 .0, o .0 .1 .1 .0, o .0 .1 .1 .1 .0), o .1))
 
     -- word 9
-    pub is-quantifier : g ≡ 9 → Prints (aQuantifier text table counts at context format) table at b p b₁ s
-        → Prints (anExpr text table counts at context format) table at b p b₁ s
+    pub is-quantifier : g ≡ 9 → Prints (aQuantifier text table counts step at context format) table at b p b₁ s
+        → Prints (anExpr text table counts step at context format) table at b p b₁ s
     is-quantifier w =
-        by-word (aQuantifier text table counts at context format) (λ a. QuantifierExpr (a .0) (a .1) (a .2) (a .3)) (λ _ _ k. k) (λ a rest. refl) (λ a. refl)
+        by-word (aQuantifier text table counts step at context format) (λ a. QuantifierExpr (a .0) (a .1) (a .2) (a .3)) (λ _ _ k. k) (λ a rest. refl) (λ a. refl)
         (λ t rest d.
         let o = tree-at-word (namesIn (length text)) table at expr t rest 9 d (sym e ∙ w) in ((o .0 .0, o .0 .1 .0, o .0 .1 .1 .0, o .0 .1 .1 .1 .0), o .1))
 
     -- word 10
-    pub is-closure : g ≡ 10 → Prints (aClosure text table counts at) table at b p b₁ s → Prints (anExpr text table counts at context format) table at b p b₁ s
+    pub is-closure : g ≡ 10 → Prints (aClosure text table counts step at) table at b p b₁ s → Prints (anExpr text table counts step at context format) table at b p b₁ s
     unfolding Expression
     is-closure w =
-        by-word (aClosure text table counts at) (λ a. ClosureExpr (a .0) (a .1) (a .2) (a .3)) (λ _ _. plain at) (λ a rest. refl) (λ a. refl)
+        by-word (aClosure text table counts step at) (λ a. ClosureExpr (a .0) (a .1) (a .2) (a .3)) (λ _ _. plain at) (λ a rest. refl) (λ a. refl)
         (λ t rest d.
         let o = tree-at-word (namesIn (length text)) table at expr t rest 10 d (sym e ∙ w) in ((o .0 .0, o .0 .1 .0, o .0 .1 .1 .0, o .0 .1 .1 .1 .0), o .1))
 
     -- a word below 5
     pub is-leaf : (g ≡ 5 → ⊥) → (g ≡ 6 → ⊥) → (g ≡ 7 → ⊥) → (g ≡ 8 → ⊥) → (g ≡ 9 → ⊥) → (g ≡ 10 → ⊥)
-        → Prints (leaf text table at) table at b p b₁ s → Prints (anExpr text table counts at context format) table at b p b₁ s
+        → Prints (leaf text table at) table at b p b₁ s → Prints (anExpr text table counts step at context format) table at b p b₁ s
     is-leaf a₅ a₆ a₇ a₈ a₉ a₁₀ x =
         record {
           forward = x .forward;
           prints = λ t rest k d.
               let r = word-range (namesIn (length text)) table at expr t rest d in
               let v : getD table at 0 < 5 = omega arith in
-              x .prints (t, context, format) rest v d;
+              x .prints (step, t, context, format) rest v d;
         }
 
 -- ---- an operator
@@ -154,44 +155,44 @@ module _ {N : Type 0} where
       by-items (_then_ a (_then_ b (_then_ c (_then_ d es)))) n = absurd (let m = n .0 in omega arith)
 
 -- as many operands as the operator takes
-module _ (text : List ℕ) (o : Operator) (a b c : Expr (NameIn (length text))) (context : BindingPower) (format : ExprFormatOption) where
+module _ (text : List ℕ) (step : ℕ) (o : Operator) (a b c : Expr (NameIn (length text))) (context : BindingPower) (format : ExprFormatOption) where
   -- the form of one operand
-  unary-form : ArgumentCount o ≡ 1 → unary o (operand text a) context format ≡ operatorForm 2 o (operands (nameIn text) 2 (_then_ a noExprs)) context format
+  unary-form : ArgumentCount o ≡ 1 → unary o (operand text step a) context format ≡ operatorForm step o (operands (nameIn text) step (_then_ a noExprs)) context format
   unfolding operands
   unary-form e = rw e
 
   -- the form of two operands
   binary-form : ArgumentCount o ≡ 2
-      → binary o (operand text a) (operand text b) context format ≡ operatorForm 2 o (operands (nameIn text) 2 (_then_ a (_then_ b noExprs))) context format
+      → binary o (operand text step a) (operand text step b) context format ≡ operatorForm step o (operands (nameIn text) step (_then_ a (_then_ b noExprs))) context format
   unfolding operands
   binary-form e = rw e
 
   -- the form of three operands
   conditional-form : ArgumentCount o ≡ 3
-      → conditional 2 o (operand text a) (operand text b) (operand text c) context format
-      ≡ operatorForm 2 o (operands (nameIn text) 2 (_then_ a (_then_ b (_then_ c noExprs)))) context format
+      → conditional step o (operand text step a) (operand text step b) (operand text step c) context format
+      ≡ operatorForm step o (operands (nameIn text) step (_then_ a (_then_ b (_then_ c noExprs)))) context format
   unfolding operands
   conditional-form e = rw e
 
 -- another number of operands than the operator takes
-listed-form : (text : List ℕ) (o : Operator) (es : Exprs (NameIn (length text))) → (formNumber o es ≡ 1 → ⊥) → (formNumber o es ≡ 2 → ⊥) → (formNumber o es ≡ 3 → ⊥)
-    → listed o (operands (nameIn text) 2 es) ≡ operatorForm 2 o (operands (nameIn text) 2 es)
+listed-form : (text : List ℕ) (step : ℕ) (o : Operator) (es : Exprs (NameIn (length text))) → (formNumber o es ≡ 1 → ⊥) → (formNumber o es ≡ 2 → ⊥) → (formNumber o es ≡ 3 → ⊥)
+    → listed o (operands (nameIn text) step es) ≡ operatorForm step o (operands (nameIn text) step es)
 unfolding operands
-listed-form text o noExprs h₁ h₂ h₃ = refl
-listed-form text o (_then_ a noExprs) h₁ h₂ h₃ = rw (ne-eqb (ArgumentCount o) 1 (λ e. h₁ (rw e)))
-listed-form text o (_then_ a (_then_ b noExprs)) h₁ h₂ h₃ = rw (ne-eqb (ArgumentCount o) 2 (λ e. h₂ (rw e)))
-listed-form text o (_then_ a (_then_ b (_then_ c noExprs))) h₁ h₂ h₃ = rw (ne-eqb (ArgumentCount o) 3 (λ e. h₃ (rw e)))
-listed-form text o (_then_ a (_then_ b (_then_ c (_then_ d es)))) h₁ h₂ h₃ = refl
+listed-form text step o noExprs h₁ h₂ h₃ = refl
+listed-form text step o (_then_ a noExprs) h₁ h₂ h₃ = rw (ne-eqb (ArgumentCount o) 1 (λ e. h₁ (rw e)))
+listed-form text step o (_then_ a (_then_ b noExprs)) h₁ h₂ h₃ = rw (ne-eqb (ArgumentCount o) 2 (λ e. h₂ (rw e)))
+listed-form text step o (_then_ a (_then_ b (_then_ c noExprs))) h₁ h₂ h₃ = rw (ne-eqb (ArgumentCount o) 3 (λ e. h₃ (rw e)))
+listed-form text step o (_then_ a (_then_ b (_then_ c (_then_ d es)))) h₁ h₂ h₃ = refl
 
-module _ (text counts : List ℕ) {table : List ℕ} {at : ℕ} (context : BindingPower) (format : ExprFormatOption) {b : List ℕ} {p : ℕ} {b₁ : List ℕ} {s : Step} where
+module _ (text counts : List ℕ) (step : ℕ) {table : List ℕ} {at : ℕ} (context : BindingPower) (format : ExprFormatOption) {b : List ℕ} {p : ℕ} {b₁ : List ℕ} {s : Step} where
   -- an alternative for a shape of operands
   by-form : (P : Part) (op : P .Tree → Operator) (es : P .Tree → Exprs (NameIn (length text)))
-      → ((a : P .Tree) (rest : List ℕ) → Ready table at (startIndent format) × CountedExpr (λ n. n .span) counts (length table) (OperatorExpr (op a) (es a)) rest
+      → ((a : P .Tree) (rest : List ℕ) → Ready table step at (startIndent format) × CountedExpr (λ n. n .span) counts (length table) (OperatorExpr (op a) (es a)) rest
       → P .given a rest)
       → ((a : P .Tree) (rest : List ℕ) → P .words a rest ≡ exprWords (λ n. n .span) (OperatorExpr (op a) (es a)) rest)
       → ((o : Operator) (fs : Exprs (NameIn (length text))) (rest : List ℕ) → CountedExpr (λ n. n .span) counts (length table) (OperatorExpr o fs) rest → drop at table ≡ exprWords (λ n. n .span) (OperatorExpr o fs) rest
-      → (a : P .Tree) × (op a ≡ o) × (es a ≡ fs) × (P .print a ≡ operatorForm 2 (op a) (operands (nameIn text) 2 (es a)) context format))
-      → Prints P table at b p b₁ s → Prints (aForm text table counts at context format) table at b p b₁ s
+      → (a : P .Tree) × (op a ≡ o) × (es a ≡ fs) × (P .print a ≡ operatorForm step (op a) (operands (nameIn text) step (es a)) context format))
+      → Prints P table at b p b₁ s → Prints (aForm text table counts step at context format) table at b p b₁ s
   by-form P op es g ws shape x =
       record {
         forward = x .forward;
@@ -199,8 +200,8 @@ module _ (text counts : List ℕ) {table : List ℕ} {at : ℕ} (context : Bindi
             let a = shape (t .0) (t .1) rest (k .1) d in
             let e : exprWords (λ n. n .span) (OperatorExpr (t .0) (t .1)) rest ≡ P .words (a .0) rest =
             sym (ws (a .0) rest ∙ (λ i. exprWords (λ n. n .span) (OperatorExpr (a .1 i) (a .2 i)) rest)) in
-            let f : P .print (a .0) ≡ operatorForm 2 (t .0) (operands (nameIn text) 2 (t .1)) context format =
-            a .3 ∙ (λ i. operatorForm 2 (a .1 i) (operands (nameIn text) 2 (a .2 i)) context format) in
+            let f : P .print (a .0) ≡ operatorForm step (t .0) (operands (nameIn text) step (t .1)) context format =
+            a .3 ∙ (λ i. operatorForm step (a .1 i) (operands (nameIn text) step (a .2 i)) context format) in
             subst (λ (X : List ℕ → List ℕ). Done table X rest b p b₁ s) f (x .prints (a .0) rest
             (g (a .0) rest (
               k .0,
@@ -211,39 +212,39 @@ module _ (text counts : List ℕ) {table : List ℕ} {at : ℕ} (context : Bindi
 
   module _ {n : ℕ} (f : FormIs table counts at n) where
     -- number 1
-    pub is-unary : n ≡ 1 → Prints (aUnary text table counts at context) table at b p b₁ s → Prints (aForm text table counts at context format) table at b p b₁ s
+    pub is-unary : n ≡ 1 → Prints (aUnary text table counts step at context) table at b p b₁ s → Prints (aForm text table counts step at context format) table at b p b₁ s
     is-unary w =
-        by-form (aUnary text table counts at context) (λ a. a .0) (λ a. _then_ (a .1) noExprs) (λ _ _. plain at) (λ a rest. refl)
+        by-form (aUnary text table counts step at context) (λ a. a .0) (λ a. _then_ (a .1) noExprs) (λ _ _. plain at) (λ a rest. refl)
         (λ o es rest k d.
         let a = one o es (sym w ∙ f .form-is (length text) o es rest k d) in
-        ((o, a .0), refl, sym (a .1), unary-form text o (a .0) (a .0) (a .0) context format (a .2)))
+        ((o, a .0), refl, sym (a .1), unary-form text step o (a .0) (a .0) (a .0) context format (a .2)))
 
     -- number 2
-    pub is-binary : n ≡ 2 → Prints (aBinary text table counts at context format) table at b p b₁ s → Prints (aForm text table counts at context format) table at b p b₁ s
+    pub is-binary : n ≡ 2 → Prints (aBinary text table counts step at context format) table at b p b₁ s → Prints (aForm text table counts step at context format) table at b p b₁ s
     is-binary w =
-        by-form (aBinary text table counts at context format) (λ a. a .0) (λ a. _then_ (a .1) (_then_ (a .2) noExprs)) (λ _ _ k. k) (λ a rest. refl)
+        by-form (aBinary text table counts step at context format) (λ a. a .0) (λ a. _then_ (a .1) (_then_ (a .2) noExprs)) (λ _ _ k. k) (λ a rest. refl)
         (λ o es rest k d.
         let a = two o es (sym w ∙ f .form-is (length text) o es rest k d) in
-        ((o, a .0, a .1), refl, sym (a .2), binary-form text o (a .0) (a .1) (a .0) context format (a .3)))
+        ((o, a .0, a .1), refl, sym (a .2), binary-form text step o (a .0) (a .1) (a .0) context format (a .3)))
 
     -- number 3
-    pub is-conditional : n ≡ 3 → Prints (aConditional text table counts at context format) table at b p b₁ s
-        → Prints (aForm text table counts at context format) table at b p b₁ s
+    pub is-conditional : n ≡ 3 → Prints (aConditional text table counts step at context format) table at b p b₁ s
+        → Prints (aForm text table counts step at context format) table at b p b₁ s
     is-conditional w =
-        by-form (aConditional text table counts at context format) (λ a. a .0) (λ a. _then_ (a .1) (_then_ (a .2) (_then_ (a .3) noExprs))) (λ _ _ k. k) (λ a rest. refl)
+        by-form (aConditional text table counts step at context format) (λ a. a .0) (λ a. _then_ (a .1) (_then_ (a .2) (_then_ (a .3) noExprs))) (λ _ _ k. k) (λ a rest. refl)
         (λ o es rest k d.
         let a = three o es (sym w ∙ f .form-is (length text) o es rest k d) in
-        ((o, a .0, a .1, a .2), refl, sym (a .3), conditional-form text o (a .0) (a .1) (a .2) context format (a .4)))
+        ((o, a .0, a .1, a .2), refl, sym (a .3), conditional-form text step o (a .0) (a .1) (a .2) context format (a .4)))
 
     -- number 0
-    pub is-listed : (n ≡ 1 → ⊥) → (n ≡ 2 → ⊥) → (n ≡ 3 → ⊥) → Prints (aListed text table counts at) table at b p b₁ s
-        → Prints (aForm text table counts at context format) table at b p b₁ s
+    pub is-listed : (n ≡ 1 → ⊥) → (n ≡ 2 → ⊥) → (n ≡ 3 → ⊥) → Prints (aListed text table counts step at) table at b p b₁ s
+        → Prints (aForm text table counts step at context format) table at b p b₁ s
     is-listed h₁ h₂ h₃ =
-        by-form (aListed text table counts at) (λ a. a .0) (λ a. a .1) (λ _ _. plain at) (λ a rest. refl)
+        by-form (aListed text table counts step at) (λ a. a .0) (λ a. a .1) (λ _ _. plain at) (λ a rest. refl)
         (λ o es rest k d.
         let e = f .form-is (length text) o es rest k d in (
           (o, es),
           refl,
           refl,
-          ap (λ F. F context format) (listed-form text o es (λ q. h₁ (e ∙ q)) (λ q. h₂ (e ∙ q)) (λ q. h₃ (e ∙ q))),
+          ap (λ F. F context format) (listed-form text step o es (λ q. h₁ (e ∙ q)) (λ q. h₂ (e ∙ q)) (λ q. h₃ (e ∙ q))),
         ))

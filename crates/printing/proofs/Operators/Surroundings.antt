@@ -14,16 +14,16 @@ use Rattle.tree.specs.Check.{NameIn}
 use Rattle.tree.specs.Trees.{namesIn}
 use Rattle.tree.specs.Counted.{exprCount, CountedExpr}
 use Rattle.tree.specs.CountLaws.{noted-at}
-use Rattle.printing.specs.declared.power.BindingPower.{BindingPower}
-use Rattle.printing.specs.declared.power.Side.{Side}
-use Rattle.printing.specs.declared.format.ExprFormatOption.{ExprFormatOption}
-use Rattle.printing.specs.declared.format.ExprFormatOption.the-variants.{SingleLine}
-use Rattle.printing.specs.PrintUtil.{Space, More, SubexpressionPower, ToString, BindingStrength}
-use Rattle.printing.specs.Printer.{breaksLine, isIf}
+use Rattle.prints.specs.declared.power.BindingPower.{BindingPower}
+use Rattle.prints.specs.declared.power.Side.{Side}
+use Rattle.prints.specs.declared.format.ExprFormatOption.{ExprFormatOption}
+use Rattle.prints.specs.declared.format.ExprFormatOption.the-variants.{SingleLine}
+use Rattle.prints.specs.PrintUtil.{Space, Deeper, SubexpressionPower, ToString, BindingStrength}
+use Rattle.prints.specs.Printer.{breaksLine, isIf}
 use Rattle.printing.specs.OperatorWords.{operatorOf}
 use Rattle.printing.specs.Wrote.{Wrote}
 use Rattle.printing.specs.Parts.{Next, IsIf}
-use Rattle.printing.specs.ExprParts.{FormIs, Deeper, ElseFormat, ElseHead}
+use Rattle.printing.specs.ExprParts.{FormIs, ElseFormat, ElseHead}
 use Rattle.printing.proofs.Writing.Bytes.{then}
 use Rattle.printing.proofs.PartPrints.Joins.{word-at}
 use Rattle.printing.proofs.Operators.Tables.{operator-of}
@@ -58,19 +58,19 @@ listed-wrote e x y = then (read-as e x) y
 -- ---- `else`
 
 -- the format after `else`
-pub else-format-is : {text table : List ℕ} {at : ℕ} {f r m : ExprFormatOption} {g : Bool} → r ≡ pick g f m → IsIf text table at g → Deeper f m
-    → ElseFormat text table at f r
-else-format-is {f = f} {g = g} e i k =
-    record { else-format = λ h t rest d. e ∙ ap (pick g f) (k .deeper h) ∙ ap (λ (x : Bool). pick x f (More 2 f)) (i .tells t rest d) }
+pub else-format-is : {text table : List ℕ} {step at : ℕ} {f r m : ExprFormatOption} {g : Bool} → r ≡ pick g f m → IsIf text table at g → m ≡ Deeper step f
+    → ElseFormat text table step at f r
+else-format-is {step = step} {f = f} {g = g} e i k =
+    record { else-format = λ t rest d. e ∙ ap (pick g f) k ∙ ap (λ (x : Bool). pick x f (Deeper step f)) (i .tells t rest d) }
 
 -- what stands around `else`
-pub else-head-is : {text table : List ℕ} {at : ℕ} (f : ExprFormatOption) {gap m : ExprFormatOption} {g : Bool} {b : List ℕ} {p : ℕ} {b₁ : List ℕ} {p₁ : ℕ} {b₂ : List ℕ} {p₂ : ℕ} {b₃ : List ℕ} {p₃ : ℕ}
-    → Wrote (λ r. Space f ++ r) b p b₁ p₁ → Wrote (λ r. bytes "else" ++ r) b₁ p₁ b₂ p₂ → IsIf text table at g → Deeper f m
-    → gap ≡ pick g SingleLine m → Wrote (λ r. Space gap ++ r) b₂ p₂ b₃ p₃ → ElseHead text table at f b p b₃ p₃
-else-head-is f {gap} {m} {g} {b₂ = b₂} {p₂ = p₂} {b₃ = b₃} {p₃ = p₃} x y i k e z =
+pub else-head-is : {text table : List ℕ} {step at : ℕ} (f : ExprFormatOption) {gap m : ExprFormatOption} {g : Bool} {b : List ℕ} {p : ℕ} {b₁ : List ℕ} {p₁ : ℕ} {b₂ : List ℕ} {p₂ : ℕ} {b₃ : List ℕ} {p₃ : ℕ}
+    → Wrote (λ r. Space f ++ r) b p b₁ p₁ → Wrote (λ r. bytes "else" ++ r) b₁ p₁ b₂ p₂ → IsIf text table at g → m ≡ Deeper step f
+    → gap ≡ pick g SingleLine m → Wrote (λ r. Space gap ++ r) b₂ p₂ b₃ p₃ → ElseHead text table step at f b p b₃ p₃
+else-head-is {step = step} f {gap} {m} {g} {b₂ = b₂} {p₂ = p₂} {b₃ = b₃} {p₃ = p₃} x y i k e z =
     record {
-      else-head = λ h t rest d.
-          let w : gap ≡ pick (isIf t) SingleLine (More 2 f) = e ∙ ap (pick g SingleLine) (k .deeper h) ∙ ap (λ (v : Bool). pick v SingleLine (More 2 f)) (i .tells t rest d) in
+      else-head = λ t rest d.
+          let w : gap ≡ pick (isIf t) SingleLine (Deeper step f) = e ∙ ap (pick g SingleLine) k ∙ ap (λ (v : Bool). pick v SingleLine (Deeper step f)) (i .tells t rest d) in
           then x (then y (subst (λ (v : ExprFormatOption). Wrote (λ r. Space v ++ r) b₂ p₂ b₃ p₃) w z));
     }
 

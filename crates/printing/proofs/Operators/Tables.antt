@@ -11,10 +11,10 @@ use Rattle.grammar.specs.Words.{bytes}
 use Rattle.tree.specs.Ast.{Operator, IfThenElse, Equiv, LogicalImp, LogicalAnd, LogicalOr, Eq, Neq, Less, AtMost, Plus, Minus, Times, Div, Mod, LogicalNot, UnaryMinus, ArgumentCount}
 use Rattle.tree.specs.Resolve.{part}
 use Rattle.tree.specs.Words.{operatorWord}
-use Rattle.printing.specs.declared.power.TieBreaker.the-variants.{OperatorWins, ContextWins}
+use Rattle.prints.specs.declared.power.TieBreaker.the-variants.{OperatorWins, ContextWins}
 use Rattle.printing.specs.OperatorWords.{operators, operatorOf}
-use Rattle.printing.specs.PrintUtil.{power, ToString, BindingStrength}
-use Rattle.printing.specs.Printer.{breaksLine}
+use Rattle.prints.specs.PrintUtil.{power, ToString, BindingStrength}
+use Rattle.prints.specs.Printer.{breaksLine}
 use Rattle.printing.specs.Wrote.{Wrote}
 
 -- an operator's word gives the operator

@@ -9,10 +9,10 @@ use Rattle.grammar.specs.Words.{bytes}
 use Rattle.tree.specs.Words.{seqWords, bindingWords}
 use Rattle.tree.specs.Check.{NameIn}
 use Rattle.printing.specs.declared.parts.Step.{Step}
-use Rattle.printing.specs.declared.power.BindingPower.{BindingPower}
-use Rattle.printing.specs.declared.power.Side.the-variants.{Left}
-use Rattle.printing.specs.PrintUtil.{EndlessOperator, Parenthesis}
-use Rattle.printing.specs.Printer.{IdTypeDecl}
+use Rattle.prints.specs.declared.power.BindingPower.{BindingPower}
+use Rattle.prints.specs.declared.power.Side.the-variants.{Left}
+use Rattle.prints.specs.PrintUtil.{EndlessOperator, Parenthesis}
+use Rattle.prints.specs.Printer.{IdTypeDecl}
 use Rattle.printing.specs.Entries.{nameIn}
 use Rattle.printing.specs.Wrote.{Wrote}
 use Rattle.printing.specs.Parts.{Done, Prints, aName, typedName, idType, quantified, closureParameters, customLiteral, labelHead, letHead, quantifierHead, callHead, closureHead, closureResult}
@@ -20,7 +20,7 @@ use Rattle.printing.proofs.PartPrints.Joins.{text-then, then-text, done
 
 -- a prefix is printed before the name
 prefixed : (text prefix : List ℕ) (n : NameIn (length text)) (o : Option (NameIn (length text))) (rest : List ℕ)
-    → prefix ++ IdTypeDecl (nameIn text) 2 [] n o rest ≡ IdTypeDecl (nameIn text) 2 prefix n o rest
+    → prefix ++ IdTypeDecl (nameIn text) [] n o rest ≡ IdTypeDecl (nameIn text) prefix n o rest
 prefixed text prefix n none rest = refl
 prefixed text prefix n (some t) rest = refl
 

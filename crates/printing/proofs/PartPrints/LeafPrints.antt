@@ -15,11 +15,11 @@ use Rattle.tree.specs.Kind.{expr}
 use Rattle.tree.specs.Trees.{namesIn}
 use Rattle.tree.specs.Walk.{natural-at, tree-at-word, word-range}
 use Rattle.printing.specs.declared.parts.Step.{Step}
-use Rattle.printing.specs.declared.power.BindingPower.{BindingPower}
-use Rattle.printing.specs.declared.format.ExprFormatOption.{ExprFormatOption}
-use Rattle.printing.specs.Text.{decimal}
-use Rattle.printing.specs.Text.{unless}
-use Rattle.printing.specs.Printer.{boolText, oldText, Expression, isIf}
+use Rattle.prints.specs.declared.power.BindingPower.{BindingPower}
+use Rattle.prints.specs.declared.format.ExprFormatOption.{ExprFormatOption}
+use Rattle.prints.specs.Text.{decimal}
+use Rattle.prints.specs.Text.{unless}
+use Rattle.prints.specs.Printer.{boolText, oldText, Expression, isIf}
 use Rattle.printing.specs.Entries.{nameIn}
 use Rattle.printing.specs.Wrote.{Wrote}
 use Rattle.printing.specs.Parts.{Part, Done, Prints, Next, IsIf, aName, aBool, aNatural, customLiteral, identifier, leaf}
@@ -94,15 +94,15 @@ module _ (text table : List ℕ) (at : ℕ) where
   -- a leaf is printed as the part that its word tells
   pub leaf-arm : (P : Part) (w : ℕ) (make : P .Tree → E) → ((a : P .Tree) (rest : List ℕ) → P .given a rest) → Opens make
       → ((a : P .Tree) (rest : List ℕ) → exprWords (λ n. n .span) (make a) rest ≡ w ∷ P .words a rest)
-      → ((a : P .Tree) (c : BindingPower) (f : ExprFormatOption) → P .print a ≡ (λ r. Expression (nameIn text) 2 (make a) c f r))
+      → ((a : P .Tree) (step : ℕ) (c : BindingPower) (f : ExprFormatOption) → P .print a ≡ (λ r. Expression (nameIn text) step (make a) c f r))
       → {b : List ℕ} {p : ℕ} {b₁ : List ℕ} {inner : ℕ} {s : Step} → Next table at inner → Prints P table inner b p b₁ s → Prints (leaf text table at) table at b p b₁ s
   leaf-arm P w make k opens ws xs {b} {p} {b₁} {inner} {s} n x =
       record {
         forward = le-trans (n .forward) (x .forward);
         prints = λ t rest _ d.
-            let o = opens (t .0) rest d in
-            made rest (λ u. Done table (λ r. Expression (nameIn text) 2 u (t .1) (t .2) r) rest b p b₁ s) (o .1) d
-            (λ c. subst (λ (X : List ℕ → List ℕ). Done table X rest b p b₁ s) (xs (o .0) (t .1) (t .2)) (x .prints (o .0) rest (k (o .0) rest) (n .after w (P .words (o .0) rest) (c ∙ ws (o .0) rest))));
+            let o = opens (t .1) rest d in
+            made rest (λ u. Done table (λ r. Expression (nameIn text) (t .0) u (t .2) (t .3) r) rest b p b₁ s) (o .1) d
+            (λ c. subst (λ (X : List ℕ → List ℕ). Done table X rest b p b₁ s) (xs (o .0) (t .0) (t .2) (t .3)) (x .prints (o .0) rest (k (o .0) rest) (n .after w (P .words (o .0) rest) (c ∙ ws (o .0) rest))));
       }
 
   -- no leaf has another word
@@ -111,7 +111,7 @@ module _ (text table : List ℕ) (at : ℕ) where
   no-leaf {g} e a₁ a₂ a₃ a₄ =
       record {
         forward = le-refl at;
-        prints = λ t rest k d. let r = word-range (namesIn (length text)) table at expr (t .0) rest d in absurd (omega arith);
+        prints = λ t rest k d. let r = word-range (namesIn (length text)) table at expr (t .1) rest d in absurd (omega arith);
       }
 
 module _ (text : List ℕ) {table : List ℕ} {at g : ℕ} (e : g ≡ getD table at 0) {b : List ℕ} {p : ℕ} {b₁ : List ℕ} {inner : ℕ} {s : Step} (n : Next table at inner) where
@@ -121,7 +121,7 @@ module _ (text : List ℕ) {table : List ℕ} {at g : ℕ} (e : g ≡ getD table
   leaf-bool w x =
       leaf-arm text table at aBool 1 BLiteral (λ _ _. tt)
       (λ t rest d. let o = tree-at-word (namesIn (length text)) table at expr t rest 1 d (sym e ∙ w) in (o .0 .0, o .1))
-      (λ a rest. refl) (λ a c f. refl) n x
+      (λ a rest. refl) (λ a n c f. refl) n x
 
   -- word 2
   pub leaf-natural : g ≡ 2 → Prints aNatural table inner b p b₁ s → Prints (leaf text table at) table at b p b₁ s
@@ -129,7 +129,7 @@ module _ (text : List ℕ) {table : List ℕ} {at g : ℕ} (e : g ≡ getD table
   leaf-natural w x =
       leaf-arm text table at aNatural 2 ILiteral (λ _ _. tt)
       (λ t rest d. let o = tree-at-word (namesIn (length text)) table at expr t rest 2 d (sym e ∙ w) in (o .0 .0, o .1))
-      (λ a rest. refl) (λ a c f. refl) n x
+      (λ a rest. refl) (λ a n c f. refl) n x
 
   -- word 3
   pub leaf-custom : g ≡ 3 → Prints (customLiteral text) table inner b p b₁ s → Prints (leaf text table at) table at b p b₁ s
@@ -137,7 +137,7 @@ module _ (text : List ℕ) {table : List ℕ} {at g : ℕ} (e : g ≡ getD table
   leaf-custom w x =
       leaf-arm text table at (customLiteral text) 3 (λ a. CustomLiteral (a .0) (a .1)) (λ _ _. tt)
       (λ t rest d. let o = tree-at-word (namesIn (length text)) table at expr t rest 3 d (sym e ∙ w) in ((o .0 .0, o .0 .1 .0), o .1))
-      (λ a rest. refl) (λ a c f. refl) n x
+      (λ a rest. refl) (λ a n c f. refl) n x
 
   -- word 4
   pub leaf-identifier : g ≡ 4 → Prints (identifier text) table inner b p b₁ s → Prints (leaf text table at) table at b p b₁ s
@@ -145,7 +145,7 @@ module _ (text : List ℕ) {table : List ℕ} {at g : ℕ} (e : g ≡ getD table
   leaf-identifier w x =
       leaf-arm text table at (identifier text) 4 (λ a. IdExpr (a .0) (a .1)) (λ _ _. tt)
       (λ t rest d. let o = tree-at-word (namesIn (length text)) table at expr t rest 4 d (sym e ∙ w) in ((o .0 .0, o .0 .1 .0), o .1))
-      (λ a rest. refl) (λ a c f. refl) n x
+      (λ a rest. refl) (λ a n c f. refl) n x
 
 -- ---- an IfThenElse
 

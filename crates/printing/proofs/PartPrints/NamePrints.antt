@@ -13,7 +13,7 @@ use Rattle.tree.specs.Words.{boolWord, nameWords, optionWords, seqWords, bindin
 use Rattle.tree.specs.Resolve.{part}
 use Rattle.tree.specs.Check.{NameIn}
 use Rattle.printing.specs.declared.parts.Step.{Step}
-use Rattle.printing.specs.Printer.{quantifierText, IdTypeDecl, Bindings, parameters}
+use Rattle.prints.specs.Printer.{quantifierText, IdTypeDecl, Bindings, parameters}
 use Rattle.printing.specs.Entries.{nameIn}
 use Rattle.printing.specs.Wrote.{Wrote}
 use Rattle.printing.specs.Parts.{Done, Prints, Next, aName, typedName, idType, bindings, quantified, closureParameters}
@@ -60,7 +60,7 @@ module _ (text : List ℕ) {table : List ℕ} {at : ℕ} {b : List ℕ} {p : ℕ
       }
     where
       by-type : (m : N text) (o : Option (N text)) (rest : List ℕ) → Done table (λ r. nameIn text m ++ r) (optionWords (nameWords (λ m. m .span)) o rest) b p b₁ s
-          → Done table (λ r. IdTypeDecl (nameIn text) 2 [] m o r) rest b p b₁ (record { next = inner; pos = s .pos })
+          → Done table (λ r. IdTypeDecl (nameIn text) [] m o r) rest b p b₁ (record { next = inner; pos = s .pos })
       by-type m none rest u = moved inner u (n .after 0 rest (u .after))
       by-type m (some t) rest u = impossible (sym z ∙ word-at table (s .next) e (u .after))
 
@@ -75,7 +75,7 @@ module _ (text : List ℕ) {table : List ℕ} {at : ℕ} {b : List ℕ} {p : ℕ
       }
     where
       by-type : (m : N text) (o : Option (N text)) (rest : List ℕ) → Done table (λ r. nameIn text m ++ r) (optionWords (nameWords (λ m. m .span)) o rest) b p b₁ s
-          → Done table (λ r. IdTypeDecl (nameIn text) 2 [] m o r) rest b p b₃ s₃
+          → Done table (λ r. IdTypeDecl (nameIn text) [] m o r) rest b p b₃ s₃
       by-type m none rest u = absurd (z (word-at table (s .next) e (u .after)))
       by-type m (some t) rest u = done-then u (text-then w (y .prints t rest tt (n .after 1 (nameWords (λ m. m .span) t rest) (u .after))))
 
@@ -88,7 +88,7 @@ module _ (text : List ℕ) {table : List ℕ} {at : ℕ} {b : List ℕ} {p : ℕ
   binds-none prefix {inner} {g} n e z = record { forward = n .forward; prints = λ t rest _ d. by-bindings t rest d }
     where
       by-bindings : (bs : List (Binding (N text))) (rest : List ℕ) → drop at table ≡ seqWords (bindingWords (λ m. m .span)) bs rest
-          → Done table (λ r. Bindings (nameIn text) 2 prefix bs r) rest b p b (record { next = inner; pos = p })
+          → Done table (λ r. Bindings (nameIn text) prefix bs r) rest b p b (record { next = inner; pos = p })
       by-bindings [] rest d = record { after = n .after 0 rest d; wrote = nothing b p }
       by-bindings (binding m t ∷ bs) rest d = impossible (sym z ∙ word-at table at e d)
 
@@ -101,7 +101,7 @@ module _ (text : List ℕ) {table : List ℕ} {at : ℕ} {b : List ℕ} {p : ℕ
       record { forward = le-trans (n .forward) (le-trans (x .forward) (y .forward)); prints = λ t rest _ d. by-bindings t rest d }
     where
       by-bindings : (bs : List (Binding (N text))) (rest : List ℕ) → drop at table ≡ seqWords (bindingWords (λ m. m .span)) bs rest
-          → Done table (λ r. Bindings (nameIn text) 2 prefix bs r) rest b p b₃ s₃
+          → Done table (λ r. Bindings (nameIn text) prefix bs r) rest b p b₃ s₃
       by-bindings [] rest d = absurd (z (word-at table at e d))
       by-bindings (binding m t ∷ bs) rest d =
           let others = seqWords (bindingWords (λ m. m .span)) bs rest in
@@ -115,7 +115,7 @@ module _ (text : List ℕ) {table : List ℕ} {at : ℕ} {b : List ℕ} {p : ℕ
       record {
         forward = le-trans (n .forward) (x .forward);
         prints = λ t rest _ d.
-            subst (λ (u : Bool). Done table (λ r. Bindings (nameIn text) 2 (bytes (quantifierText u)) (t .1) r) rest b p b₁ s) (told v (t .0) h (word-at table at e d))
+            subst (λ (u : Bool). Done table (λ r. Bindings (nameIn text) (bytes (quantifierText u)) (t .1) r) rest b p b₁ s) (told v (t .0) h (word-at table at e d))
             (x .prints (t .1) rest tt (n .after (boolWord (t .0)) (seqWords (bindingWords (λ m. m .span)) (t .1) rest) d));
       }
 
@@ -127,7 +127,7 @@ module _ (text : List ℕ) {table : List ℕ} {at : ℕ} {b : List ℕ} {p : ℕ
   no-parameters {next} {g} n e z = record { forward = n .forward; prints = λ t rest _ d. by-bindings t rest d }
     where
       by-bindings : (bs : List (Binding (N text))) (rest : List ℕ) → drop at table ≡ seqWords (bindingWords (λ m. m .span)) bs rest
-          → Done table (λ r. parameters (nameIn text) 2 bs r) rest b p b (record { next = next; pos = p })
+          → Done table (λ r. parameters (nameIn text) bs r) rest b p b (record { next = next; pos = p })
       by-bindings [] rest d = record { after = n .after 0 rest d; wrote = nothing b p }
       by-bindings (binding m t ∷ bs) rest d = impossible (sym z ∙ word-at table at e d)
 
@@ -138,7 +138,7 @@ module _ (text : List ℕ) {table : List ℕ} {at : ℕ} {b : List ℕ} {p : ℕ
   some-parameters {b₁} {g} {p₁} {b₂} {s₂} {b₃} {p₃} e z w x y = record { forward = x .forward; prints = λ t rest _ d. by-bindings t rest d (x .prints t rest tt d) }
     where
       by-bindings : (bs : List (Binding (N text))) (rest : List ℕ) → drop at table ≡ seqWords (bindingWords (λ m. m .span)) bs rest
-          → Done table (λ r. Bindings (nameIn text) 2 [] bs r) rest b₁ p₁ b₂ s₂
-          → Done table (λ r. parameters (nameIn text) 2 bs r) rest b p b₃ (record { next = s₂ .next; pos = p₃ })
+          → Done table (λ r. Bindings (nameIn text) [] bs r) rest b₁ p₁ b₂ s₂
+          → Done table (λ r. parameters (nameIn text) bs r) rest b p b₃ (record { next = s₂ .next; pos = p₃ })
       by-bindings [] rest d u = absurd (z (word-at table at e d))
       by-bindings (v ∷ bs) rest d u = text-then w (then-text u y)

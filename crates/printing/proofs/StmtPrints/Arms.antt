@@ -14,7 +14,7 @@ use Rattle.tree.specs.Check.{NameIn}
 use Rattle.tree.specs.Trees.{namesIn}
 use Rattle.tree.specs.Walk.{tree-at-word}
 use Rattle.printing.specs.declared.parts.Step.{Step}
-use Rattle.printing.specs.Statements.{shown}
+use Rattle.prints.specs.Statements.{shown}
 use Rattle.printing.specs.Entries.{nameIn}
 use Rattle.printing.specs.ExprParts.{Ready}
 use Rattle.printing.specs.Wrote.{Wrote}
@@ -23,8 +23,8 @@ use Rattle.printing.specs.StmtParts.{Simple, N, free, stmtCounted, simpl
 use Rattle.printing.proofs.PartPrints.Joins.{word-at}
 
 -- further on an indent fits that fitted before
-pub on : {table : List ℕ} {at next i : ℕ} → at ≤ next → Ready table at i → Ready table next i
-on h k = let r = k .room in record { few = k .few; room = omega arith }
+pub on : {table : List ℕ} {step at next i : ℕ} → at ≤ next → Ready table step at i → Ready table step next i
+on h k = let r = k .room in record { few = k .few; short = k .short; room = omega arith }
 
 -- every tree of S at the place is made of one of P
 abbrev pub Opens : (S P : Part) → (P .Tree → S .Tree) → List ℕ → ℕ → Type 0
@@ -61,56 +61,56 @@ text-alone {at = at} w = record { forward = le-refl at; prints = λ t rest g d. 
 
 -- ---- the statements without statements in them
 
-module _ (text table counts : List ℕ) (at : ℕ) {g : ℕ} (e : g ≡ getD table at 0) (indent : ℕ) (followed : Bool) {b : List ℕ} {p : ℕ} {b₁ : List ℕ} where
+module _ (text table counts : List ℕ) (step at : ℕ) {g : ℕ} (e : g ≡ getD table at 0) (indent : ℕ) (followed : Bool) {b : List ℕ} {p : ℕ} {b₁ : List ℕ} where
   module _ {inner : ℕ} (n : Next table at inner) where
     -- word 22
-    pub is-assign : {s : Step} → g ≡ 22 → Prints (anAssign text table counts inner 0) table inner b p b₁ s → Prints (simplePart text table counts at indent followed) table at b p b₁ s
+    pub is-assign : {s : Step} → g ≡ 22 → Prints (anAssign text table counts step inner 0) table inner b p b₁ s → Prints (simplePart text table counts step at indent followed) table at b p b₁ s
     unfolding shown
     is-assign w x =
-        after-word (simplePart text table counts at indent followed) (anAssign text table counts inner 0) (λ a. Assign (a .0) (a .1)) table at
+        after-word (simplePart text table counts step at indent followed) (anAssign text table counts step inner 0) (λ a. Assign (a .0) (a .1)) table at
         (λ t rest d. let o = tree-at-word (namesIn (length text)) table at stmt t rest 22 d (sym e ∙ w) in ((o .0 .0, o .0 .1 .0), o .1))
         (λ a rest k. (on (n .forward) (k .1), k .2)) (λ a. refl) 22 (λ a rest. refl) n x
 
     -- word 23
-    pub is-reinit : {s : Step} → g ≡ 23 → Prints (aReinit text table counts inner 0) table inner b p b₁ s → Prints (simplePart text table counts at indent followed) table at b p b₁ s
+    pub is-reinit : {s : Step} → g ≡ 23 → Prints (aReinit text table counts step inner 0) table inner b p b₁ s → Prints (simplePart text table counts step at indent followed) table at b p b₁ s
     unfolding shown
     is-reinit w x =
-        after-word (simplePart text table counts at indent followed) (aReinit text table counts inner 0) (λ a. Reinit a) table at
+        after-word (simplePart text table counts step at indent followed) (aReinit text table counts step inner 0) (λ a. Reinit a) table at
         (λ t rest d. let o = tree-at-word (namesIn (length text)) table at stmt t rest 23 d (sym e ∙ w) in (o .0 .0, o .1))
         (λ a rest k. (on (n .forward) (k .1), tt)) (λ a. refl) 23 (λ a rest. refl) n x
 
     -- word 25
-    pub is-call : {s : Step} → g ≡ 25 → Prints (aCallStmt text table counts inner 0) table inner b p b₁ s → Prints (simplePart text table counts at indent followed) table at b p b₁ s
+    pub is-call : {s : Step} → g ≡ 25 → Prints (aCallStmt text table counts step inner 0) table inner b p b₁ s → Prints (simplePart text table counts step at indent followed) table at b p b₁ s
     unfolding shown
     is-call w x =
-        after-word (simplePart text table counts at indent followed) (aCallStmt text table counts inner 0) (λ a. Call (a .0) (a .1)) table at
+        after-word (simplePart text table counts step at indent followed) (aCallStmt text table counts step inner 0) (λ a. Call (a .0) (a .1)) table at
         (λ t rest d. let o = tree-at-word (namesIn (length text)) table at stmt t rest 25 d (sym e ∙ w) in ((o .0 .0, o .0 .1 .0), o .1))
         (λ a rest k. (on (n .forward) (k .1), k .2 .1)) (λ a. refl) 25 (λ a rest. refl) n x
 
     -- word 36
-    pub is-exit : {s : Step} → g ≡ 36 → Prints (anExit text) table inner b p b₁ s → Prints (simplePart text table counts at indent followed) table at b p b₁ s
+    pub is-exit : {s : Step} → g ≡ 36 → Prints (anExit text) table inner b p b₁ s → Prints (simplePart text table counts step at indent followed) table at b p b₁ s
     unfolding shown
     is-exit w x =
-        after-word (simplePart text table counts at indent followed) (anExit text) (λ a. Exit a) table at
+        after-word (simplePart text table counts step at indent followed) (anExit text) (λ a. Exit a) table at
         (λ t rest d. let o = tree-at-word (namesIn (length text)) table at stmt t rest 36 d (sym e ∙ w) in (o .0 .0, o .1))
         (λ a rest k. tt) (λ a. refl) 36 (λ a rest. refl) n x
 
     -- word 37
-    pub is-return : {p₁ : ℕ} → g ≡ 37 → Wrote (λ r. bytes "return\n" ++ r) b p b₁ p₁ → Prints (simplePart text table counts at indent followed) table at b p b₁ (record { next = inner; pos = p₁ })
+    pub is-return : {p₁ : ℕ} → g ≡ 37 → Wrote (λ r. bytes "return\n" ++ r) b p b₁ p₁ → Prints (simplePart text table counts step at indent followed) table at b p b₁ (record { next = inner; pos = p₁ })
     unfolding shown
     is-return w x =
-        after-word (simplePart text table counts at indent followed) (free (λ (u : Unit {0}) rest. rest) (λ u r. bytes "return\n" ++ r)) (λ a. Return) table at
+        after-word (simplePart text table counts step at indent followed) (free (λ (u : Unit {0}) rest. rest) (λ u r. bytes "return\n" ++ r)) (λ a. Return) table at
         (λ t rest d. let o = tree-at-word (namesIn (length text)) table at stmt t rest 37 d (sym e ∙ w) in (tt, o .1))
         (λ a rest k. tt) (λ a. refl) 37 (λ a rest. refl) n (text-alone x)
 
   -- another word
-  pub is-expression : {s : Step} → (g ≡ 22 → ⊥) → (g ≡ 23 → ⊥) → (g ≡ 25 → ⊥) → (g ≡ 36 → ⊥) → (g ≡ 37 → ⊥) → Prints (anExpressionStmt text table counts at 0) table at b p b₁ s
-      → Prints (simplePart text table counts at indent followed) table at b p b₁ s
+  pub is-expression : {s : Step} → (g ≡ 22 → ⊥) → (g ≡ 23 → ⊥) → (g ≡ 25 → ⊥) → (g ≡ 36 → ⊥) → (g ≡ 37 → ⊥) → Prints (anExpressionStmt text table counts step at 0) table at b p b₁ s
+      → Prints (simplePart text table counts step at indent followed) table at b p b₁ s
   unfolding shown
   is-expression {s} h₂ h₃ h₅ h₆ h₇ x = record { forward = x .forward; prints = λ t rest k d. by-form t rest (k .0) (k .1) (k .2) d }
     where
-      by-form : (t : Stmt (N text)) (rest : List ℕ) → Simple (getD table at 0) → Ready table at 0 → stmtCounted text table counts at indent t rest
-          → drop at table ≡ stmtWords (λ n. n .span) t rest → Done table (λ r. shown (nameIn text) 2 t .print indent followed r) rest b p b₁ s
+      by-form : (t : Stmt (N text)) (rest : List ℕ) → Simple (getD table at 0) → Ready table step at 0 → stmtCounted text table counts step at indent t rest
+          → drop at table ≡ stmtWords (λ n. n .span) t rest → Done table (λ r. shown (nameIn text) step t .print indent followed r) rest b p b₁ s
       by-form (VarDecl v i t) rest k r c d = absurd (k .no-variable (word-at table at refl d))
       by-form (Assign n t) rest k r c d = absurd (h₂ (word-at table at e d))
       by-form (Reinit ns) rest k r c d = absurd (h₃ (word-at table at e d))

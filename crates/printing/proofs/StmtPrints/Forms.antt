@@ -10,8 +10,8 @@ use Rattle.tree.specs.Kind.{stmt, aexpr as anAexpr}
 use Rattle.tree.specs.Trees.{namesIn}
 use Rattle.tree.specs.Walk.{tree-at-word}
 use Rattle.printing.specs.declared.parts.Step.{Step}
-use Rattle.printing.specs.Text.{_▸_}
-use Rattle.printing.specs.Statements.{inline, shown, aexpr}
+use Rattle.prints.specs.Text.{_▸_}
+use Rattle.prints.specs.Statements.{inline, shown, aexpr}
 use Rattle.printing.specs.Entries.{nameIn}
 use Rattle.printing.specs.Parts.{Part, Prints, Next}
 use Rattle.printing.specs.StmtParts.{Simple, N, aStmt, simplePart, aVariable, aBraces, aForall, aChoose, anIf, anIfCase, aLoop, aLabelled, anInner, statementList, lastStatements, anAExpr}
@@ -25,15 +25,15 @@ use Rattle.printing.proofs.StmtPrints.Arms.{on, here, after-word}
 abbrev pub plainly : (text : List ℕ) → Expr (N text) → AExpr (N text)
 plainly text e = aExpr e
 
-pub plain-print : (text : List ℕ) (e : Expr (N text)) (indent : ℕ)
-    → _≡_ {A = List ℕ → List ℕ} (λ r. aexpr (nameIn text) 2 (aExpr e) indent r) (λ r. inline (nameIn text) 2 e ("\n" ▸ r))
+pub plain-print : (text : List ℕ) (step : ℕ) (e : Expr (N text)) (indent : ℕ)
+    → _≡_ {A = List ℕ → List ℕ} (λ r. aexpr (nameIn text) step (aExpr e) indent r) (λ r. inline (nameIn text) step e ("\n" ▸ r))
 unfolding aexpr
-plain-print text e indent = refl
+plain-print text step e indent = refl
 
-module _ (text table counts : List ℕ) (at indent : ℕ) {b : List ℕ} {p : ℕ} {b₁ : List ℕ} {s : Step} where
+module _ (text table counts : List ℕ) (step at indent : ℕ) {b : List ℕ} {p : ℕ} {b₁ : List ℕ} {s : Step} where
   -- a list by its number of statements
-  pub by-count : {left : ℕ} → left ≡ getD counts at 0 → Prints (lastStatements text table counts at indent left) table at b p b₁ s
-      → Prints (statementList text table counts at indent) table at b p b₁ s
+  pub by-count : {left : ℕ} → left ≡ getD counts at 0 → Prints (lastStatements text table counts step at indent left) table at b p b₁ s
+      → Prints (statementList text table counts step at indent) table at b p b₁ s
   by-count {left} e x =
       record {
         forward = x .forward;
@@ -44,26 +44,26 @@ module _ (text table counts : List ℕ) (at indent : ℕ) {b : List ℕ} {p : �
 
   -- the statements of a block, word 24
   pub block-list : {g : ℕ} → g ≡ getD table at 0 → (followed : Bool) {inner : ℕ} → Next table at inner → g ≡ 24
-      → Prints (statementList text table counts inner indent) table inner b p b₁ s → Prints (anInner text table counts at indent followed) table at b p b₁ s
+      → Prints (statementList text table counts step inner indent) table inner b p b₁ s → Prints (anInner text table counts step at indent followed) table at b p b₁ s
   unfolding shown
   block-list e followed {inner} n w x =
-      after-word (anInner text table counts at indent followed) (statementList text table counts inner indent) (λ a. Block a) table at
+      after-word (anInner text table counts step at indent followed) (statementList text table counts step inner indent) (λ a. Block a) table at
       (λ t rest d. let o = tree-at-word (namesIn (length text)) table at stmt t rest 24 d (sym e ∙ w) in (o .0 .0, o .1))
       (λ a rest k. (on (n .forward) (k .0), k .1)) (λ a. refl) 24 (λ a rest. refl) n x
 
   -- a statement as an assertion, word 2, and an expression
-  pub is-assertion : {g inner : ℕ} → g ≡ getD table at 0 → Next table at inner → g ≡ 2 → Prints (aStmt text table counts inner indent false) table inner b p b₁ s
-      → Prints (anAExpr text table counts at indent) table at b p b₁ s
+  pub is-assertion : {g inner : ℕ} → g ≡ getD table at 0 → Next table at inner → g ≡ 2 → Prints (aStmt text table counts step inner indent false) table inner b p b₁ s
+      → Prints (anAExpr text table counts step at indent) table at b p b₁ s
   unfolding aexpr
   is-assertion {inner = inner} e n w x =
-      after-word (anAExpr text table counts at indent) (aStmt text table counts inner indent false) (λ a. AAssertion a) table at
+      after-word (anAExpr text table counts step at indent) (aStmt text table counts step inner indent false) (λ a. AAssertion a) table at
       (λ t rest d. let o = tree-at-word (namesIn (length text)) table at anAexpr t rest 2 d (sym e ∙ w) in (o .0 .0, o .1))
       (λ a rest k. (on (n .forward) (k .0), k .1)) (λ a. refl) 2 (λ a rest. refl) n x
 
-  pub is-plain : {g : ℕ} → g ≡ getD table at 0 → (g ≡ 2 → ⊥) → Prints (made (anAExpr text table counts at indent) (plainly text)) table at b p b₁ s
-      → Prints (anAExpr text table counts at indent) table at b p b₁ s
+  pub is-plain : {g : ℕ} → g ≡ getD table at 0 → (g ≡ 2 → ⊥) → Prints (made (anAExpr text table counts step at indent) (plainly text)) table at b p b₁ s
+      → Prints (anAExpr text table counts step at indent) table at b p b₁ s
   is-plain {g} e h x =
-      here (anAExpr text table counts at indent) (made (anAExpr text table counts at indent) (plainly text)) (plainly text) table at by-form (λ a rest k. k) (λ a. refl)
+      here (anAExpr text table counts step at indent) (made (anAExpr text table counts step at indent) (plainly text)) (plainly text) table at by-form (λ a rest k. k) (λ a. refl)
       (λ a rest. refl) x
     where
       by-form : (t : AExpr (N text)) (rest : List ℕ) → drop at table ≡ aExprWords (λ n. n .span) t rest → (a : Expr (N text)) × (plainly text a ≡ t)
@@ -74,70 +74,70 @@ module _ (text table counts : List ℕ) (at indent : ℕ) {b : List ℕ} {p : �
 
   module _ (followed : Bool) {g : ℕ} (e : g ≡ getD table at 0) where
     -- word 21
-    pub is-variable : g ≡ 21 → Prints (aVariable text table counts at indent followed) table at b p b₁ s → Prints (aStmt text table counts at indent followed) table at b p b₁ s
+    pub is-variable : g ≡ 21 → Prints (aVariable text table counts step at indent followed) table at b p b₁ s → Prints (aStmt text table counts step at indent followed) table at b p b₁ s
     is-variable w x =
-        here (aStmt text table counts at indent followed) (aVariable text table counts at indent followed) (λ a. VarDecl (a .0) (a .1) (a .2)) table at
+        here (aStmt text table counts step at indent followed) (aVariable text table counts step at indent followed) (λ a. VarDecl (a .0) (a .1) (a .2)) table at
         (λ t rest d. let o = tree-at-word (namesIn (length text)) table at stmt t rest 21 d (sym e ∙ w) in
         ((record { name = o .0 .0; isMutable = o .0 .1 .0; optionalType = o .0 .1 .1 .0; optionalAutoInv = o .0 .1 .1 .1 .0 }, o .0 .1 .1 .1 .1 .0, o .0 .1 .1 .1 .1 .1 .0), o .1))
         (λ a rest k. k) (λ a. refl) (λ a rest. refl) x
 
     -- word 24
-    pub is-block : g ≡ 24 → Prints (aBraces text table counts at indent) table at b p b₁ s → Prints (aStmt text table counts at indent followed) table at b p b₁ s
+    pub is-block : g ≡ 24 → Prints (aBraces text table counts step at indent) table at b p b₁ s → Prints (aStmt text table counts step at indent followed) table at b p b₁ s
     unfolding shown
     is-block w x =
-        here (aStmt text table counts at indent followed) (aBraces text table counts at indent) (λ a. Block a) table at
+        here (aStmt text table counts step at indent followed) (aBraces text table counts step at indent) (λ a. Block a) table at
         (λ t rest d. let o = tree-at-word (namesIn (length text)) table at stmt t rest 24 d (sym e ∙ w) in (o .0 .0, o .1))
         (λ a rest k. k) (λ a. refl) (λ a rest. refl) x
 
     -- word 30
-    pub is-forall : g ≡ 30 → Prints (aForall text table counts at indent) table at b p b₁ s → Prints (aStmt text table counts at indent followed) table at b p b₁ s
+    pub is-forall : g ≡ 30 → Prints (aForall text table counts step at indent) table at b p b₁ s → Prints (aStmt text table counts step at indent followed) table at b p b₁ s
     unfolding shown
     is-forall w x =
-        here (aStmt text table counts at indent followed) (aForall text table counts at indent) (λ a. AForall (a .0) (a .1) (a .2)) table at
+        here (aStmt text table counts step at indent followed) (aForall text table counts step at indent) (λ a. AForall (a .0) (a .1) (a .2)) table at
         (λ t rest d. let o = tree-at-word (namesIn (length text)) table at stmt t rest 30 d (sym e ∙ w) in ((o .0 .0, o .0 .1 .0, o .0 .1 .1 .0), o .1))
         (λ a rest k. k) (λ a. refl) (λ a rest. refl) x
 
     -- word 31
-    pub is-choose : g ≡ 31 → Prints (aChoose text table counts at indent) table at b p b₁ s → Prints (aStmt text table counts at indent followed) table at b p b₁ s
+    pub is-choose : g ≡ 31 → Prints (aChoose text table counts step at indent) table at b p b₁ s → Prints (aStmt text table counts step at indent followed) table at b p b₁ s
     unfolding shown
     is-choose w x =
-        here (aStmt text table counts at indent followed) (aChoose text table counts at indent) (λ a. Choose a) table at
+        here (aStmt text table counts step at indent followed) (aChoose text table counts step at indent) (λ a. Choose a) table at
         (λ t rest d. let o = tree-at-word (namesIn (length text)) table at stmt t rest 31 d (sym e ∙ w) in (o .0 .0, o .1))
         (λ a rest k. k) (λ a. refl) (λ a rest. refl) x
 
     -- word 32
-    pub is-if : g ≡ 32 → Prints (anIf text table counts at indent) table at b p b₁ s → Prints (aStmt text table counts at indent followed) table at b p b₁ s
+    pub is-if : g ≡ 32 → Prints (anIf text table counts step at indent) table at b p b₁ s → Prints (aStmt text table counts step at indent followed) table at b p b₁ s
     unfolding shown
     is-if w x =
-        here (aStmt text table counts at indent followed) (anIf text table counts at indent) (λ a. If (a .0) (a .1) (a .2)) table at
+        here (aStmt text table counts step at indent followed) (anIf text table counts step at indent) (λ a. If (a .0) (a .1) (a .2)) table at
         (λ t rest d. let o = tree-at-word (namesIn (length text)) table at stmt t rest 32 d (sym e ∙ w) in ((o .0 .0, o .0 .1 .0, o .0 .1 .1 .0), o .1))
         (λ a rest k. k) (λ a. refl) (λ a rest. refl) x
 
     -- word 33
-    pub is-cases : g ≡ 33 → Prints (anIfCase text table counts at indent) table at b p b₁ s → Prints (aStmt text table counts at indent followed) table at b p b₁ s
+    pub is-cases : g ≡ 33 → Prints (anIfCase text table counts step at indent) table at b p b₁ s → Prints (aStmt text table counts step at indent followed) table at b p b₁ s
     unfolding shown
     is-cases w x =
-        here (aStmt text table counts at indent followed) (anIfCase text table counts at indent) (λ a. IfCase a) table at
+        here (aStmt text table counts step at indent followed) (anIfCase text table counts step at indent) (λ a. IfCase a) table at
         (λ t rest d. let o = tree-at-word (namesIn (length text)) table at stmt t rest 33 d (sym e ∙ w) in (o .0 .0, o .1))
         (λ a rest k. k) (λ a. refl) (λ a rest. refl) x
 
     -- word 34
-    pub is-loop : g ≡ 34 → Prints (aLoop text table counts at indent) table at b p b₁ s → Prints (aStmt text table counts at indent followed) table at b p b₁ s
+    pub is-loop : g ≡ 34 → Prints (aLoop text table counts step at indent) table at b p b₁ s → Prints (aStmt text table counts step at indent followed) table at b p b₁ s
     unfolding shown
     is-loop w x =
-        here (aStmt text table counts at indent followed) (aLoop text table counts at indent) (λ a. Loop (a .0) (a .1)) table at
+        here (aStmt text table counts step at indent followed) (aLoop text table counts step at indent) (λ a. Loop (a .0) (a .1)) table at
         (λ t rest d. let o = tree-at-word (namesIn (length text)) table at stmt t rest 34 d (sym e ∙ w) in ((o .0 .0, o .0 .1 .0), o .1))
         (λ a rest k. k) (λ a. refl) (λ a rest. refl) x
 
     -- word 35
-    pub is-labelled : g ≡ 35 → Prints (aLabelled text table counts at indent) table at b p b₁ s → Prints (aStmt text table counts at indent followed) table at b p b₁ s
+    pub is-labelled : g ≡ 35 → Prints (aLabelled text table counts step at indent) table at b p b₁ s → Prints (aStmt text table counts step at indent followed) table at b p b₁ s
     unfolding shown
     is-labelled w x =
-        here (aStmt text table counts at indent followed) (aLabelled text table counts at indent) (λ a. LabeledStmt (a .0) (a .1)) table at
+        here (aStmt text table counts step at indent followed) (aLabelled text table counts step at indent) (λ a. LabeledStmt (a .0) (a .1)) table at
         (λ t rest d. let o = tree-at-word (namesIn (length text)) table at stmt t rest 35 d (sym e ∙ w) in ((o .0 .0, o .0 .1 .0), o .1))
         (λ a rest k. k) (λ a. refl) (λ a rest. refl) x
 
     -- another word
-    pub is-simple : (g ≡ getD table at 0 → Simple (getD table at 0)) → Prints (simplePart text table counts at indent followed) table at b p b₁ s
-        → Prints (aStmt text table counts at indent followed) table at b p b₁ s
+    pub is-simple : (g ≡ getD table at 0 → Simple (getD table at 0)) → Prints (simplePart text table counts step at indent followed) table at b p b₁ s
+        → Prints (aStmt text table counts step at indent followed) table at b p b₁ s
     is-simple f x = record { forward = x .forward; prints = λ t rest k d. x .prints t rest (f e, no-indent (k .0), k .1) d }

@@ -14,8 +14,8 @@ use Rattle.tree.specs.Ast.{Expr, Stmt, VarDecl, Assign, Reinit, Block, Call, Ch
 use Rattle.tree.specs.Words.{stmtWords, stmtsWords, casesWords, aExprWords, aExprsWords, exprWords}
 use Rattle.tree.specs.Counted.{stmtCount}
 use Rattle.tree.specs.Walk.{head-at}
-use Rattle.printing.specs.Text.{unless}
-use Rattle.printing.specs.Statements.{isNoStmts, isNoCases, isNoAExprs, shown, StatementList, choices, caseList, PrintAExprs}
+use Rattle.prints.specs.Text.{unless}
+use Rattle.prints.specs.Statements.{isNoStmts, isNoCases, isNoAExprs, shown, StatementList, choices, caseList, PrintAExprs}
 use Rattle.printing.specs.Entries.{nameIn}
 use Rattle.printing.specs.Parts.{Part}
 use Rattle.printing.specs.StmtParts.{N, lastStatements, branchList, caseSequence, aExprList}
@@ -57,28 +57,28 @@ pub others-left : (n left : ℕ) → left ≡ suc n → left - 1 ≡ n
 others-left n left e = omega arith
 
 -- an empty block's words
-pub empty-block-words : (text : List ℕ) (u : Stmt (N text)) (rest : List ℕ) {v : Bool} → v ≡ shown (nameIn text) 2 u .isEmptyBlock → v ≡ true
+pub empty-block-words : (text : List ℕ) (step : ℕ) (u : Stmt (N text)) (rest : List ℕ) {v : Bool} → v ≡ shown (nameIn text) step u .isEmptyBlock → v ≡ true
     → stmtWords (λ n. n .span) u rest ≡ 24 ∷ 0 ∷ rest
 unfolding shown
-empty-block-words text (VarDecl v i b) rest g h = impossible (ap (λ (w : Bool). elim w [ true ↦ 0 | false ↦ 1 ]) (sym h ∙ g))
-empty-block-words text (Assign n e) rest g h = impossible (ap (λ (w : Bool). elim w [ true ↦ 0 | false ↦ 1 ]) (sym h ∙ g))
-empty-block-words text (Reinit ns) rest g h = impossible (ap (λ (w : Bool). elim w [ true ↦ 0 | false ↦ 1 ]) (sym h ∙ g))
-empty-block-words text (Block noStmts) rest g h = refl
-empty-block-words text (Block (stmts s ss)) rest g h = impossible (ap (λ (w : Bool). elim w [ true ↦ 0 | false ↦ 1 ]) (sym h ∙ g))
-empty-block-words text (Call n cs) rest g h = impossible (ap (λ (w : Bool). elim w [ true ↦ 0 | false ↦ 1 ]) (sym h ∙ g))
-empty-block-words text (Check e) rest g h = impossible (ap (λ (w : Bool). elim w [ true ↦ 0 | false ↦ 1 ]) (sym h ∙ g))
-empty-block-words text (Assume e) rest g h = impossible (ap (λ (w : Bool). elim w [ true ↦ 0 | false ↦ 1 ]) (sym h ∙ g))
-empty-block-words text (Reach e) rest g h = impossible (ap (λ (w : Bool). elim w [ true ↦ 0 | false ↦ 1 ]) (sym h ∙ g))
-empty-block-words text (Assert e) rest g h = impossible (ap (λ (w : Bool). elim w [ true ↦ 0 | false ↦ 1 ]) (sym h ∙ g))
-empty-block-words text (AForall n t b) rest g h = impossible (ap (λ (w : Bool). elim w [ true ↦ 0 | false ↦ 1 ]) (sym h ∙ g))
-empty-block-words text (Choose ss) rest g h = impossible (ap (λ (w : Bool). elim w [ true ↦ 0 | false ↦ 1 ]) (sym h ∙ g))
-empty-block-words text (If e t u) rest g h = impossible (ap (λ (w : Bool). elim w [ true ↦ 0 | false ↦ 1 ]) (sym h ∙ g))
-empty-block-words text (IfCase cs) rest g h = impossible (ap (λ (w : Bool). elim w [ true ↦ 0 | false ↦ 1 ]) (sym h ∙ g))
-empty-block-words text (Loop is b) rest g h = impossible (ap (λ (w : Bool). elim w [ true ↦ 0 | false ↦ 1 ]) (sym h ∙ g))
-empty-block-words text (LabeledStmt n b) rest g h = impossible (ap (λ (w : Bool). elim w [ true ↦ 0 | false ↦ 1 ]) (sym h ∙ g))
-empty-block-words text (Exit l) rest g h = impossible (ap (λ (w : Bool). elim w [ true ↦ 0 | false ↦ 1 ]) (sym h ∙ g))
-empty-block-words text Return rest g h = impossible (ap (λ (w : Bool). elim w [ true ↦ 0 | false ↦ 1 ]) (sym h ∙ g))
-empty-block-words text (Probe e) rest g h = impossible (ap (λ (w : Bool). elim w [ true ↦ 0 | false ↦ 1 ]) (sym h ∙ g))
+empty-block-words text step (VarDecl v i b) rest g h = impossible (ap (λ (w : Bool). elim w [ true ↦ 0 | false ↦ 1 ]) (sym h ∙ g))
+empty-block-words text step (Assign n e) rest g h = impossible (ap (λ (w : Bool). elim w [ true ↦ 0 | false ↦ 1 ]) (sym h ∙ g))
+empty-block-words text step (Reinit ns) rest g h = impossible (ap (λ (w : Bool). elim w [ true ↦ 0 | false ↦ 1 ]) (sym h ∙ g))
+empty-block-words text step (Block noStmts) rest g h = refl
+empty-block-words text step (Block (stmts s ss)) rest g h = impossible (ap (λ (w : Bool). elim w [ true ↦ 0 | false ↦ 1 ]) (sym h ∙ g))
+empty-block-words text step (Call n cs) rest g h = impossible (ap (λ (w : Bool). elim w [ true ↦ 0 | false ↦ 1 ]) (sym h ∙ g))
+empty-block-words text step (Check e) rest g h = impossible (ap (λ (w : Bool). elim w [ true ↦ 0 | false ↦ 1 ]) (sym h ∙ g))
+empty-block-words text step (Assume e) rest g h = impossible (ap (λ (w : Bool). elim w [ true ↦ 0 | false ↦ 1 ]) (sym h ∙ g))
+empty-block-words text step (Reach e) rest g h = impossible (ap (λ (w : Bool). elim w [ true ↦ 0 | false ↦ 1 ]) (sym h ∙ g))
+empty-block-words text step (Assert e) rest g h = impossible (ap (λ (w : Bool). elim w [ true ↦ 0 | false ↦ 1 ]) (sym h ∙ g))
+empty-block-words text step (AForall n t b) rest g h = impossible (ap (λ (w : Bool). elim w [ true ↦ 0 | false ↦ 1 ]) (sym h ∙ g))
+empty-block-words text step (Choose ss) rest g h = impossible (ap (λ (w : Bool). elim w [ true ↦ 0 | false ↦ 1 ]) (sym h ∙ g))
+empty-block-words text step (If e t u) rest g h = impossible (ap (λ (w : Bool). elim w [ true ↦ 0 | false ↦ 1 ]) (sym h ∙ g))
+empty-block-words text step (IfCase cs) rest g h = impossible (ap (λ (w : Bool). elim w [ true ↦ 0 | false ↦ 1 ]) (sym h ∙ g))
+empty-block-words text step (Loop is b) rest g h = impossible (ap (λ (w : Bool). elim w [ true ↦ 0 | false ↦ 1 ]) (sym h ∙ g))
+empty-block-words text step (LabeledStmt n b) rest g h = impossible (ap (λ (w : Bool). elim w [ true ↦ 0 | false ↦ 1 ]) (sym h ∙ g))
+empty-block-words text step (Exit l) rest g h = impossible (ap (λ (w : Bool). elim w [ true ↦ 0 | false ↦ 1 ]) (sym h ∙ g))
+empty-block-words text step Return rest g h = impossible (ap (λ (w : Bool). elim w [ true ↦ 0 | false ↦ 1 ]) (sym h ∙ g))
+empty-block-words text step (Probe e) rest g h = impossible (ap (λ (w : Bool). elim w [ true ↦ 0 | false ↦ 1 ]) (sym h ∙ g))
 
 -- a sequence of statements stands in the table
 pub stmts-inside : (text table : List ℕ) (at : ℕ) (ss : Stmts (N text)) (rest : List ℕ) → drop at table ≡ stmtsWords (λ n. n .span) ss rest → at < length table
@@ -97,35 +97,35 @@ casesOf a = case (a .0) (a .1) (a .2)
 abbrev pub aexprsOf : {M : Type 0} → AExpr M × AExprs M → AExprs M
 aexprsOf a = aExprs (a .0) (a .1)
 
-module _ (text table counts : List ℕ) (at indent : ℕ) where
-  pub some-statements : (left : ℕ) → Listing (lastStatements text table counts at indent left) stmtsOf
+module _ (text table counts : List ℕ) (step at indent : ℕ) where
+  pub some-statements : (left : ℕ) → Listing (lastStatements text table counts step at indent left) stmtsOf
   unfolding StatementList
   some-statements left = record { view = by-items }
     where
-      by-items : (t : Stmts (N text)) → View (lastStatements text table counts at indent left) stmtsOf t
+      by-items : (t : Stmts (N text)) → View (lastStatements text table counts step at indent left) stmtsOf t
       by-items noStmts = nothing (λ rest. refl) refl
       by-items (stmts s ss) = something (s, ss) refl (λ rest. (stmtWords (λ n. n .span) s (stmtsWords (λ n. n .span) ss rest), refl))
 
-  pub some-branches : Listing (branchList text table counts at indent) stmtsOf
+  pub some-branches : Listing (branchList text table counts step at indent) stmtsOf
   unfolding choices
   some-branches = record { view = by-items }
     where
-      by-items : (t : Stmts (N text)) → View (branchList text table counts at indent) stmtsOf t
+      by-items : (t : Stmts (N text)) → View (branchList text table counts step at indent) stmtsOf t
       by-items noStmts = nothing (λ rest. refl) refl
       by-items (stmts s ss) = something (s, ss) refl (λ rest. (stmtWords (λ n. n .span) s (stmtsWords (λ n. n .span) ss rest), refl))
 
-  pub some-cases : Listing (caseSequence text table counts at indent) casesOf
+  pub some-cases : Listing (caseSequence text table counts step at indent) casesOf
   unfolding caseList
   some-cases = record { view = by-items }
     where
-      by-items : (t : Cases (N text)) → View (caseSequence text table counts at indent) casesOf t
+      by-items : (t : Cases (N text)) → View (caseSequence text table counts step at indent) casesOf t
       by-items noCases = nothing (λ rest. refl) refl
       by-items (case e s cs) = something (e, s, cs) refl (λ rest. (exprWords (λ n. n .span) e (stmtWords (λ n. n .span) s (casesWords (λ n. n .span) cs rest)), refl))
 
-  pub some-aexprs : (prefix : List ℕ) → Listing (aExprList text table counts at indent prefix) aexprsOf
+  pub some-aexprs : (prefix : List ℕ) → Listing (aExprList text table counts step at indent prefix) aexprsOf
   unfolding PrintAExprs
   some-aexprs prefix = record { view = by-items }
     where
-      by-items : (t : AExprs (N text)) → View (aExprList text table counts at indent prefix) aexprsOf t
+      by-items : (t : AExprs (N text)) → View (aExprList text table counts step at indent prefix) aexprsOf t
       by-items noAExprs = nothing (λ rest. refl) refl
       by-items (aExprs a es) = something (a, es) refl (λ rest. (aExprWords (λ n. n .span) a (aExprsWords (λ n. n .span) es rest), refl))

@@ -13,11 +13,11 @@ use Rattle.tree.specs.Ast.{ParameterMode, In, InOut, Out}
 use Rattle.tree.specs.Words.{boolWord, modeWord}
 use Rattle.printing.specs.declared.parts.Step.{Step}
 use Rattle.printing.specs.declared.items.Item.{Item}
-use Rattle.printing.specs.Text.{unless, _▹_, _▸_}
+use Rattle.prints.specs.Text.{unless, _▹_, _▸_}
 use Rattle.printing.specs.Wrote.{Wrote}
-use Rattle.printing.specs.Printer.{IdTypeDecl}
-use Rattle.printing.specs.Statements.{optional, modeText, mutability}
-use Rattle.printing.specs.Program.{injectiveText}
+use Rattle.prints.specs.Printer.{IdTypeDecl}
+use Rattle.prints.specs.Statements.{optional, modeText, mutability}
+use Rattle.prints.specs.Program.{injectiveText}
 use Rattle.printing.specs.Entries.{nameIn}
 use Rattle.printing.specs.Parts.{Prints, Next}
 use Rattle.printing.specs.StmtParts.{modeBytes, NextName, N, named, anItem}
@@ -52,11 +52,11 @@ mutability-by false e = rw e
 
 -- `IdTypeDecl` as a name and an optional type, before more
 pub id-type : (text prefix : List ℕ) (n : N text) (o : Option (N text)) (Z : List ℕ → List ℕ)
-    → _≡_ {A = List ℕ → List ℕ} (λ r. IdTypeDecl (nameIn text) 2 prefix n o (Z r)) (λ r. prefix ▹ nameIn text n ▹ optional (named text) (bytes ": ") o (Z r))
+    → _≡_ {A = List ℕ → List ℕ} (λ r. IdTypeDecl (nameIn text) prefix n o (Z r)) (λ r. prefix ▹ nameIn text n ▹ optional (named text) (bytes ": ") o (Z r))
 id-type text prefix n none Z = refl
 id-type text prefix n (some t) Z = refl
 
 -- an item of a kind
-pub of-kind : (text table counts : List ℕ) (at : ℕ) {k kind : Item} {b : List ℕ} {p : ℕ} {b₁ : List ℕ} {s : Step} → kind ≡ k → Prints (anItem text table counts at 0 k) table at b p b₁ s
-    → Prints (anItem text table counts at 0 kind) table at b p b₁ s
-of-kind text table counts at {b = b} {p = p} {b₁ = b₁} {s = s} e x = subst (λ (i : Item). Prints (anItem text table counts at 0 i) table at b p b₁ s) (sym e) x
+pub of-kind : (text table counts : List ℕ) (step at : ℕ) {k kind : Item} {b : List ℕ} {p : ℕ} {b₁ : List ℕ} {s : Step} → kind ≡ k → Prints (anItem text table counts step at 0 k) table at b p b₁ s
+    → Prints (anItem text table counts step at 0 kind) table at b p b₁ s
+of-kind text table counts step at {b = b} {p = p} {b₁ = b₁} {s = s} e x = subst (λ (i : Item). Prints (anItem text table counts step at 0 i) table at b p b₁ s) (sym e) x

@@ -1,7 +1,7 @@
 -- What the prints of statements need, from place to place: indents that grow no faster than the places, and counted sequences.
 use Prim.Native.Nat.{ℕ, _+_, _*_, _-_, _≤_, _<_}
 use native.Mathlib.Omega.{arith}
-use mathlib.Core.Path.{_≡_, ap}
+use mathlib.Core.Path.{_≡_, ap, _∙_}
 use mathlib.Core.Bool.{Bool, true, false}
 use mathlib.Core.List.{List, [], _∷_}
 use lib.ListN.{length, drop, length-drop}
@@ -14,41 +14,33 @@ use Rattle.tree.specs.Trees.{namesIn}
 use Rattle.tree.specs.Walk.{tree-at}
 use Rattle.tree.specs.Counted.{CountedItems}
 use Rattle.printing.specs.declared.parts.Step.{Step}
-use Rattle.printing.specs.declared.format.ExprFormatOption.the-variants.{SingleLine}
-use Rattle.printing.specs.PrintUtil.{Init}
+use Rattle.prints.specs.declared.format.ExprFormatOption.the-variants.{SingleLine}
+use Rattle.prints.specs.PrintUtil.{deeperBy, Init}
+use Rattle.prints.specs.Indents.{held}
 use Rattle.printing.specs.ExprParts.{Ready, anExpr}
 use Rattle.printing.specs.Parts.{Part, Prints, Next}
 use Rattle.printing.specs.StmtParts.{oneLine}
 use Rattle.printing.proofs.Places.{Place}
 
--- further on an indent fits that fitted before
-pub ready : (l : Place) {i j : ℕ} → j ≤ i → Ready (l .origin .table) (l .origin .at) i → Ready (l .origin .table) (l .next) j
-ready l h k = let r = k .room in let f = l .forward in record { few = k .few; room = omega arith }
-
--- and one step deeper once a word is passed
-pub ready-deeper : (l : Place) {i j : ℕ} → 1 ≤ l .taken → j ≤ i + 2 → Ready (l .origin .table) (l .origin .at) i
-    → Ready (l .origin .table) (l .next) j
-ready-deeper l t h k = let r = k .room in let f = l .forward in record { few = k .few; room = omega arith }
-
--- no indent in a checked table is as much as 65,536
-pub small : {table : List ℕ} {at i : ℕ} → at < length table → Ready table at i → i < 65536
-small h k = let f = k .few in let r = k .room in omega arith
+-- no indent in a checked table passes 64 bits, one step deeper
+pub small : {table : List ℕ} {step at i : ℕ} → at < length table → Ready table step at i → deeperBy step i ≡ i + step
+small {step = step} {i = i} h k = held step i (let f = k .few in let s = k .short in let r = k .room in omega arith)
 
 -- an indent, one step deeper and back
-pub small-indent : {table : List ℕ} {at : ℕ} (i : ℕ) → Ready table at (i + 2) → at < length table → i < 65536
-small-indent i k h = let f = k .few in let r = k .room in omega arith
+pub small-indent : {table : List ℕ} (step : ℕ) {at : ℕ} (i : ℕ) → Ready table step at (i + step) → at < length table → deeperBy step i ≡ i + step
+small-indent step i k h = held step i (let f = k .few in let r = k .room in omega arith)
 
-pub at-indent : {table : List ℕ} {at g : ℕ} (i : ℕ) → g ≡ i + 2 → Ready table at (i + 2) → Ready table at g
-at-indent i e k = let r = k .room in record { few = k .few; room = omega arith }
+pub at-indent : {table : List ℕ} {step at g : ℕ} (i : ℕ) → g ≡ i + step → Ready table step at (i + step) → Ready table step at g
+at-indent i e k = let r = k .room in record { few = k .few; short = k .short; room = omega arith }
 
-pub less-indent : {table : List ℕ} {at : ℕ} (i : ℕ) → Ready table at (i + 2) → Ready table at i
-less-indent i k = let r = k .room in record { few = k .few; room = omega arith }
+pub less-indent : {table : List ℕ} {step at : ℕ} (i : ℕ) → Ready table step at (i + step) → Ready table step at i
+less-indent i k = let r = k .room in record { few = k .few; short = k .short; room = omega arith }
 
-pub no-indent : {table : List ℕ} {at i : ℕ} → Ready table at i → Ready table at 0
-no-indent k = record { few = k .few; room = omega arith }
+pub no-indent : {table : List ℕ} {step at i : ℕ} → Ready table step at i → Ready table step at 0
+no-indent k = record { few = k .few; short = k .short; room = omega arith }
 
-pub deeper-small : (i : ℕ) {g : ℕ} → g ≡ i + 2 → g ≤ i + 2
-deeper-small i e = omega arith
+pub deeper-small : (step i : ℕ) {g : ℕ} → g ≡ i + step → g ≤ i + step
+deeper-small step i e = omega arith
 
 -- a part that asks for more than another
 pub asks-more : (P : Part) (G : P .Tree → List ℕ → Type 0) → ((t : P .Tree) (rest : List ℕ) → G t rest → P .given t rest)
@@ -57,10 +49,10 @@ pub asks-more : (P : Part) (G : P .Tree → List ℕ → Type 0) → ((t : P .Tr
 asks-more P G g x = record { forward = x .forward; prints = λ t rest k d. x .prints t rest (g t rest k) d }
 
 -- an expression on one line, by its function
-pub one-line : (text table counts : List ℕ) (at : ℕ) {b : List ℕ} {p : ℕ} {b₁ : List ℕ} {s : Step} → Prints (anExpr text table counts at Init SingleLine) table at b p b₁ s
-    → Prints (oneLine text table counts at 0) table at b p b₁ s
-one-line text table counts at x =
-    asks-more (anExpr text table counts at Init SingleLine) (oneLine text table counts at 0 .given) (λ t rest k. k) x
+pub one-line : (text table counts : List ℕ) (step at : ℕ) {b : List ℕ} {p : ℕ} {b₁ : List ℕ} {s : Step} → Prints (anExpr text table counts step at Init SingleLine) table at b p b₁ s
+    → Prints (oneLine text table counts step at 0) table at b p b₁ s
+one-line text table counts step at x =
+    asks-more (anExpr text table counts step at Init SingleLine) (oneLine text table counts step at 0 .given) (λ t rest k. k) x
 
 -- the items of a list that need nothing
 pub free-items : {A : Type 0} (words : A → List ℕ → List ℕ) (l : List A) (rest : List ℕ) → CountedItems words (λ a ws. Unit {0}) l rest
@@ -74,10 +66,14 @@ pub sooner : (l : Place) (k r : ℕ) {t : ℕ} → k < 5 → 1 ≤ l .taken → 
     → 5 * (length (l .origin .table) - l .next) + k < t
 sooner l k r h m i e = let f = l .forward in omega arith
 
--- the indent of a declaration is at most one step deeper
-pub own-small : (f : Bool) (i : ℕ) {g : ℕ} → g ≡ pick f i (i + 2) → g ≤ i + 2
-own-small true i e = omega arith
-own-small false i e = omega arith
+-- the indent of a declaration
+pub own-is : (f : Bool) (step i : ℕ) {g : ℕ} → g ≡ pick f i (deeperBy step i) → deeperBy step i ≡ i + step → g ≡ pick f i (i + step)
+own-is f step i e h = e ∙ ap (pick f i) h
+
+-- it is at most one step deeper
+pub own-small : (f : Bool) (step i : ℕ) {g : ℕ} → g ≡ pick f i (i + step) → g ≤ i + step
+own-small true step i e = omega arith
+own-small false step i e = omega arith
 
 -- a statement stands in the table
 pub stmt-inside : (text table : List ℕ) (at : ℕ) (t : Stmt (NameIn (length text))) (rest : List ℕ) → drop at table ≡ stmtWords (λ n. n .span) t rest → at < length table

@@ -14,7 +14,7 @@ use Rattle.tree.specs.Kind.{stmt}
 use Rattle.tree.specs.Check.{NameIn}
 use Rattle.tree.specs.Trees.{namesIn}
 use Rattle.tree.specs.Walk.{tree-at-word}
-use Rattle.printing.specs.Statements.{Shown, isNoStmts, shown}
+use Rattle.prints.specs.Statements.{Shown, isNoStmts, shown}
 use Rattle.printing.specs.Entries.{nameIn}
 use Rattle.printing.specs.Parts.{Next}
 use Rattle.printing.specs.StmtParts.{Tells}
@@ -35,9 +35,9 @@ otherwise w s i l n e = record { if-is = i; loop-is = l; no-list = λ _. n; not-
 same-word : {w v : ℕ} {s : Shown} → w ≡ v → Told v s → Told w s
 same-word {s = s} e t = subst (λ (x : ℕ). Told x s) (sym e) t
 
-module _ (text table : List ℕ) (at : ℕ) where
+module _ (text : List ℕ) (step : ℕ) (table : List ℕ) (at : ℕ) where
   abbrev pub S : Stmt (NameIn (length text)) → Shown
-  S s = shown (nameIn text) 2 s
+  S s = shown (nameIn text) step s
 
   -- the word at a statement's place tells it
   pub told : (s : Stmt (NameIn (length text))) (rest : List ℕ) → drop at table ≡ stmtWords (λ n. n .span) s rest → Told (getD table at 0) (S s)
@@ -66,32 +66,32 @@ module _ (text table : List ℕ) (at : ℕ) where
 module _ {table : List ℕ} {at g : ℕ} (e : g ≡ getD table at 0) where
   -- word 32
   pub tells-if : g ≡ 32 → Tells table at (λ s. s .isIf) true
-  tells-if w = record { tells = λ text t rest d. sym (told text table at t rest d .if-is ∙ ap (λ (v : ℕ). eqb v 32 || eqb v 33) (sym e ∙ w)) }
+  tells-if w = record { tells = λ text step t rest d. sym (told text step table at t rest d .if-is ∙ ap (λ (v : ℕ). eqb v 32 || eqb v 33) (sym e ∙ w)) }
 
   -- word 33, or neither
   pub tells-case : (g ≡ 32 → ⊥) → Tells table at (λ s. s .isIf) (eqb g 33)
   tells-case h =
       record {
-        tells = λ text t rest d.
-            sym (told text table at t rest d .if-is ∙ ap (λ (v : ℕ). eqb v 32 || eqb v 33) (sym e) ∙ ap (λ (v : Bool). v || eqb g 33) (ne-eqb g 32 h));
+        tells = λ text step t rest d.
+            sym (told text step table at t rest d .if-is ∙ ap (λ (v : ℕ). eqb v 32 || eqb v 33) (sym e) ∙ ap (λ (v : Bool). v || eqb g 33) (ne-eqb g 32 h));
       }
 
   -- word 34, or another
   pub tells-loop : Tells table at (λ s. s .isLoop) (eqb g 34)
-  tells-loop = record { tells = λ text t rest d. sym (told text table at t rest d .loop-is ∙ ap (λ (v : ℕ). eqb v 34) (sym e)) }
+  tells-loop = record { tells = λ text step t rest d. sym (told text step table at t rest d .loop-is ∙ ap (λ (v : ℕ). eqb v 34) (sym e)) }
 
   -- no block
   pub tells-other : (g ≡ 24 → ⊥) → Tells table at (λ s. s .isEmptyBlock) false
-  tells-other h = record { tells = λ text t rest d. sym (told text table at t rest d .not-empty (λ k. h (e ∙ k))) }
+  tells-other h = record { tells = λ text step t rest d. sym (told text step table at t rest d .not-empty (λ k. h (e ∙ k))) }
 
   -- a block, by the word after its own
   pub tells-empty : {inner h : ℕ} → g ≡ 24 → Next table at inner → h ≡ getD table inner 0 → Tells table at (λ s. s .isEmptyBlock) (eqb h 0)
   unfolding shown
   tells-empty {inner} {h} w n f =
       record {
-        tells = λ text t rest d.
+        tells = λ text step t rest d.
             let o = tree-at-word (namesIn (length text)) table at stmt t rest 24 d (sym e ∙ w) in
-            subst (λ (u : Stmt (NameIn (length text))). eqb h 0 ≡ shown (nameIn text) 2 u .isEmptyBlock) (o .1)
+            subst (λ (u : Stmt (NameIn (length text))). eqb h 0 ≡ shown (nameIn text) step u .isEmptyBlock) (o .1)
             (by-items text (o .0 .0) rest (subst (λ (u : Stmt (NameIn (length text))). drop at table ≡ stmtWords (λ m. m .span) u rest) (sym (o .1)) d));
       }
     where

@@ -1,15 +1,15 @@
 // The sequences that hold expressions: each function prints the items from a place on and answers the place after them and the place in
 // the output.
 use crate::expression::expr;
-use crate::format::ExprFormatOption;
 use crate::forms::pattern_head;
 use crate::parts::Step;
 use crate::parts::after;
 use crate::parts::closure_head;
-use crate::power::BindingPower;
 use crate::write::put;
 use crate::write::put_separator;
 use crate::write::put_unless;
+use prints::BindingPower;
+use prints::ExprFormatOption;
 use tree::get;
 ghost use Rattle.printing.specs.Parts.{Prints};
 ghost use Rattle.printing.specs.ExprParts.{expressionList, patternList, triggerList, closureList, propertyList};
@@ -19,12 +19,13 @@ pub(crate) fn exprs(
     text: &[u8],
     words: &[u32],
     counts: &[u16],
+    step: usize,
     at: usize,
     first: bool,
     out: &mut [u8],
     pos: usize,
 ) -> Step
-    ensures { λ r. ⌜ Prints (expressionList (now (text .entry)) (now (words .entry)) (now (counts .entry)) at first) (now (words .entry)) at (now (out .entry)) pos (now (out .exit)) r ⌝ }
+    ensures { λ r. ⌜ Prints (expressionList (now (text .entry)) (now (words .entry)) (now (counts .entry)) step at first) (now (words .entry)) at (now (out .entry)) pos (now (out .exit)) r ⌝ }
 {
     let inner = after(words, at);
     if get(words, at) == 0 {
@@ -35,13 +36,14 @@ pub(crate) fn exprs(
         text,
         words,
         counts,
+        step,
         inner,
         BindingPower::INIT,
         ExprFormatOption::SingleLine,
         out,
         a,
     );
-    exprs(text, words, counts, s.next, false, out, s.pos)
+    exprs(text, words, counts, step, s.next, false, out, s.pos)
 }
 
 // A quantifier's patterns.
@@ -49,20 +51,21 @@ pub(crate) fn patterns(
     text: &[u8],
     words: &[u32],
     counts: &[u16],
+    step: usize,
     at: usize,
     ind: ExprFormatOption,
     out: &mut [u8],
     pos: usize,
 ) -> Step
-    ensures { λ r. ⌜ Prints (patternList (now (text .entry)) (now (words .entry)) (now (counts .entry)) at ind) (now (words .entry)) at (now (out .entry)) pos (now (out .exit)) r ⌝ }
+    ensures { λ r. ⌜ Prints (patternList (now (text .entry)) (now (words .entry)) (now (counts .entry)) step at ind) (now (words .entry)) at (now (out .entry)) pos (now (out .exit)) r ⌝ }
 {
     let inner = after(words, at);
     if get(words, at) == 0 {
         return Step { next: inner, pos };
     }
     let a = pattern_head(ind, out, pos);
-    let s = exprs(text, words, counts, inner, true, out, a);
-    patterns(text, words, counts, s.next, ind, out, s.pos)
+    let s = exprs(text, words, counts, step, inner, true, out, a);
+    patterns(text, words, counts, step, s.next, ind, out, s.pos)
 }
 
 // A closure property's triggers.
@@ -70,20 +73,21 @@ pub(crate) fn triggers(
     text: &[u8],
     words: &[u32],
     counts: &[u16],
+    step: usize,
     at: usize,
     out: &mut [u8],
     pos: usize,
 ) -> Step
-    ensures { λ r. ⌜ Prints (triggerList (now (text .entry)) (now (words .entry)) (now (counts .entry)) at) (now (words .entry)) at (now (out .entry)) pos (now (out .exit)) r ⌝ }
+    ensures { λ r. ⌜ Prints (triggerList (now (text .entry)) (now (words .entry)) (now (counts .entry)) step at) (now (words .entry)) at (now (out .entry)) pos (now (out .exit)) r ⌝ }
 {
     let inner = after(words, at);
     if get(words, at) == 0 {
         return Step { next: inner, pos };
     }
     let a = put(out, pos, b"trigger ");
-    let s = exprs(text, words, counts, inner, true, out, a);
+    let s = exprs(text, words, counts, step, inner, true, out, a);
     let b = put(out, s.pos, b" ");
-    triggers(text, words, counts, s.next, out, b)
+    triggers(text, words, counts, step, s.next, out, b)
 }
 
 // A closure's bindings.
@@ -91,12 +95,13 @@ pub(crate) fn closures(
     text: &[u8],
     words: &[u32],
     counts: &[u16],
+    step: usize,
     at: usize,
     first: bool,
     out: &mut [u8],
     pos: usize,
 ) -> Step
-    ensures { λ r. ⌜ Prints (closureList (now (text .entry)) (now (words .entry)) (now (counts .entry)) at first) (now (words .entry)) at (now (out .entry)) pos (now (out .exit)) r ⌝ }
+    ensures { λ r. ⌜ Prints (closureList (now (text .entry)) (now (words .entry)) (now (counts .entry)) step at first) (now (words .entry)) at (now (out .entry)) pos (now (out .exit)) r ⌝ }
 {
     let inner = after(words, at);
     if get(words, at) == 0 {
@@ -107,13 +112,14 @@ pub(crate) fn closures(
         text,
         words,
         counts,
+        step,
         s.next,
         BindingPower::INIT,
         ExprFormatOption::SingleLine,
         out,
         s.pos,
     );
-    closures(text, words, counts, t.next, false, out, t.pos)
+    closures(text, words, counts, step, t.next, false, out, t.pos)
 }
 
 // A closure's properties.
@@ -121,29 +127,31 @@ pub(crate) fn properties(
     text: &[u8],
     words: &[u32],
     counts: &[u16],
+    step: usize,
     at: usize,
     first: bool,
     out: &mut [u8],
     pos: usize,
 ) -> Step
-    ensures { λ r. ⌜ Prints (propertyList (now (text .entry)) (now (words .entry)) (now (counts .entry)) at first) (now (words .entry)) at (now (out .entry)) pos (now (out .exit)) r ⌝ }
+    ensures { λ r. ⌜ Prints (propertyList (now (text .entry)) (now (words .entry)) (now (counts .entry)) step at first) (now (words .entry)) at (now (out .entry)) pos (now (out .exit)) r ⌝ }
 {
     let inner = after(words, at);
     if get(words, at) == 0 {
         return Step { next: inner, pos };
     }
     let a = put_separator(out, pos, first);
-    let s = triggers(text, words, counts, inner, out, a);
+    let s = triggers(text, words, counts, step, inner, out, a);
     let b = put_unless(out, s.pos, get(words, inner) == 0, b":: ");
     let t = expr(
         text,
         words,
         counts,
+        step,
         s.next,
         BindingPower::INIT,
         ExprFormatOption::SingleLine,
         out,
         b,
     );
-    properties(text, words, counts, t.next, false, out, t.pos)
+    properties(text, words, counts, step, t.next, false, out, t.pos)
 }

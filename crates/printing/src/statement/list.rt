@@ -3,16 +3,16 @@
 use crate::around::count_at;
 use crate::around::fewer;
 use crate::expression::expr;
-use crate::format::ExprFormatOption;
 use crate::parts::Step;
 use crate::parts::after;
-use crate::power::BindingPower;
 use crate::statement::aexpr;
 use crate::statement::block;
 use crate::statement::stmt;
 use crate::write::put;
 use crate::write::put_either;
 use crate::write::put_indent;
+use prints::BindingPower;
+use prints::ExprFormatOption;
 use tree::get;
 ghost use Rattle.printing.specs.Parts.{Prints};
 ghost use Rattle.printing.specs.StmtParts.{statementList, lastStatements, branchList, caseSequence, aExprList};
@@ -22,17 +22,19 @@ pub(crate) fn list(
     text: &[u8],
     words: &[u32],
     counts: &[u16],
+    step: usize,
     at: usize,
     indent: usize,
     out: &mut [u8],
     pos: usize,
 ) -> Step
-    ensures { λ r. ⌜ Prints (statementList (now (text .entry)) (now (words .entry)) (now (counts .entry)) at indent) (now (words .entry)) at (now (out .entry)) pos (now (out .exit)) r ⌝ }
+    ensures { λ r. ⌜ Prints (statementList (now (text .entry)) (now (words .entry)) (now (counts .entry)) step at indent) (now (words .entry)) at (now (out .entry)) pos (now (out .exit)) r ⌝ }
 {
     stmts(
         text,
         words,
         counts,
+        step,
         at,
         count_at(counts, at),
         indent,
@@ -46,21 +48,32 @@ fn stmts(
     text: &[u8],
     words: &[u32],
     counts: &[u16],
+    step: usize,
     at: usize,
     left: usize,
     indent: usize,
     out: &mut [u8],
     pos: usize,
 ) -> Step
-    ensures { λ r. ⌜ Prints (lastStatements (now (text .entry)) (now (words .entry)) (now (counts .entry)) at indent left) (now (words .entry)) at (now (out .entry)) pos (now (out .exit)) r ⌝ }
+    ensures { λ r. ⌜ Prints (lastStatements (now (text .entry)) (now (words .entry)) (now (counts .entry)) step at indent left) (now (words .entry)) at (now (out .entry)) pos (now (out .exit)) r ⌝ }
 {
     let inside = after(words, at);
     if get(words, at) == 0 {
         return Step { next: inside, pos };
     }
     let a = put_indent(out, pos, indent);
-    let s = stmt(text, words, counts, inside, indent, left == 1, out, a);
-    stmts(text, words, counts, s.next, fewer(left), indent, out, s.pos)
+    let s = stmt(text, words, counts, step, inside, indent, left == 1, out, a);
+    stmts(
+        text,
+        words,
+        counts,
+        step,
+        s.next,
+        fewer(left),
+        indent,
+        out,
+        s.pos,
+    )
 }
 
 // The branches of a Choose.
@@ -68,20 +81,21 @@ pub(crate) fn branches(
     text: &[u8],
     words: &[u32],
     counts: &[u16],
+    step: usize,
     at: usize,
     indent: usize,
     out: &mut [u8],
     pos: usize,
 ) -> Step
-    ensures { λ r. ⌜ Prints (branchList (now (text .entry)) (now (words .entry)) (now (counts .entry)) at indent) (now (words .entry)) at (now (out .entry)) pos (now (out .exit)) r ⌝ }
+    ensures { λ r. ⌜ Prints (branchList (now (text .entry)) (now (words .entry)) (now (counts .entry)) step at indent) (now (words .entry)) at (now (out .entry)) pos (now (out .exit)) r ⌝ }
 {
     let inside = after(words, at);
     if get(words, at) == 0 {
         return Step { next: inside, pos };
     }
-    let s = block(text, words, counts, inside, indent, out, pos);
+    let s = block(text, words, counts, step, inside, indent, out, pos);
     let a = put_either(out, s.pos, get(words, s.next) == 0, b"\n", b" or ");
-    branches(text, words, counts, s.next, indent, out, a)
+    branches(text, words, counts, step, s.next, indent, out, a)
 }
 
 // The cases of an IfCase.
@@ -89,12 +103,13 @@ pub(crate) fn cases(
     text: &[u8],
     words: &[u32],
     counts: &[u16],
+    step: usize,
     at: usize,
     indent: usize,
     out: &mut [u8],
     pos: usize,
 ) -> Step
-    ensures { λ r. ⌜ Prints (caseSequence (now (text .entry)) (now (words .entry)) (now (counts .entry)) at indent) (now (words .entry)) at (now (out .entry)) pos (now (out .exit)) r ⌝ }
+    ensures { λ r. ⌜ Prints (caseSequence (now (text .entry)) (now (words .entry)) (now (counts .entry)) step at indent) (now (words .entry)) at (now (out .entry)) pos (now (out .exit)) r ⌝ }
 {
     let inside = after(words, at);
     if get(words, at) == 0 {
@@ -105,6 +120,7 @@ pub(crate) fn cases(
         text,
         words,
         counts,
+        step,
         inside,
         BindingPower::INIT,
         ExprFormatOption::SingleLine,
@@ -112,9 +128,9 @@ pub(crate) fn cases(
         a,
     );
     let b = put(out, s.pos, b" ");
-    let t = block(text, words, counts, s.next, indent, out, b);
+    let t = block(text, words, counts, step, s.next, indent, out, b);
     let c = put_either(out, t.pos, get(words, t.next) == 0, b"\n", b" ");
-    cases(text, words, counts, t.next, indent, out, c)
+    cases(text, words, counts, step, t.next, indent, out, c)
 }
 
 // `PrintAExprs`.
@@ -122,13 +138,14 @@ pub(crate) fn aexprs(
     text: &[u8],
     words: &[u32],
     counts: &[u16],
+    step: usize,
     at: usize,
     prefix: &[u8],
     indent: usize,
     out: &mut [u8],
     pos: usize,
 ) -> Step
-    ensures { λ r. ⌜ Prints (aExprList (now (text .entry)) (now (words .entry)) (now (counts .entry)) at indent (now (prefix .entry))) (now (words .entry)) at (now (out .entry)) pos (now (out .exit)) r ⌝ }
+    ensures { λ r. ⌜ Prints (aExprList (now (text .entry)) (now (words .entry)) (now (counts .entry)) step at indent (now (prefix .entry))) (now (words .entry)) at (now (out .entry)) pos (now (out .exit)) r ⌝ }
 {
     let inside = after(words, at);
     if get(words, at) == 0 {
@@ -137,6 +154,16 @@ pub(crate) fn aexprs(
     let a = put_indent(out, pos, indent);
     let b = put(out, a, prefix);
     let c = put(out, b, b" ");
-    let s = aexpr(text, words, counts, inside, indent, out, c);
-    aexprs(text, words, counts, s.next, prefix, indent, out, s.pos)
+    let s = aexpr(text, words, counts, step, inside, indent, out, c);
+    aexprs(
+        text,
+        words,
+        counts,
+        step,
+        s.next,
+        prefix,
+        indent,
+        out,
+        s.pos,
+    )
 }

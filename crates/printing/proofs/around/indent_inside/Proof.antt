@@ -5,13 +5,13 @@ use Rattle.printing.proofs.around.indent_inside.Statement.{statement}
 use Rattle.printing.proofs.around.indent_inside.Tie as tie
 
 returns : tie.Need-returns
-returns c = λ h. rw (c .if1 .taken)
+returns c = rw (c .if1 .taken)
 
 deeper-requires : tie.Need-deeper-requires
 deeper-requires c κs = search needs
 
 returns-2 : tie.Need-returns-2
-returns-2 c = λ h. rw (c .before .if1 .left) (c .deeper .ensures h)
+returns-2 c = rw (c .before .if1 .left) (c .deeper .ensures)
 
 pub indent-inside-spec : {M : Type 1} → statement M
 indent-inside-spec = tie.close (tie.spec returns deeper-requires returns-2)

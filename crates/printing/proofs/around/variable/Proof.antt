@@ -1,24 +1,23 @@
 -- `var` or `val` by the word after the name, the name, its type, the invariant, the value.
 use mathlib.Core.Path.{refl}
-use Rattle.printing.proofs.Places.{Place, begin, done, part, passed, seen, text, text-of}
+use Rattle.printing.proofs.Places.{Place, begin, done, part, passed, seen, text, text-of, ready}
 use Rattle.grammar.specs.Words.{bytes}
-use Rattle.printing.specs.Text.{_▸_}
+use Rattle.prints.specs.Text.{_▸_}
 use Rattle.printing.specs.Entries.{nameIn}
-use Rattle.printing.specs.Statements.{optional, mutability, inline, OptionalAutoInvariant}
+use Rattle.prints.specs.Statements.{optional, mutability, inline, OptionalAutoInvariant}
 use Rattle.printing.specs.StmtParts.{variableHead}
 use Rattle.printing.proofs.PartPrints.Joins.{word-at}
 use Rattle.printing.proofs.StmtPrints.Pieces.{same-bytes, mutability-by, id-type}
 use native.Mathlib.Nat.{le-refl}
-use Rattle.printing.proofs.StmtPrints.Room.{ready}
 use native.Mathlib.Omega.{arith}
 use borrow.Author.Needs.{needs}
 use Rattle.printing.proofs.around.variable.Statement.{statement}
 use Rattle.printing.proofs.around.variable.Tie as tie
 
 abbrev at-start : tie.Start → Place
-at-start c = seen (begin (variableHead (c .args .text .now) (c .args .words .now) (c .args .counts .now) (c .args .at) 0) (c .args .words .now) (c .args .at) (c .args .out .now) (c .args .pos)) _
+at-start c = seen (begin (variableHead (c .args .text .now) (c .args .words .now) (c .args .counts .now) (c .args .step) (c .args .at) 0) (c .args .words .now) (c .args .at) (c .args .out .now) (c .args .pos)) _
     (λ x. id-type (c .args .text .now) (bytes (mutability (x .tree .0 .isMutable))) (x .tree .0 .name) (x .tree .0 .optionalType)
-    (λ r. OptionalAutoInvariant (nameIn (c .args .text .now)) 2 (x .tree .0 .optionalAutoInv) (optional (inline (nameIn (c .args .text .now)) 2) (bytes " := ") (x .tree .1) ("\n" ▸ r))))
+    (λ r. OptionalAutoInvariant (nameIn (c .args .text .now)) (c .args .step) (x .tree .0 .optionalAutoInv) (optional (inline (nameIn (c .args .text .now)) (c .args .step)) (bytes " := ") (x .tree .1) ("\n" ▸ r))))
 
 abbrev at-put-either : tie.After-put-either → Place
 at-put-either c = text-of (at-start (c .before .before .before .before .before .before .before .before .before .before)) _ _ (λ x. same-bytes (mutability-by (x .tree .0 .isMutable) (word-at

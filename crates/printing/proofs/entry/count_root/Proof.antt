@@ -21,14 +21,15 @@ same-length c = search needs
 
 returns : tie.Need-returns
 returns c =
-    checked-by (c .before .before .before .before .before .before .before .before .before .args .text .now) (c .before .before .before .before .before .before .before .before .before .args .words .now) (c .before .before .before .before .before .before .before .before .before .args .counts .now) (c .before .before .before .before .enum-told .given .1) (c .before .before .count-expression .ensures)
+    checked-by (c .before .before .before .before .before .before .before .before .before .args .text .now) (c .before .before .before .before .before .before .before .before .before .args .words .now) (c .before .before .before .before .before .before .before .before .before .args .counts .now) 2 (c .before .before .before .before .enum-told .given .1)
+    (c .before .before .count-expression .ensures)
 
 same-length-2 : tie.Need-same-length-2
 same-length-2 c = search needs
 
 returns-2 : tie.Need-returns-2
 returns-2 c =
-    checked-by (c .before .before .before .before .before .before .before .before .before .args .text .now) (c .before .before .before .before .before .before .before .before .before .args .words .now) (c .before .before .before .before .before .before .before .before .before .args .counts .now) (c .before .before .before .before .enum-told2 .given .1) (c .before .before .count-program .ensures)
+    checked-by (c .before .before .before .before .before .before .before .before .before .args .text .now) (c .before .before .before .before .before .before .before .before .before .args .words .now) (c .before .before .before .before .before .before .before .before .before .args .counts .now) 2 (c .before .before .before .before .enum-told2 .given .1) (c .before .before .count-program .ensures)
 
 pub count-root-spec : {M : Type 1} → statement M
 count-root-spec =

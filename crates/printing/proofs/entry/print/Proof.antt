@@ -6,7 +6,7 @@ use Rattle.printing.proofs.entry.print.Statement.{statement}
 use Rattle.printing.proofs.entry.print.Tie as tie
 
 returns : tie.Need-returns
-returns c = long-text (rooted (c .before .before .before .before .args .text .now) (c .before .before .before .before .args .root)) (c .before .before .before .before .args .text .now) (c .before .before .before .before .args .words .now) (c .before .before .before .before .args .out .now) (c .if1 .taken)
+returns c = long-text (rooted 2 (c .before .before .before .before .args .text .now) (c .before .before .before .before .args .root)) (c .before .before .before .before .args .text .now) (c .before .before .before .before .args .words .now) (c .before .before .before .before .args .out .now) (c .if1 .taken)
 
 slice-aggregate-print-counted : tie.Need-slice-aggregate-print-counted
 slice-aggregate-print-counted c = search needs

@@ -16,7 +16,7 @@ enum-told c = search needs
 print-by-requires : tie.Need-print-by-requires
 print-by-requires c κs = (
   c .before .before .before .before .before .before .before .before .before .before .before .before .pre .1,
-  numbered (c .before .before .before .before .before .before .before .before .before .before .before .before .args .text .now) (c .before .before .before .before .before .before .before .before .before .before .before .before .args .words .now) (c .before .before .before .before .before .before .before .before .before .before .before .before .args .counts .now)
+  numbered (c .before .before .before .before .before .before .before .before .before .before .before .before .args .text .now) (c .before .before .before .before .before .before .before .before .before .before .before .before .args .words .now) (c .before .before .before .before .before .before .before .before .before .before .before .before .args .counts .now) 2
       (c .before .before .before .before .before .before .before .before .before .before .before .before .args .root) (c .before .before .before .before .before .before .before .before .before .before .before .before .pre .2)
       (sym (c .before .before .before .before .before .before .count-root .ensures .0) ∙ ap checkRefusal (c .before .before .enum-told .given .1)) (c .before .before .before .before .before .before .count-root .ensures .1),
 )
@@ -35,11 +35,11 @@ same-length-2 c = search needs
 
 returns : tie.Need-returns
 returns c =
-    accepted (rooted (c .before .before .before .before .before .before .before .before .before .before .before .before .before .before .before .args .text .now) (c .before .before .before .before .before .before .before .before .before .before .before .before .before .before .before .args .root))
+    accepted (rooted 2 (c .before .before .before .before .before .before .before .before .before .before .before .before .before .before .before .args .text .now) (c .before .before .before .before .before .before .before .before .before .before .before .before .before .before .before .args .root))
     (c .before .before .before .before .before .before .before .before .before .before .before .before .before .before .before .args .text .now) (c .before .before .before .before .before .before .before .before .before .before .before .before .before .before .before .args .words .now)
     (c .before .before .before .before .before .before .before .before .before .before .before .before .before .before .before .args .out .now) (c .before .before .before .before .before .before .before .before .before .before .before .before .before .before .before .pre .0)
     (c .before .before .before .before .before .before .before .before .before .before .before .before .before .before .before .pre .1)
-    (root-laws (c .before .before .before .before .before .before .before .before .before .before .before .before .before .before .before .args .text .now) (c .before .before .before .before .before .before .before .before .before .before .before .before .before .before .before .args .root))
+    (root-laws 2 (c .before .before .before .before .before .before .before .before .before .before .before .before .before .before .before .args .text .now) (c .before .before .before .before .before .before .before .before .before .before .before .before .before .before .before .args .root))
     (sym (c .before .before .before .before .before .before .before .before .before .count-root .ensures .0) ∙ ap checkRefusal (c .before .before .before .before .before .enum-told .given .1)) (c .before .before .print-by .ensures)
 
 same-length-3 : tie.Need-same-length-3
@@ -47,7 +47,7 @@ same-length-3 c = search needs
 
 returns-2 : tie.Need-returns-2
 returns-2 c =
-    refused (rooted (c .before .before .before .before .before .before .before .before .before .before .before .args .text .now) (c .before .before .before .before .before .before .before .before .before .before .before .args .root)) (c .before .before .before .before .before .before .before .before .before .before .before .args .text .now)
+    refused (rooted 2 (c .before .before .before .before .before .before .before .before .before .before .before .args .text .now) (c .before .before .before .before .before .before .before .before .before .before .before .args .root)) (c .before .before .before .before .before .before .before .before .before .before .before .args .text .now)
     (c .before .before .before .before .before .before .before .before .before .before .before .args .words .now) (c .before .before .before .before .before .before .before .before .before .before .before .args .out .now) (c .before .before .before .before .before .before .before .before .before .before .before .pre .0)
     (c .before .before .before .before .before .before .before .before .before .before .before .pre .1)
     (sym (c .before .before .before .before .before .count-root .ensures .0) ∙ ap checkRefusal (c .before .found .given .1))
@@ -57,7 +57,7 @@ same-length-4 c = search needs
 
 returns-3 : tie.Need-returns-3
 returns-3 c =
-    refused (rooted (c .before .before .before .before .before .before .before .before .before .before .args .text .now) (c .before .before .before .before .before .before .before .before .before .before .args .root)) (c .before .before .before .before .before .before .before .before .before .before .args .text .now)
+    refused (rooted 2 (c .before .before .before .before .before .before .before .before .before .before .args .text .now) (c .before .before .before .before .before .before .before .before .before .before .args .root)) (c .before .before .before .before .before .before .before .before .before .before .args .text .now)
     (c .before .before .before .before .before .before .before .before .before .before .args .words .now) (c .before .before .before .before .before .before .before .before .before .before .args .out .now) (c .before .before .before .before .before .before .before .before .before .before .pre .0) (c .before .before .before .before .before .before .before .before .before .before .pre .1)
     (sym (c .before .before .before .before .count-root .ensures .0) ∙ ap checkRefusal (c .enum-told2 .given .1))
 

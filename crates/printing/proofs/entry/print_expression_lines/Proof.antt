@@ -1,7 +1,7 @@
 -- The refusal of a start indent; else the print.
 use Rattle.printing.proofs.EntryAnswers.{deep-indent}
 use Rattle.printing.specs.Entries.{expressions}
-use Rattle.printing.specs.declared.format.ExprFormatOption.the-variants.{MultipleLines}
+use Rattle.prints.specs.declared.format.ExprFormatOption.the-variants.{MultipleLines}
 use borrow.Author.Needs.{needs}
 use Rattle.printing.proofs.entry.print_expression_lines.Statement.{statement}
 use Rattle.printing.proofs.entry.print_expression_lines.Tie as tie

@@ -1,5 +1,6 @@
 -- What the printer wrote into the buffer, handed over.
 use Rattle.printing.proofs.EntryAnswers.{through}
+use native.Mathlib.Omega.{arith}
 use borrow.Author.Needs.{needs}
 use Rattle.printing.proofs.entry.print_through.Statement.{statement}
 use Rattle.printing.proofs.entry.print_through.Tie as tie
@@ -17,8 +18,8 @@ same-length-2 : tie.Need-same-length-2
 same-length-2 c = search needs
 
 returns : tie.Need-returns
-returns c = through (c .before .before .before .before .before .before .before .before .before .before .before .before .before .before .args .text .now)
-    (c .before .before .before .before .before .before .before .before .before .before .before .before .before .before .args .root)
+returns c = through 2 (c .before .before .before .before .before .before .before .before .before .before .before .before .before .before .args .text .now)
+    (c .before .before .before .before .before .before .before .before .before .before .before .before .before .before .args .root) (omega arith)
     (c .before .before .before .before .before .before .before .before .before .before .before .before .before .before .pre .0)
     (c .before .before .before .before .before .before .before .before .before .before .before .before .before .before .pre .1)
     (c .before .before .before .before .before .before .before .before .before .before .before .before .before .before .pre .2)

@@ -2,7 +2,7 @@
 use mathlib.Core.Path.{sym, ap}
 use mathlib.Core.Bool.{Bool}
 use Rattle.lexing.specs.Answer.{pick}
-use Rattle.printing.specs.declared.format.ExprFormatOption.the-variants.{SingleLine}
+use Rattle.prints.specs.declared.format.ExprFormatOption.the-variants.{SingleLine}
 use Rattle.printing.proofs.Operators.Surroundings.{format-by}
 use borrow.Author.Needs.{needs}
 use Rattle.printing.proofs.forms.format_after.Statement.{statement}

@@ -12,9 +12,8 @@ use Rattle.printing.specs.StmtParts.{itemPrint, itemList}
 use Rattle.tree.proofs.get.Reads as get
 use Rattle.printing.proofs as fn
 use fn.PartPrints.Joins.{inside, passed as nearer}
-use fn.Places.{Place, begin, item, seen, text, part, done}
+use fn.Places.{Place, begin, item, seen, text, part, done, ready}
 use fn.Sequences.{made, cons, a-list, at-none, at-some, separated-print}
-use fn.StmtPrints.Room.{ready}
 use fn.items.+separated.{statement}
 use fn.items.+separated.Tie.{close}
 use fn.items.+separated.Lts-separated as lts
@@ -22,7 +21,7 @@ use fn.items.separated.Kinds as kinds
 use fn.items.separated.Reads.{Pre, Post}
 
 abbrev μ-separated : Measures 5 kinds.ps ℕ
-μ-separated κs a = length (a .1 .0 .now) - a .1 .1 .1 .1 .0
+μ-separated κs a = length (a .1 .0 .now) - a .1 .1 .1 .1 .1 .0
 
 abbrev separated-at : ℕ → In 5 kinds.ps
 separated-at t = and 5 kinds.ps (is 5 kinds.ps μ-separated t) Pre
@@ -50,12 +49,12 @@ module _ (t : ℕ) where
 
   -- the list at the function's place
   abbrev list : Of lts.Start → Part
-  list c = itemList (c .args .text .now) (c .args .words .now) (c .args .counts .now) (c .args .at) 0 (c .args .kind) (c .args .first .now)
+  list c = itemList (c .args .text .now) (c .args .words .now) (c .args .counts .now) (c .args .step) (c .args .at) 0 (c .args .kind) (c .args .first .now)
 
   abbrev at-start : Of lts.Start → Place
   at-start c =
       seen (begin (made (list c) cons) (c .args .words .now) (c .args .at) (c .args .out .now) (c .args .pos)) _
-      (λ x. separated-print (itemPrint (c .args .text .now) (c .args .words .now) (c .args .counts .now) (c .args .at) 0 (c .args .kind)) (c .args .first .now) (bytes ", ") (x .tree .0) (x .tree .1))
+      (λ x. separated-print (itemPrint (c .args .text .now) (c .args .words .now) (c .args .counts .now) (c .args .step) (c .args .at) 0 (c .args .kind)) (c .args .first .now) (bytes ", ") (x .tree .0) (x .tree .1))
 
   -- an item stands here
   is-inside : (c : Of lts.Else1) → c .before .before .before .before .before .before .before .before .args .at < length (c .before .before .before .before .before .before .before .before .args .words .now)

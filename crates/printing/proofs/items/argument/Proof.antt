@@ -1,18 +1,17 @@
 -- The mode, and the expression.
 use mathlib.Core.Path.{refl}
-use Rattle.printing.proofs.Places.{Place, begin, done, part, passed, text-of}
+use Rattle.printing.proofs.Places.{Place, begin, done, part, passed, text-of, ready}
 use Rattle.printing.specs.declared.items.Item.the-variants.{Argument}
 use Rattle.printing.specs.StmtParts.{anItem}
 use Rattle.printing.proofs.PartPrints.Joins.{word-at}
 use Rattle.printing.proofs.StmtPrints.Pieces.{mode-written}
 use native.Mathlib.Nat.{le-refl}
-use Rattle.printing.proofs.StmtPrints.Room.{ready}
 use borrow.Author.Needs.{needs}
 use Rattle.printing.proofs.items.argument.Statement.{statement}
 use Rattle.printing.proofs.items.argument.Tie as tie
 
 abbrev at-start : tie.Start → Place
-at-start c = begin (anItem (c .args .text .now) (c .args .words .now) (c .args .counts .now) (c .args .at) 0 Argument) (c .args .words .now) (c .args .at) (c .args .out .now) (c .args .pos)
+at-start c = begin (anItem (c .args .text .now) (c .args .words .now) (c .args .counts .now) (c .args .step) (c .args .at) 0 Argument) (c .args .words .now) (c .args .at) (c .args .out .now) (c .args .pos)
 
 abbrev at-put-mode : tie.After-put-mode → Place
 at-put-mode c = text-of (at-start (c .before .before .before .before .before .before)) _ _ (λ x. mode-written (c .before .before .before .before .before .before .args .words .now) _ (x .tree .mode) (word-at (c .before .before .before .before .before .before .args .words .now) _ refl (x .stands)) (c .put-mode .ensures)) (λ x. refl)

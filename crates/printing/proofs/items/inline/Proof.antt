@@ -12,7 +12,7 @@ same-length c = search needs
 
 returns : tie.Need-returns
 returns c = one-line (c .before .before .before .before .before .before .before .before .args .text .now) (c .before .before .before .before .before .before .before .before .args .words .now)
-    (c .before .before .before .before .before .before .before .before .args .counts .now) (c .before .before .before .before .before .before .before .before .args .at) (c .before .before .expr .ensures)
+    (c .before .before .before .before .before .before .before .before .args .counts .now) (c .before .before .before .before .before .before .before .before .args .step) (c .before .before .before .before .before .before .before .before .args .at) (c .before .before .expr .ensures)
 
 pub inline-spec : {M : Type 1} → statement M
 inline-spec = tie.close (tie.spec expr-requires same-length returns)

@@ -38,11 +38,11 @@ same-length c = search needs
 returns : tie.Need-returns
 returns c = of-kind (c .before .before .before .before .before .before .before .before .before .before .args .text .now)
     (c .before .before .before .before .before .before .before .before .before .before .args .words .now)
-    (c .before .before .before .before .before .before .before .before .before .before .args .counts .now) (c .before .before .before .before .before .before .before .before .before .before .args .at)
+    (c .before .before .before .before .before .before .before .before .before .before .args .counts .now) (c .before .before .before .before .before .before .before .before .before .before .args .step) (c .before .before .before .before .before .before .before .before .before .before .args .at)
     (c .before .before .before .before .enum-told .given .1) (asks-more (aName (c .before .before .before .before .before .before .before .before .before .before .args .text .now)) (anItem
     (c .before .before .before .before .before .before .before .before .before .before .args .text .now)
     (c .before .before .before .before .before .before .before .before .before .before .args .words .now)
-    (c .before .before .before .before .before .before .before .before .before .before .args .counts .now)
+    (c .before .before .before .before .before .before .before .before .before .before .args .counts .now) (c .before .before .before .before .before .before .before .before .before .before .args .step)
     (c .before .before .before .before .before .before .before .before .before .before .args .at) 0 Name .given) (λ t rest k. tt) (c .before .before .put-name .ensures))
 
 same-length-2 : tie.Need-same-length-2
@@ -51,7 +51,7 @@ same-length-2 c = search needs
 returns-2 : tie.Need-returns-2
 returns-2 c = of-kind (c .before .before .before .before .before .before .before .before .before .before .args .text .now)
     (c .before .before .before .before .before .before .before .before .before .before .args .words .now)
-    (c .before .before .before .before .before .before .before .before .before .before .args .counts .now) (c .before .before .before .before .before .before .before .before .before .before .args .at)
+    (c .before .before .before .before .before .before .before .before .before .before .args .counts .now) (c .before .before .before .before .before .before .before .before .before .before .args .step) (c .before .before .before .before .before .before .before .before .before .before .args .at)
     (c .before .before .before .before .enum-told2 .given .1) (c .before .before .argument .ensures)
 
 same-length-3 : tie.Need-same-length-3
@@ -60,11 +60,11 @@ same-length-3 c = search needs
 returns-3 : tie.Need-returns-3
 returns-3 c = of-kind (c .before .before .before .before .before .before .before .before .before .before .args .text .now)
     (c .before .before .before .before .before .before .before .before .before .before .args .words .now)
-    (c .before .before .before .before .before .before .before .before .before .before .args .counts .now) (c .before .before .before .before .before .before .before .before .before .before .args .at)
+    (c .before .before .before .before .before .before .before .before .before .before .args .counts .now) (c .before .before .before .before .before .before .before .before .before .before .args .step) (c .before .before .before .before .before .before .before .before .before .before .args .at)
     (c .before .before .before .before .enum-told3 .given .1) (asks-more (formalPart (c .before .before .before .before .before .before .before .before .before .before .args .text .now)) (anItem
     (c .before .before .before .before .before .before .before .before .before .before .args .text .now)
     (c .before .before .before .before .before .before .before .before .before .before .args .words .now)
-    (c .before .before .before .before .before .before .before .before .before .before .args .counts .now)
+    (c .before .before .before .before .before .before .before .before .before .before .args .counts .now) (c .before .before .before .before .before .before .before .before .before .before .args .step)
     (c .before .before .before .before .before .before .before .before .before .before .args .at) 0 Formal .given) (λ t rest k. tt) (c .before .before .formal .ensures))
 
 same-length-4 : tie.Need-same-length-4
@@ -73,7 +73,7 @@ same-length-4 c = search needs
 returns-4 : tie.Need-returns-4
 returns-4 c = of-kind (c .before .before .before .before .before .before .before .before .before .before .args .text .now)
     (c .before .before .before .before .before .before .before .before .before .before .args .words .now)
-    (c .before .before .before .before .before .before .before .before .before .before .args .counts .now) (c .before .before .before .before .before .before .before .before .before .before .args .at)
+    (c .before .before .before .before .before .before .before .before .before .before .args .counts .now) (c .before .before .before .before .before .before .before .before .before .before .args .step) (c .before .before .before .before .before .before .before .before .before .before .args .at)
     (c .before .before .before .before .enum-told4 .given .1) (c .before .before .parameter .ensures)
 
 pub one-spec : {M : Type 1} → statement M

@@ -1,17 +1,16 @@
 -- An expression, or nothing, by the option's word.
 use mathlib.Core.Path.{refl}
-use Rattle.printing.proofs.Places.{Place, begin, done, part, passed, text}
+use Rattle.printing.proofs.Places.{Place, begin, done, part, passed, text, ready}
 use mathlib.Core.Option.{some}
 use Rattle.printing.specs.StmtParts.{optionalExpr}
 use Rattle.printing.proofs.Sequences.{made, an-option, at-none, at-some}
 use native.Mathlib.Nat.{le-refl}
-use Rattle.printing.proofs.StmtPrints.Room.{ready}
 use borrow.Author.Needs.{needs}
 use Rattle.printing.proofs.items.optional_expr.Statement.{statement}
 use Rattle.printing.proofs.items.optional_expr.Tie as tie
 
 abbrev at-start : tie.Start → Place
-at-start c = begin (made (optionalExpr (c .args .text .now) (c .args .words .now) (c .args .counts .now) (c .args .at) 0 (c .args .prefix .now)) some) (c .args .words .now) (c .args .at) (c .args .out .now) (c .args .pos)
+at-start c = begin (made (optionalExpr (c .args .text .now) (c .args .words .now) (c .args .counts .now) (c .args .step) (c .args .at) 0 (c .args .prefix .now)) some) (c .args .words .now) (c .args .at) (c .args .out .now) (c .args .pos)
 
 abbrev at-after : tie.After-after → Place
 at-after c = passed (at-start (c .before .before .before .before .before .before)) (c .after .ensures) _ _ (λ x. refl)
@@ -30,7 +29,7 @@ get-requires c κs = search needs
 
 returns : tie.Need-returns
 returns c = at-none (optionalExpr (c .before .before .before .before .before .before .before .before .args .text .now)
-    (c .before .before .before .before .before .before .before .before .args .words .now) (c .before .before .before .before .before .before .before .before .args .counts .now)
+    (c .before .before .before .before .before .before .before .before .args .words .now) (c .before .before .before .before .before .before .before .before .args .counts .now) (c .before .before .before .before .before .before .before .before .args .step)
     (c .before .before .before .before .before .before .before .before .args .at) 0 (c .before .before .before .before .before .before .before .before .args .prefix .now)) some (an-option _ _ _
     (c .before .before .before .before .before .before .before .before .args .prefix .now)) (c .before .get .ensures) (c .before .before .after .ensures) (c .if1 .taken)
 
@@ -46,7 +45,7 @@ same-length c = search needs
 returns-2 : tie.Need-returns-2
 returns-2 c = at-some (optionalExpr (c .before .before .before .before .before .before .before .before .before .before .before .before .before .before .before .before .args .text .now)
     (c .before .before .before .before .before .before .before .before .before .before .before .before .before .before .before .before .args .words .now)
-    (c .before .before .before .before .before .before .before .before .before .before .before .before .before .before .before .before .args .counts .now)
+    (c .before .before .before .before .before .before .before .before .before .before .before .before .before .before .before .before .args .counts .now) (c .before .before .before .before .before .before .before .before .before .before .before .before .before .before .before .before .args .step)
     (c .before .before .before .before .before .before .before .before .before .before .before .before .before .before .before .before .args .at) 0
     (c .before .before .before .before .before .before .before .before .before .before .before .before .before .before .before .before .args .prefix .now)) some (an-option _ _ _
     (c .before .before .before .before .before .before .before .before .before .before .before .before .before .before .before .before .args .prefix .now))

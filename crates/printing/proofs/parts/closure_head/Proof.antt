@@ -1,6 +1,6 @@
 -- The separator, the name, the parameters and the sign of a closure's binding.
 use Rattle.grammar.specs.Words.{bytes}
-use Rattle.printing.specs.Text.{unless}
+use Rattle.prints.specs.Text.{unless}
 use Rattle.printing.proofs.PartPrints.HeadPrints.{closure-head}
 use borrow.Author.Needs.{needs}
 use Rattle.printing.proofs.parts.closure_head.Statement.{statement}

@@ -4,8 +4,8 @@ use borrow.Author.Needs.{needs}
 use Rattle.printing.proofs.parts.label_head.Statement.{statement}
 use Rattle.printing.proofs.parts.label_head.Tie as tie
 
-parenthesis-requires : tie.Need-parenthesis-requires
-parenthesis-requires c κs = search needs
+endless-parenthesis-requires : tie.Need-endless-parenthesis-requires
+endless-parenthesis-requires c κs = search needs
 
 put-name-requires : tie.Need-put-name-requires
 put-name-requires c κs = search needs
@@ -22,14 +22,14 @@ same-length c = search needs
 returns : tie.Need-returns
 returns c = label-head
     (c .before .before .before .before .before .before .before .before .before .before .before .before .before .before .before .before .args .text .now)
-    _ (c .before .before .before .before .before .before .before .before .before .before .before .parenthesis .ensures)
+    _ (c .before .before .before .before .before .before .before .before .before .before .before .endless-parenthesis .ensures)
     (c .before .before .before .before .before .before .before .put-name .ensures) (c .before .before .put .ensures)
 
 pub label-head-spec : {M : Type 1} → statement M
 label-head-spec =
     tie.close
     (tie.spec
-    parenthesis-requires
+    endless-parenthesis-requires
     put-name-requires
     slice-aggregate-put
     put-requires

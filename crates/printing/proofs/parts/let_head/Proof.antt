@@ -4,8 +4,8 @@ use borrow.Author.Needs.{needs}
 use Rattle.printing.proofs.parts.let_head.Statement.{statement}
 use Rattle.printing.proofs.parts.let_head.Tie as tie
 
-parenthesis-requires : tie.Need-parenthesis-requires
-parenthesis-requires c κs = search needs
+endless-parenthesis-requires : tie.Need-endless-parenthesis-requires
+endless-parenthesis-requires c κs = search needs
 
 slice-aggregate-put : tie.Need-slice-aggregate-put
 slice-aggregate-put c = search needs
@@ -29,7 +29,7 @@ returns : tie.Need-returns
 returns c = let-head
     (c .before .before .before .before .before .before .before .before .before .before .before .before .before .before .before .before .before .before .before .before .before .args .text .now)
     _
-    (c .before .before .before .before .before .before .before .before .before .before .before .before .before .before .before .before .parenthesis .ensures)
+    (c .before .before .before .before .before .before .before .before .before .before .before .before .before .before .before .before .endless-parenthesis .ensures)
     (c .before .before .before .before .before .before .before .before .before .before .before .put .ensures)
     (c .before .before .before .before .before .before .before .id-type .ensures) (c .before .before .put2 .ensures)
 
@@ -37,7 +37,7 @@ pub let-head-spec : {M : Type 1} → statement M
 let-head-spec =
     tie.close
     (tie.spec
-    parenthesis-requires
+    endless-parenthesis-requires
     slice-aggregate-put
     put-requires
     id-type-requires

@@ -4,8 +4,8 @@ use borrow.Author.Needs.{needs}
 use Rattle.printing.proofs.parts.quantifier_head.Statement.{statement}
 use Rattle.printing.proofs.parts.quantifier_head.Tie as tie
 
-parenthesis-requires : tie.Need-parenthesis-requires
-parenthesis-requires c κs = search needs
+endless-parenthesis-requires : tie.Need-endless-parenthesis-requires
+endless-parenthesis-requires c κs = search needs
 
 quantified-requires : tie.Need-quantified-requires
 quantified-requires c κs = search needs
@@ -15,8 +15,8 @@ same-length c = search needs
 
 returns : tie.Need-returns
 returns c = quantifier-head (c .before .before .before .before .before .before .before .before .before .before .before .args .text .now) _
-    (c .before .before .before .before .before .before .parenthesis .ensures) (c .before .before .quantified .ensures)
+    (c .before .before .before .before .before .before .endless-parenthesis .ensures) (c .before .before .quantified .ensures)
 
 pub quantifier-head-spec : {M : Type 1} → statement M
 quantifier-head-spec =
-    tie.close (tie.spec parenthesis-requires quantified-requires same-length returns)
+    tie.close (tie.spec endless-parenthesis-requires quantified-requires same-length returns)

@@ -12,9 +12,8 @@ use Rattle.printing.specs.DeclParts.{declPrint, declList}
 use Rattle.tree.proofs.get.Reads as get
 use Rattle.printing.proofs as fn
 use fn.PartPrints.Joins.{inside, passed as nearer}
-use fn.Places.{Place, begin, item, seen, text, part, done}
+use fn.Places.{Place, begin, item, seen, text, part, done, ready}
 use fn.Sequences.{made, cons, a-list, at-none, at-some, separated-print}
-use fn.StmtPrints.Room.{ready}
 use fn.program.+decls.{statement}
 use fn.program.+decls.Tie.{close}
 use fn.program.+decls.Lts-decls as lts
@@ -22,7 +21,7 @@ use fn.program.decls.Kinds as kinds
 use fn.program.decls.Reads.{Pre, Post}
 
 abbrev μ-decls : Measures 4 kinds.ps ℕ
-μ-decls κs a = length (a .1 .0 .now) - a .1 .1 .1 .1 .0
+μ-decls κs a = length (a .1 .0 .now) - a .1 .1 .1 .1 .1 .0
 
 abbrev decls-at : ℕ → In 4 kinds.ps
 decls-at t = and 4 kinds.ps (is 4 kinds.ps μ-decls t) Pre
@@ -50,12 +49,12 @@ module _ (t : ℕ) where
 
   -- the list at the function's place
   abbrev list : Of lts.Start → Part
-  list c = declList (c .args .text .now) (c .args .words .now) (c .args .counts .now) (c .args .at) (c .args .kind)
+  list c = declList (c .args .text .now) (c .args .words .now) (c .args .counts .now) (c .args .step) (c .args .at) (c .args .kind)
 
   abbrev at-start : Of lts.Start → Place
   at-start c =
       seen (begin (made (list c) cons) (c .args .words .now) (c .args .at) (c .args .out .now) (c .args .pos)) _
-      (λ x. separated-print (declPrint (c .args .text .now) (c .args .words .now) (c .args .counts .now) (c .args .at) (c .args .kind)) (bytes "\n") (bytes "\n") (x .tree .0) (x .tree .1))
+      (λ x. separated-print (declPrint (c .args .text .now) (c .args .words .now) (c .args .counts .now) (c .args .step) (c .args .at) (c .args .kind)) (bytes "\n") (bytes "\n") (x .tree .0) (x .tree .1))
 
   -- an item stands here
   is-inside : (c : Of lts.Else1) → c .before .before .before .before .before .before .before .args .at < length (c .before .before .before .before .before .before .before .args .words .now)

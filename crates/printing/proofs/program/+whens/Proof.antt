@@ -12,9 +12,8 @@ use Rattle.printing.specs.DeclParts.{whenList}
 use Rattle.tree.proofs.get.Reads as get
 use Rattle.printing.proofs as fn
 use fn.PartPrints.Joins.{inside, passed as nearer}
-use fn.Places.{Place, begin, item, seen, text, part, done}
+use fn.Places.{Place, begin, item, seen, text, part, done, ready}
 use fn.Sequences.{made, at-none, at-some}
-use fn.StmtPrints.Room.{ready}
 use fn.DeclPrints.{whensOf, some-whens, whens-print}
 use fn.program.+whens.{statement}
 use fn.program.+whens.Tie.{close}
@@ -23,7 +22,7 @@ use fn.program.whens.Kinds as kinds
 use fn.program.whens.Reads.{Pre, Post}
 
 abbrev μ-whens : Measures 4 kinds.ps ℕ
-μ-whens κs a = length (a .1 .0 .now) - a .1 .1 .1 .0
+μ-whens κs a = length (a .1 .0 .now) - a .1 .1 .1 .1 .0
 
 abbrev whens-at : ℕ → In 4 kinds.ps
 whens-at t = and 4 kinds.ps (is 4 kinds.ps μ-whens t) Pre
@@ -53,11 +52,11 @@ module _ (t : ℕ) where
 
   -- the list at the function's place
   abbrev list : Of lts.Start → Part
-  list c = whenList (c .args .text .now) (c .args .words .now) (c .args .counts .now) (c .args .at)
+  list c = whenList (c .args .text .now) (c .args .words .now) (c .args .counts .now) (c .args .step) (c .args .at)
 
   abbrev at-start : Of lts.Start → Place
   at-start c =
-      seen (begin (made (list c) whensOf) (c .args .words .now) (c .args .at) (c .args .out .now) (c .args .pos)) _ (λ x. whens-print (c .args .text .now) (x .tree .0) (x .tree .1))
+      seen (begin (made (list c) whensOf) (c .args .words .now) (c .args .at) (c .args .out .now) (c .args .pos)) _ (λ x. whens-print (c .args .text .now) (c .args .step) (x .tree .0) (x .tree .1))
 
   -- a clause stands here
   is-inside : (c : Of lts.Else1) → c .before .before .before .before .before .before .before .args .at < length (c .before .before .before .before .before .before .before .args .words .now)
@@ -83,6 +82,7 @@ module _ (t : ℕ) where
 
   returns : Of lts.Need-returns
   returns c = at-none (list (c .before .before .before .before .before .before .before)) whensOf (some-whens (c .before .before .before .before .before .before .before .args .text .now) (c .before .before .before .before .before .before .before .args .words .now) (c .before .before .before .before .before .before .before .args .counts .now)
+      (c .before .before .before .before .before .before .before .args .step)
       (c .before .before .before .before .before .before .before .args .at)) (c .before .get .ensures) (c .before .before .after .ensures) (c .if1 .taken)
 
   whens-requires : Of lts.Need-whens-requires
@@ -98,6 +98,7 @@ module _ (t : ℕ) where
       (some-whens (c .before .before .before .before .before .before .before .before .before .before .before .before .before .before .before .before .before .before .before .before .before .before .before .before .before .before .before .before .before .args .text .now)
       (c .before .before .before .before .before .before .before .before .before .before .before .before .before .before .before .before .before .before .before .before .before .before .before .before .before .before .before .before .before .args .words .now)
       (c .before .before .before .before .before .before .before .before .before .before .before .before .before .before .before .before .before .before .before .before .before .before .before .before .before .before .before .before .before .args .counts .now)
+      (c .before .before .before .before .before .before .before .before .before .before .before .before .before .before .before .before .before .before .before .before .before .before .before .before .before .before .before .before .before .args .step)
       (c .before .before .before .before .before .before .before .before .before .before .before .before .before .before .before .before .before .before .before .before .before .before .before .before .before .before .before .before .before .args .at))
       (c .before .before .before .before .before .before .before .before .before .before .before .before .before .before .before .before .before .before .before .before .before .before .before .get .ensures)
       (c .before .before .before .before .before .before .before .before .before .before .before .before .before .before .before .before .before .before .before .before .before .before .if1 .left) (done (at-end (c .before .before)) (λ x. refl) (λ x. refl))

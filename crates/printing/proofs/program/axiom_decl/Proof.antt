@@ -1,6 +1,6 @@
 -- The word, the names that it explains, and the expression on lines of its own.
 use mathlib.Core.Path.{refl}
-use Rattle.printing.proofs.Places.{Place, begin, done, part, text}
+use Rattle.printing.proofs.Places.{Place, begin, done, part, text, ready}
 use Rattle.printing.specs.declared.items.Item.the-variants.{Name}
 use Rattle.printing.specs.declared.program.Decl.the-variants.{Axioms}
 use Rattle.printing.specs.StmtParts.{itemWords}
@@ -8,13 +8,12 @@ use Rattle.printing.proofs.StmtPrints.Room.{free-items}
 use Rattle.printing.specs.DeclParts.{aDecl}
 use native.Mathlib.Nat.{le-refl}
 use native.Mathlib.Omega.{arith}
-use Rattle.printing.proofs.StmtPrints.Room.{ready}
 use borrow.Author.Needs.{needs}
 use Rattle.printing.proofs.program.axiom_decl.Statement.{statement}
 use Rattle.printing.proofs.program.axiom_decl.Tie as tie
 
 abbrev at-start : tie.Start → Place
-at-start c = begin (aDecl (c .args .text .now) (c .args .words .now) (c .args .counts .now) (c .args .at) Axioms) (c .args .words .now) (c .args .at) (c .args .out .now) (c .args .pos)
+at-start c = begin (aDecl (c .args .text .now) (c .args .words .now) (c .args .counts .now) (c .args .step) (c .args .at) Axioms) (c .args .words .now) (c .args .at) (c .args .out .now) (c .args .pos)
 
 abbrev at-put : tie.After-put → Place
 at-put c = text (at-start (c .before .before .before .before .before .before .before)) (c .put .ensures) _ (λ x. refl)
@@ -25,6 +24,7 @@ at-separated c =
       ready (at-put (c .before .before .before .before .before)) (omega arith) (x .given .0),
       free-items
           (itemWords (c .before .before .before .before .before .before .before .before .before .before .before .before .args .text .now) (c .before .before .before .before .before .before .before .before .before .before .before .before .args .words .now) (c .before .before .before .before .before .before .before .before .before .before .before .before .args .counts .now)
+          (c .before .before .before .before .before .before .before .before .before .before .before .before .args .step)
           (c .before .before .before .before .before .before .before .before .before .before .before .before .args .at) 0 Name) (x .tree .explains) _,
     )) _ (λ x. refl) (λ x. refl)
 

@@ -1,15 +1,14 @@
 -- The indent, and the expression from it on.
 use mathlib.Core.Path.{refl}
-use Rattle.printing.proofs.Places.{Place, begin, done, part, text}
+use Rattle.printing.proofs.Places.{Place, begin, done, part, text, ready}
 use Rattle.printing.specs.DeclParts.{broken}
 use native.Mathlib.Nat.{le-refl}
-use Rattle.printing.proofs.StmtPrints.Room.{ready}
 use borrow.Author.Needs.{needs}
 use Rattle.printing.proofs.program.broken_lines.Statement.{statement}
 use Rattle.printing.proofs.program.broken_lines.Tie as tie
 
 abbrev at-start : tie.Start → Place
-at-start c = begin (broken (c .args .text .now) (c .args .words .now) (c .args .counts .now) (c .args .at)) (c .args .words .now) (c .args .at) (c .args .out .now) (c .args .pos)
+at-start c = begin (broken (c .args .text .now) (c .args .words .now) (c .args .counts .now) (c .args .step) (c .args .at)) (c .args .words .now) (c .args .at) (c .args .out .now) (c .args .pos)
 
 abbrev at-put-indent : tie.After-put-indent → Place
 at-put-indent c = text (at-start (c .before .before .before .before .before .before)) (c .put-indent .ensures) _ (λ x. refl)

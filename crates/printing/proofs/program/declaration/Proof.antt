@@ -43,9 +43,11 @@ same-length c = search needs
 returns : tie.Need-returns
 returns c =
     of-kind (c .before .before .before .before .before .before .before .before .before .before .args .text .now) (c .before .before .before .before .before .before .before .before .before .before .args .words .now) (c .before .before .before .before .before .before .before .before .before .before .args .counts .now)
+    (c .before .before .before .before .before .before .before .before .before .before .args .step)
     (c .before .before .before .before .before .before .before .before .before .before .args .at) (c .before .before .before .before .enum-told .given .1)
     (asks-more (aTypeDecl (c .before .before .before .before .before .before .before .before .before .before .args .text .now))
     (aDecl (c .before .before .before .before .before .before .before .before .before .before .args .text .now) (c .before .before .before .before .before .before .before .before .before .before .args .words .now) (c .before .before .before .before .before .before .before .before .before .before .args .counts .now)
+    (c .before .before .before .before .before .before .before .before .before .before .args .step)
     (c .before .before .before .before .before .before .before .before .before .before .args .at) Types .given) (λ t rest k. tt) (c .before .before .type-decl .ensures))
 
 same-length-2 : tie.Need-same-length-2
@@ -54,9 +56,11 @@ same-length-2 c = search needs
 returns-2 : tie.Need-returns-2
 returns-2 c =
     of-kind (c .before .before .before .before .before .before .before .before .before .before .args .text .now) (c .before .before .before .before .before .before .before .before .before .before .args .words .now) (c .before .before .before .before .before .before .before .before .before .before .args .counts .now)
+    (c .before .before .before .before .before .before .before .before .before .before .args .step)
     (c .before .before .before .before .before .before .before .before .before .before .args .at) (c .before .before .before .before .enum-told2 .given .1)
     (asks-more (aTaggerDecl (c .before .before .before .before .before .before .before .before .before .before .args .text .now))
     (aDecl (c .before .before .before .before .before .before .before .before .before .before .args .text .now) (c .before .before .before .before .before .before .before .before .before .before .args .words .now) (c .before .before .before .before .before .before .before .before .before .before .args .counts .now)
+    (c .before .before .before .before .before .before .before .before .before .before .args .step)
     (c .before .before .before .before .before .before .before .before .before .before .args .at) Taggers .given) (λ t rest k. tt) (c .before .before .tagger-decl .ensures))
 
 same-length-3 : tie.Need-same-length-3
@@ -65,6 +69,7 @@ same-length-3 c = search needs
 returns-3 : tie.Need-returns-3
 returns-3 c =
     of-kind (c .before .before .before .before .before .before .before .before .before .before .args .text .now) (c .before .before .before .before .before .before .before .before .before .before .args .words .now) (c .before .before .before .before .before .before .before .before .before .before .args .counts .now)
+    (c .before .before .before .before .before .before .before .before .before .before .args .step)
     (c .before .before .before .before .before .before .before .before .before .before .args .at) (c .before .before .before .before .enum-told3 .given .1) (c .before .before .function-decl .ensures)
 
 same-length-4 : tie.Need-same-length-4
@@ -73,6 +78,7 @@ same-length-4 c = search needs
 returns-4 : tie.Need-returns-4
 returns-4 c =
     of-kind (c .before .before .before .before .before .before .before .before .before .before .args .text .now) (c .before .before .before .before .before .before .before .before .before .before .args .words .now) (c .before .before .before .before .before .before .before .before .before .before .args .counts .now)
+    (c .before .before .before .before .before .before .before .before .before .before .args .step)
     (c .before .before .before .before .before .before .before .before .before .before .args .at) (c .before .before .before .before .enum-told4 .given .1) (c .before .before .axiom-decl .ensures)
 
 same-length-5 : tie.Need-same-length-5
@@ -81,6 +87,7 @@ same-length-5 c = search needs
 returns-5 : tie.Need-returns-5
 returns-5 c =
     of-kind (c .before .before .before .before .before .before .before .before .before .before .args .text .now) (c .before .before .before .before .before .before .before .before .before .before .args .words .now) (c .before .before .before .before .before .before .before .before .before .before .args .counts .now)
+    (c .before .before .before .before .before .before .before .before .before .before .args .step)
     (c .before .before .before .before .before .before .before .before .before .before .args .at) (c .before .before .before .before .enum-told5 .given .1) (c .before .before .procedure .ensures)
 
 pub declaration-spec : {M : Type 1} → statement M

@@ -2,17 +2,16 @@
 use mathlib.Core.Path.{refl}
 use mathlib.Core.Option.{some}
 use mathlib.Core.List.{[]}
-use Rattle.printing.proofs.Places.{Place, begin, done, part, passed, text}
+use Rattle.printing.proofs.Places.{Place, begin, done, part, passed, text, ready}
 use Rattle.printing.specs.DeclParts.{optionalDefinition}
 use Rattle.printing.proofs.Sequences.{made, an-option, at-none, at-some}
 use native.Mathlib.Nat.{le-refl}
-use Rattle.printing.proofs.StmtPrints.Room.{ready}
 use borrow.Author.Needs.{needs}
 use Rattle.printing.proofs.program.optional_definition.Statement.{statement}
 use Rattle.printing.proofs.program.optional_definition.Tie as tie
 
 abbrev at-start : tie.Start → Place
-at-start c = begin (made (optionalDefinition (c .args .text .now) (c .args .words .now) (c .args .counts .now) (c .args .at)) some) (c .args .words .now) (c .args .at) (c .args .out .now) (c .args .pos)
+at-start c = begin (made (optionalDefinition (c .args .text .now) (c .args .words .now) (c .args .counts .now) (c .args .step) (c .args .at)) some) (c .args .words .now) (c .args .at) (c .args .out .now) (c .args .pos)
 
 abbrev at-after : tie.After-after → Place
 at-after c = passed (at-start (c .before .before .before .before .before)) (c .after .ensures) _ _ (λ x. refl)
@@ -37,7 +36,8 @@ get-requires c κs = search needs
 
 returns : tie.Need-returns
 returns c =
-    at-none (optionalDefinition (c .before .before .before .before .before .before .before .args .text .now) (c .before .before .before .before .before .before .before .args .words .now) (c .before .before .before .before .before .before .before .args .counts .now) (c .before .before .before .before .before .before .before .args .at)) some (an-option _ _ _ [])
+    at-none (optionalDefinition (c .before .before .before .before .before .before .before .args .text .now) (c .before .before .before .before .before .before .before .args .words .now) (c .before .before .before .before .before .before .before .args .counts .now) (c .before .before .before .before .before .before .before .args .step)
+    (c .before .before .before .before .before .before .before .args .at)) some (an-option _ _ _ [])
     (c .before .get .ensures) (c .before .before .after .ensures) (c .if1 .taken)
 
 whens-requires : tie.Need-whens-requires
@@ -66,6 +66,7 @@ returns-2 c =
     at-some (optionalDefinition (c .before .before .before .before .before .before .before .before .before .before .before .before .before .before .before .before .before .before .before .before .before .before .before .before .before .args .text .now)
     (c .before .before .before .before .before .before .before .before .before .before .before .before .before .before .before .before .before .before .before .before .before .before .before .before .before .args .words .now)
     (c .before .before .before .before .before .before .before .before .before .before .before .before .before .before .before .before .before .before .before .before .before .before .before .before .before .args .counts .now)
+    (c .before .before .before .before .before .before .before .before .before .before .before .before .before .before .before .before .before .before .before .before .before .before .before .before .before .args .step)
     (c .before .before .before .before .before .before .before .before .before .before .before .before .before .before .before .before .before .before .before .before .before .before .before .before .before .args .at)) some (an-option _ _ _ [])
     (c .before .before .before .before .before .before .before .before .before .before .before .before .before .before .before .before .before .before .before .get .ensures) (c .before .before .before .before .before .before .before .before .before .before .before .before .before .before .before .before .before .before .if1 .left) (done (at-put2 (c .before .before)) (λ x. refl) (λ x. refl))
 

@@ -1,17 +1,16 @@
 -- The word and the name, the parameters, what it requires and ensures, and the body.
 use mathlib.Core.Path.{refl}
-use Rattle.printing.proofs.Places.{Place, begin, done, part, text}
+use Rattle.printing.proofs.Places.{Place, begin, done, part, text, ready}
 use Rattle.printing.specs.declared.program.Decl.the-variants.{Procedures}
 use Rattle.printing.specs.DeclParts.{aDecl}
 use native.Mathlib.Nat.{le-refl}
 use native.Mathlib.Omega.{arith}
-use Rattle.printing.proofs.StmtPrints.Room.{ready}
 use borrow.Author.Needs.{needs}
 use Rattle.printing.proofs.program.procedure.Statement.{statement}
 use Rattle.printing.proofs.program.procedure.Tie as tie
 
 abbrev at-start : tie.Start → Place
-at-start c = begin (aDecl (c .args .text .now) (c .args .words .now) (c .args .counts .now) (c .args .at) Procedures) (c .args .words .now) (c .args .at) (c .args .out .now) (c .args .pos)
+at-start c = begin (aDecl (c .args .text .now) (c .args .words .now) (c .args .counts .now) (c .args .step) (c .args .at) Procedures) (c .args .words .now) (c .args .at) (c .args .out .now) (c .args .pos)
 
 abbrev at-put : tie.After-put → Place
 at-put c = text (at-start (c .before .before .before .before .before .before .before)) (c .put .ensures) _ (λ x. refl)

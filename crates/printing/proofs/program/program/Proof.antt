@@ -1,19 +1,18 @@
 -- The first line, and the five lists of declarations.
 use mathlib.Core.Path.{refl}
-use Rattle.printing.proofs.Places.{Place, begin, done, part, seen, text}
+use Rattle.printing.proofs.Places.{Place, begin, done, part, seen, text, ready}
 use Rattle.printing.specs.declared.program.Decl.the-variants.{Types, Taggers}
 use Rattle.printing.specs.DeclParts.{declWords, aProgram}
 use Rattle.printing.proofs.DeclPrints.{program-print}
 use Rattle.printing.proofs.StmtPrints.Room.{free-items}
 use native.Mathlib.Nat.{le-refl}
 use native.Mathlib.Omega.{arith}
-use Rattle.printing.proofs.StmtPrints.Room.{ready}
 use borrow.Author.Needs.{needs}
 use Rattle.printing.proofs.program.program.Statement.{statement}
 use Rattle.printing.proofs.program.program.Tie as tie
 
 abbrev at-start : tie.Start → Place
-at-start c = seen (begin (aProgram (c .args .text .now) (c .args .words .now) (c .args .counts .now)) (c .args .words .now) 0 (c .args .out .now) (c .args .pos)) _ (λ x. program-print (c .args .text .now) (x .tree))
+at-start c = seen (begin (aProgram (c .args .text .now) (c .args .words .now) (c .args .counts .now) (c .args .step)) (c .args .words .now) 0 (c .args .out .now) (c .args .pos)) _ (λ x. program-print (c .args .text .now) (c .args .step) (x .tree))
 
 abbrev at-put : tie.After-put → Place
 at-put c = text (at-start (c .before .before .before .before .before .before .before)) (c .put .ensures) _ (λ x. refl)
@@ -23,7 +22,8 @@ at-decls c =
     part (at-put (c .before .before .before .before)) (c .decls .ensures) (λ x. x .tree .types) _ (λ x. (
       ready (at-put (c .before .before .before .before)) (le-refl _) (x .given .0),
       free-items
-          (declWords (c .before .before .before .before .before .before .before .before .before .before .before .args .text .now) (c .before .before .before .before .before .before .before .before .before .before .before .args .words .now) (c .before .before .before .before .before .before .before .before .before .before .before .args .counts .now) 0 Types) (x .tree .types) _,
+          (declWords (c .before .before .before .before .before .before .before .before .before .before .before .args .text .now) (c .before .before .before .before .before .before .before .before .before .before .before .args .words .now) (c .before .before .before .before .before .before .before .before .before .before .before .args .counts .now)
+          (c .before .before .before .before .before .before .before .before .before .before .before .args .step) 0 Types) (x .tree .types) _,
     )) _ (λ x. refl) (λ x. refl)
 
 abbrev at-decls2 : tie.After-decls2 → Place
@@ -32,7 +32,7 @@ at-decls2 c =
       ready (at-decls (c .before .before .before .before)) (le-refl _) (x .given .0),
       free-items
           (declWords (c .before .before .before .before .before .before .before .before .before .before .before .before .before .before .before .args .text .now) (c .before .before .before .before .before .before .before .before .before .before .before .before .before .before .before .args .words .now)
-          (c .before .before .before .before .before .before .before .before .before .before .before .before .before .before .before .args .counts .now) 0 Taggers) (x .tree .taggers) _,
+          (c .before .before .before .before .before .before .before .before .before .before .before .before .before .before .before .args .counts .now) (c .before .before .before .before .before .before .before .before .before .before .before .before .before .before .before .args .step) 0 Taggers) (x .tree .taggers) _,
     )) _ (λ x. refl) (λ x. refl)
 
 abbrev at-decls3 : tie.After-decls3 → Place

@@ -1,18 +1,17 @@
 -- The keyword, the expression, the line end.
 use mathlib.Core.Path.{refl}
-use Rattle.printing.proofs.Places.{Place, begin, done, part, passed, text, text-of}
+use Rattle.printing.proofs.Places.{Place, begin, done, part, passed, text, text-of, ready}
 use mathlib.Core.Path.{ap}
 use Rattle.printing.specs.StmtParts.{keywordBytes, anExpressionStmt}
 use Rattle.printing.proofs.PartPrints.Joins.{word-at}
 use Rattle.printing.proofs.StmtPrints.Pieces.{same-bytes}
 use native.Mathlib.Nat.{le-refl}
-use Rattle.printing.proofs.StmtPrints.Room.{ready}
 use borrow.Author.Needs.{needs}
 use Rattle.printing.proofs.simple.expression_stmt.Statement.{statement}
 use Rattle.printing.proofs.simple.expression_stmt.Tie as tie
 
 abbrev at-start : tie.Start → Place
-at-start c = begin (anExpressionStmt (c .args .text .now) (c .args .words .now) (c .args .counts .now) (c .args .at) 0) (c .args .words .now) (c .args .at) (c .args .out .now) (c .args .pos)
+at-start c = begin (anExpressionStmt (c .args .text .now) (c .args .words .now) (c .args .counts .now) (c .args .step) (c .args .at) 0) (c .args .words .now) (c .args .at) (c .args .out .now) (c .args .pos)
 
 abbrev at-put-keyword : tie.After-put-keyword → Place
 at-put-keyword c = text-of (at-start (c .before .before .before .before .before .before)) _ _ (λ x. same-bytes (ap keywordBytes (word-at (c .before .before .before .before .before .before .args .words .now) _ refl (x .stands))) (c .put-keyword .ensures)) (λ x. refl)

@@ -1,17 +1,16 @@
 -- The names, the line end.
 use mathlib.Core.Path.{refl}
-use Rattle.printing.proofs.Places.{Place, begin, done, part, text}
+use Rattle.printing.proofs.Places.{Place, begin, done, part, text, ready}
 use Rattle.printing.specs.declared.items.Item.the-variants.{Name}
 use Rattle.printing.specs.StmtParts.{itemWords, aReinit}
 use Rattle.printing.proofs.StmtPrints.Room.{free-items}
 use native.Mathlib.Nat.{le-refl}
-use Rattle.printing.proofs.StmtPrints.Room.{ready}
 use borrow.Author.Needs.{needs}
 use Rattle.printing.proofs.simple.reinit.Statement.{statement}
 use Rattle.printing.proofs.simple.reinit.Tie as tie
 
 abbrev at-start : tie.Start → Place
-at-start c = begin (aReinit (c .args .text .now) (c .args .words .now) (c .args .counts .now) (c .args .at) 0) (c .args .words .now) (c .args .at) (c .args .out .now) (c .args .pos)
+at-start c = begin (aReinit (c .args .text .now) (c .args .words .now) (c .args .counts .now) (c .args .step) (c .args .at) 0) (c .args .words .now) (c .args .at) (c .args .out .now) (c .args .pos)
 
 abbrev at-put : tie.After-put → Place
 at-put c = text (at-start (c .before .before .before .before .before .before .before)) (c .put .ensures) _ (λ x. refl)
@@ -22,7 +21,7 @@ at-separated c = part (at-put (c .before .before .before .before .before)) (c .s
       (x .given .0),
   free-items (itemWords (c .before .before .before .before .before .before .before .before .before .before .before .before .args .text .now)
       (c .before .before .before .before .before .before .before .before .before .before .before .before .args .words .now)
-      (c .before .before .before .before .before .before .before .before .before .before .before .before .args .counts .now)
+      (c .before .before .before .before .before .before .before .before .before .before .before .before .args .counts .now) (c .before .before .before .before .before .before .before .before .before .before .before .before .args .step)
       (c .before .before .before .before .before .before .before .before .before .before .before .before .args .at) 0 Name) (x .tree) _,
 )) _ (λ x. refl) (λ x. refl)
 

@@ -37,7 +37,7 @@ same-length c = search needs
 returns : tie.Need-returns
 returns c = λ indent followed. is-assign (c .before .before .before .before .before .before .before .before .before .before .before .args .text .now)
     (c .before .before .before .before .before .before .before .before .before .before .before .args .words .now)
-    (c .before .before .before .before .before .before .before .before .before .before .before .args .counts .now)
+    (c .before .before .before .before .before .before .before .before .before .before .before .args .counts .now) (c .before .before .before .before .before .before .before .before .before .before .before .args .step)
     (c .before .before .before .before .before .before .before .before .before .before .before .args .at) (c .before .before .before .before .before .get .ensures) indent followed
     (c .before .before .before .before .before .before .after .ensures) (c .before .before .before .before .match .keys1) (c .before .before .assign .ensures)
 
@@ -47,7 +47,7 @@ same-length-2 c = search needs
 returns-2 : tie.Need-returns-2
 returns-2 c = λ indent followed. is-reinit (c .before .before .before .before .before .before .before .before .before .before .before .args .text .now)
     (c .before .before .before .before .before .before .before .before .before .before .before .args .words .now)
-    (c .before .before .before .before .before .before .before .before .before .before .before .args .counts .now)
+    (c .before .before .before .before .before .before .before .before .before .before .before .args .counts .now) (c .before .before .before .before .before .before .before .before .before .before .before .args .step)
     (c .before .before .before .before .before .before .before .before .before .before .before .args .at) (c .before .before .before .before .before .get .ensures) indent followed
     (c .before .before .before .before .before .before .after .ensures) (c .before .before .before .before .match .keys2) (c .before .before .reinit .ensures)
 
@@ -57,7 +57,7 @@ same-length-3 c = search needs
 returns-3 : tie.Need-returns-3
 returns-3 c = λ indent followed. is-call (c .before .before .before .before .before .before .before .before .before .before .before .args .text .now)
     (c .before .before .before .before .before .before .before .before .before .before .before .args .words .now)
-    (c .before .before .before .before .before .before .before .before .before .before .before .args .counts .now)
+    (c .before .before .before .before .before .before .before .before .before .before .before .args .counts .now) (c .before .before .before .before .before .before .before .before .before .before .before .args .step)
     (c .before .before .before .before .before .before .before .before .before .before .before .args .at) (c .before .before .before .before .before .get .ensures) indent followed
     (c .before .before .before .before .before .before .after .ensures) (c .before .before .before .before .match .keys3) (c .before .before .call .ensures)
 
@@ -67,7 +67,7 @@ same-length-4 c = search needs
 returns-4 : tie.Need-returns-4
 returns-4 c = λ indent followed. is-exit (c .before .before .before .before .before .before .before .before .before .before .before .args .text .now)
     (c .before .before .before .before .before .before .before .before .before .before .before .args .words .now)
-    (c .before .before .before .before .before .before .before .before .before .before .before .args .counts .now)
+    (c .before .before .before .before .before .before .before .before .before .before .before .args .counts .now) (c .before .before .before .before .before .before .before .before .before .before .before .args .step)
     (c .before .before .before .before .before .before .before .before .before .before .before .args .at) (c .before .before .before .before .before .get .ensures) indent followed
     (c .before .before .before .before .before .before .after .ensures) (c .before .before .before .before .match .keys4) (c .before .before .exit .ensures)
 
@@ -77,7 +77,7 @@ same-length-5 c = search needs
 returns-5 : tie.Need-returns-5
 returns-5 c = λ indent followed. is-return (c .before .before .before .before .before .before .before .before .before .before .before .before .args .text .now)
     (c .before .before .before .before .before .before .before .before .before .before .before .before .args .words .now)
-    (c .before .before .before .before .before .before .before .before .before .before .before .before .args .counts .now)
+    (c .before .before .before .before .before .before .before .before .before .before .before .before .args .counts .now) (c .before .before .before .before .before .before .before .before .before .before .before .before .args .step)
     (c .before .before .before .before .before .before .before .before .before .before .before .before .args .at) (c .before .before .before .before .before .before .get .ensures) indent followed
     (c .before .before .before .before .before .before .before .after .ensures) (c .before .before .before .before .before .match .keys5) (c .before .before .put .ensures)
 
@@ -87,7 +87,7 @@ same-length-6 c = search needs
 returns-6 : tie.Need-returns-6
 returns-6 c = λ indent followed. is-expression (c .before .before .before .before .before .before .before .before .before .before .before .args .text .now)
     (c .before .before .before .before .before .before .before .before .before .before .before .args .words .now)
-    (c .before .before .before .before .before .before .before .before .before .before .before .args .counts .now)
+    (c .before .before .before .before .before .before .before .before .before .before .before .args .counts .now) (c .before .before .before .before .before .before .before .before .before .before .before .args .step)
     (c .before .before .before .before .before .before .before .before .before .before .before .args .at) (c .before .before .before .before .before .get .ensures) indent followed
     (c .before .before .before .before .match .rest .0 .0 .0 .0 .1) (c .before .before .before .before .match .rest .0 .0 .0 .1) (c .before .before .before .before .match .rest .0 .0 .1)
     (c .before .before .before .before .match .rest .0 .1) (c .before .before .before .before .match .rest .1) (c .before .before .expression-stmt .ensures)

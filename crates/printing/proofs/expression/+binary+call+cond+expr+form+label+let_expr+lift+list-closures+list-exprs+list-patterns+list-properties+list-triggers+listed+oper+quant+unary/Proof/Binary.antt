@@ -4,12 +4,13 @@ use native.Mathlib.Omega.{arith}
 use borrow.Author.Needs.{needs}
 use borrow.Fn.Kinds.{In, Out}
 use mathlib.Core.Path.{refl}
-use Rattle.printing.specs.declared.power.Side.the-variants.{Left, Right}
-use Rattle.printing.specs.declared.format.ExprFormatOption.the-variants.{SingleLine}
+use Rattle.prints.specs.declared.power.Side.the-variants.{Left, Right}
+use Rattle.prints.specs.declared.format.ExprFormatOption.the-variants.{SingleLine}
 use Rattle.printing.specs.ExprParts.{aBinary}
 use Rattle.printing.proofs as fn
 use fn.ExprPrints.Equations.{binary-print, sign, rightFormat}
-use fn.ExprPrints.Reached.{Reached, begin, sooner, ahead, passed, seen, text-of, ready, expression, done}
+use fn.Places.{ahead, passed, seen, text-of, ready, done}
+use fn.ExprPrints.Reached.{Reached, begin, sooner, expression}
 use fn.ExprPrints.Contexts.{operand-context, right-format, sign-wrote, right-indent}
 use fn.expression.+binary+call+cond+expr+form+label+let_expr+lift+list-closures+list-exprs+list-patterns+list-properties+list-triggers+listed+oper+quant+unary as cycle
 use cycle.Lts-binary as lts
@@ -37,9 +38,9 @@ module _ (t : ℕ) where
   abbrev at-start : Of lts.Start → Reached
   at-start c =
       seen
-      (begin (c .args .text .now) (c .args .counts .now) (c .args .context) (c .args .format) (aBinary (c .args .text .now) (c .args .words .now) (c .args .counts .now) (c .args .at) (c .args .context) (c .args .format))
+      (begin (c .args .text .now) (c .args .counts .now) (c .args .step) (c .args .context) (c .args .format) (aBinary (c .args .text .now) (c .args .words .now) (c .args .counts .now) (c .args .step) (c .args .at) (c .args .context) (c .args .format))
       (c .args .words .now) (c .args .at) (c .args .out .now) (c .args .pos) 0 (c .pre .1) (c .pre .0))
-      _ (λ x. binary-print (c .args .text .now) (x .tree .0) (x .tree .1) (x .tree .2) (c .args .context) (c .args .format))
+      _ (λ x. binary-print (c .args .text .now) (c .args .step) (x .tree .0) (x .tree .1) (x .tree .2) (c .args .context) (c .args .format))
 
   abbrev at-operands : Of lts.Start → Reached
   at-operands c = ahead (at-start c) 3 _ (λ x. refl)
@@ -53,7 +54,7 @@ module _ (t : ℕ) where
 
   abbrev at-sign : Of lts.After-put-sign → Reached
   at-sign c =
-      text-of (at-left (c .before .before .before .before .before)) (λ x. sign (x .tree .0) (rightFormat (x .tree .0) (at-left (c .before .before .before .before .before) .origin .format))) _
+      text-of (at-left (c .before .before .before .before .before)) (λ x. sign (x .tree .0) (rightFormat (x .tree .0) (at-left (c .before .before .before .before .before) .origin .known .format))) _
       (λ x. sign-wrote (at-left (c .before .before .before .before .before) .origin) x (x .tree .0) refl (c .before .before .format-after .ensures) (c .put-sign .ensures)) (λ x. refl)
 
   abbrev at-second : Of lts.After-after → Reached

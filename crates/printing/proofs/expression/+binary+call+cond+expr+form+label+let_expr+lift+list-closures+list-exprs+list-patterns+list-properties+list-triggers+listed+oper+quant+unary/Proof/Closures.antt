@@ -7,9 +7,9 @@ use mathlib.Core.Path.{refl, _≡_}
 use mathlib.Core.List.{List}
 use lib.ListN.{getD, length}
 use Rattle.grammar.specs.Words.{bytes}
-use Rattle.printing.specs.declared.format.ExprFormatOption.the-variants.{SingleLine}
-use Rattle.printing.specs.PrintUtil.{Init}
-use Rattle.printing.specs.Text.{unless}
+use Rattle.prints.specs.declared.format.ExprFormatOption.the-variants.{SingleLine}
+use Rattle.prints.specs.PrintUtil.{Init}
+use Rattle.prints.specs.Text.{unless}
 use Rattle.printing.specs.ExprParts.{closureList}
 use Rattle.printing.specs.Parts.{Prints}
 use Rattle.printing.specs.declared.parts.Step.{Step}
@@ -17,8 +17,10 @@ use Rattle.tree.proofs.get.Reads as get
 use Rattle.printing.proofs as fn
 use fn.PartPrints.Joins.{inside}
 use fn.ExprPrints.Equations.{closures-print}
-use fn.ExprPrints.Reached.{Reached, begin, sooner, item, seen, part, ready, expression, done}
-use fn.ExprPrints.SequencePrints.{closures-none, someClosures, closures-more}
+use fn.Places.{item, seen, part, ready, done}
+use fn.ExprPrints.Reached.{Reached, begin, sooner, expression}
+use fn.ExprPrints.SequencePrints.{someClosures, some-closures}
+use fn.Sequences.{at-none, at-some}
 use fn.expression.+binary+call+cond+expr+form+label+let_expr+lift+list-closures+list-exprs+list-patterns+list-properties+list-triggers+listed+oper+quant+unary as cycle
 use cycle.Lts-list-closures as lts
 use cycle.Proof.Ranks.{closures-at, expr-below, closures-below}
@@ -45,9 +47,9 @@ module _ (t : ℕ) where
   abbrev at-start : (c : Of lts.Start) → c .args .at < length (c .args .words .now) → Reached
   at-start c h =
       seen
-      (begin (c .args .text .now) (c .args .counts .now) Init SingleLine (someClosures (c .args .text .now) (c .args .words .now) (c .args .counts .now) (c .args .at) (c .args .first))
+      (begin (c .args .text .now) (c .args .counts .now) (c .args .step) Init SingleLine (someClosures (c .args .text .now) (c .args .words .now) (c .args .counts .now) (c .args .step) (c .args .at) (c .args .first))
       (c .args .words .now) (c .args .at) (c .args .out .now) (c .args .pos) 0 h (c .pre .0))
-      _ (λ x. closures-print (c .args .text .now) (unless (c .args .first) (bytes ", ")) (x .tree .0) (x .tree .1) (x .tree .2) (x .tree .3))
+      _ (λ x. closures-print (c .args .text .now) (c .args .step) (unless (c .args .first) (bytes ", ")) (x .tree .0) (x .tree .1) (x .tree .2) (x .tree .3))
 
   -- an item stands here
   is-inside : (c : Of lts.Else1) → c .before .before .before .before .before .before .before .args .at < length (c .before .before .before .before .before .before .before .args .words .now)
@@ -70,8 +72,8 @@ module _ (t : ℕ) where
       part (at-value (c .before .before .before .before)) (c .closures .ensures) (λ x. x .tree .3) _ (λ x. (ready (at-value (c .before .before .before .before)) (omega arith) (x .given .0), x .given .1 .2)) _ (λ x. refl) (λ x. refl)
 
   returns : Of lts.Need-returns
-  returns c = closures-none (c .before .before .before .before .before .before .before .args .text .now) (c .before .before .before .before .before .before .before .args .counts .now) (c .before .before .after .ensures)
-      (c .before .get .ensures) (c .if1 .taken) (c .before .before .before .before .before .before .before .args .first)
+  returns c = at-none _ _ (some-closures (c .before .before .before .before .before .before .before .args .text .now) (c .before .before .before .before .before .before .before .args .words .now) (c .before .before .before .before .before .before .before .args .counts .now)
+      (c .before .before .before .before .before .before .before .args .step) (c .before .before .before .before .before .before .before .args .at) (c .before .before .before .before .before .before .before .args .first)) (c .before .get .ensures) (c .before .before .after .ensures) (c .if1 .taken)
 
   expr-requires : Of lts.Need-expr-requires
   expr-requires c κs = (sooner (at-head (c .before .before .before)) 3 (omega arith) (omega arith), tt)
@@ -81,9 +83,9 @@ module _ (t : ℕ) where
 
   -- the print of an item and the others is that of the sequence
   with-item : (c : Of lts.Start) {g : ℕ} {b : List ℕ} {s : Step} → g ≡ getD (c .args .words .now) (c .args .at) 0 → (g ≡ 0 → ⊥)
-      → Prints (someClosures (c .args .text .now) (c .args .words .now) (c .args .counts .now) (c .args .at) (c .args .first)) (c .args .words .now) (c .args .at) (c .args .out .now) (c .args .pos) b s
-      → Prints (closureList (c .args .text .now) (c .args .words .now) (c .args .counts .now) (c .args .at) (c .args .first)) (c .args .words .now) (c .args .at) (c .args .out .now) (c .args .pos) b s
-  with-item c e z p = closures-more (c .args .text .now) (c .args .words .now) (c .args .counts .now) (c .args .at) e z (c .args .first) p
+      → Prints (someClosures (c .args .text .now) (c .args .words .now) (c .args .counts .now) (c .args .step) (c .args .at) (c .args .first)) (c .args .words .now) (c .args .at) (c .args .out .now) (c .args .pos) b s
+      → Prints (closureList (c .args .text .now) (c .args .words .now) (c .args .counts .now) (c .args .step) (c .args .at) (c .args .first)) (c .args .words .now) (c .args .at) (c .args .out .now) (c .args .pos) b s
+  with-item c e z p = at-some _ _ (some-closures (c .args .text .now) (c .args .words .now) (c .args .counts .now) (c .args .step) (c .args .at) (c .args .first)) e z p
 
   returns-2 : Of lts.Need-returns-2
   returns-2 c = with-item

@@ -6,14 +6,16 @@ use borrow.Fn.Kinds.{In, Out}
 use mathlib.Core.Path.{refl, _≡_}
 use mathlib.Core.List.{_++_}
 use Rattle.grammar.specs.Words.{bytes}
-use Rattle.printing.specs.declared.power.Side.the-variants.{Right}
-use Rattle.printing.specs.declared.format.ExprFormatOption.the-variants.{SingleLine}
-use Rattle.printing.specs.PrintUtil.{Space}
+use Rattle.prints.specs.declared.power.Side.the-variants.{Right}
+use Rattle.prints.specs.declared.format.ExprFormatOption.the-variants.{SingleLine}
+use Rattle.prints.specs.PrintUtil.{Space}
 use Rattle.printing.specs.ExprParts.{aConditional}
+use Rattle.prints.proofs as prints
 use Rattle.printing.proofs as fn
 use fn.ExprPrints.Equations.{branches, elseSpace, elseFormat, conditional-print}
-use fn.ExprPrints.Reached.{Begun, Reached, begin, sooner, ahead, passed, seen, text-of, text, ready, ready-deeper, small, one-deeper, ready-more, formatted, expression, done}
-use fn.ExprPrints.Contexts.{operand-context, else-indent}
+use fn.Places.{Begun, ahead, passed, seen, text-of, text, ready, ready-deeper, done}
+use fn.ExprPrints.Reached.{Reached, begin, sooner, one-deeper, ready-more, formatted, expression}
+use fn.ExprPrints.Contexts.{operand-context, else-format-is, else-wrote, else-indent}
 use fn.expression.+binary+call+cond+expr+form+label+let_expr+lift+list-closures+list-exprs+list-patterns+list-properties+list-triggers+listed+oper+quant+unary as cycle
 use cycle.Lts-cond as lts
 use cycle.Proof.Ranks.{cond-at, expr-below}
@@ -28,10 +30,10 @@ module _ (t : ℕ) where
     fn.expression.expr.Reads.Post,
     fn.parts.after.Reads.Asked,
     fn.parts.after.Reads.Learnt,
-    fn.format.ExprFormatOption.more.Reads.Asked,
-    fn.format.ExprFormatOption.more.Reads.Learnt,
-    fn.format.ExprFormatOption.space.Reads.Asked,
-    fn.format.ExprFormatOption.space.Reads.Learnt,
+    prints.format.ExprFormatOption.more.Reads.Asked,
+    prints.format.ExprFormatOption.more.Reads.Learnt,
+    fn.write.space.Reads.Asked,
+    fn.write.space.Reads.Learnt,
     fn.forms.else_head.Reads.Asked,
     fn.forms.else_head.Reads.Learnt,
     fn.forms.operand_power.Reads.Asked,
@@ -46,9 +48,9 @@ module _ (t : ℕ) where
   abbrev at-start : Of lts.Start → Reached
   at-start c =
       seen
-      (begin (c .args .text .now) (c .args .counts .now) (c .args .context) (c .args .format) (aConditional (c .args .text .now) (c .args .words .now) (c .args .counts .now) (c .args .at) (c .args .context) (c .args .format))
+      (begin (c .args .text .now) (c .args .counts .now) (c .args .step) (c .args .context) (c .args .format) (aConditional (c .args .text .now) (c .args .words .now) (c .args .counts .now) (c .args .step) (c .args .at) (c .args .context) (c .args .format))
       (c .args .words .now) (c .args .at) (c .args .out .now) (c .args .pos) 0 (c .pre .1) (c .pre .0))
-      _ (λ x. conditional-print (c .args .text .now) (x .tree .0) (x .tree .1) (x .tree .2) (x .tree .3) (c .args .context) (c .args .format))
+      _ (λ x. conditional-print (c .args .text .now) (c .args .step) (x .tree .0) (x .tree .1) (x .tree .2) (x .tree .3) (c .args .context) (c .args .format))
 
   abbrev at-if : Of lts.After-put → Reached
   at-if c = text (ahead (at-start (c .before .before .before .before .before .before .before)) 3 _ (λ x. refl)) (c .put .ensures) _ (λ x. refl)
@@ -64,7 +66,7 @@ module _ (t : ℕ) where
   abbrev at-indent : Of lts.After-more → Reached
   at-indent c =
       formatted (at-second (c .before))
-      (λ f x r. branches (at-second (c .before) .origin .text) (x .tree .0) (x .tree .2) (x .tree .3) (at-second (c .before) .origin .context) (at-second (c .before) .origin .format) f r)
+      (λ f x r. branches (at-second (c .before) .origin .known .text) (at-second (c .before) .origin .known .step) (x .tree .0) (x .tree .2) (x .tree .3) (at-second (c .before) .origin .known .context) (at-second (c .before) .origin .known .format) f r)
       (λ x. one-deeper (at-second (c .before)) (c .more .ensures) (x .given .0)) (λ x. refl)
 
   abbrev at-space : Of lts.After-space → Reached
@@ -82,21 +84,22 @@ module _ (t : ℕ) where
   abbrev at-else : Of lts.After-else-head → Reached
   at-else c =
       text-of (at-third (c .before .before))
-      (λ x r. Space (at-third (c .before .before) .origin .format) ++
-      (bytes "else" ++ (elseSpace (at-third (c .before .before) .origin .text) (x .tree .3) (at-third (c .before .before) .origin .format) ++ r))) _
-      (λ x. c .else-head .ensures .else-head (small (at-third (c .before .before) .origin) (x .given .0)) (x .tree .3) _ (at-third (c .before .before) .left x)) (λ x. refl)
+      (λ x r. Space (at-third (c .before .before) .origin .known .format) ++
+      (bytes "else" ++ (elseSpace (at-third (c .before .before) .origin .known .text) (at-third (c .before .before) .origin .known .step) (x .tree .3) (at-third (c .before .before) .origin .known .format) ++ r))) _
+      (λ x. else-wrote (at-third (c .before .before) .origin) (at-third (c .before .before) .origin .known .format) (x .given .0) (x .tree .3)
+      (c .else-head .ensures .else-head (x .tree .3) _ (at-third (c .before .before) .left x))) (λ x. refl)
 
   -- the format after `else`
   is-format : (c : Of lts.After-else-format) (x : Begun (at-third (c .before .before .before .before .before .before) .origin))
-      → c .else-format .result ≡ elseFormat (at-third (c .before .before .before .before .before .before) .origin .text) (x .tree .3)
-      (at-third (c .before .before .before .before .before .before) .origin .format)
-  is-format c x = c .else-format .ensures .else-format (small (at-third (c .before .before .before .before .before .before) .origin) (x .given .0))
-      (x .tree .3) _ (at-third (c .before .before .before .before .before .before) .left x)
+      → c .else-format .result ≡ elseFormat (at-third (c .before .before .before .before .before .before) .origin .known .text) (at-third (c .before .before .before .before .before .before) .origin .known .step) (x .tree .3)
+      (at-third (c .before .before .before .before .before .before) .origin .known .format)
+  is-format c x = else-format-is (at-third (c .before .before .before .before .before .before) .origin) (at-third (c .before .before .before .before .before .before) .origin .known .format) (x .given .0) (x .tree .3)
+      (c .else-format .ensures .else-format (x .tree .3) _ (at-third (c .before .before .before .before .before .before) .left x))
 
   abbrev at-last : Of lts.After-expr3 → Reached
   at-last c =
       expression (at-else (c .before .before .before .before .before .before)) (c .before .before .else-format .result) (c .expr3 .ensures) (λ x. x .tree .3)
-      _ (λ x. (ready-deeper (at-else (c .before .before .before .before .before .before)) (omega arith) (else-indent (x .tree .3) _ (is-format (c .before .before) x)) (x .given .0), x .given .1 .1 .1 .1 .0))
+      _ (λ x. (ready-deeper (at-else (c .before .before .before .before .before .before)) (omega arith) (else-indent _ (x .tree .3) _ (is-format (c .before .before) x)) (x .given .0), x .given .1 .1 .1 .1 .0))
       _ _
       (λ x. operand-context (at-else (c .before .before .before .before .before .before) .origin) x (x .tree .0) refl Right (c .before .before .before .operand-power .ensures))
       (λ x. is-format (c .before .before) x) _ (λ x. refl) (λ x. refl)

@@ -65,33 +65,33 @@ module _ (t : ℕ) where
   lift-requires c κs = (nearer (c .before .before .before .before .before .before .before) 0 (omega arith), is-inside (c .before .before) 9 (c .before .match .keys6))
 
   returns : Of lts.Need-returns
-  returns c = is-operator (c .before .before .before .before .before .before .before .before .before .before .args .text .now) (c .before .before .before .before .before .before .before .before .before .before .args .counts .now) _ _
+  returns c = is-operator (c .before .before .before .before .before .before .before .before .before .before .args .text .now) (c .before .before .before .before .before .before .before .before .before .before .args .counts .now) (c .before .before .before .before .before .before .before .before .before .before .args .step) _ _
       (c .before .before .before .before .before .get .ensures) (c .before .before .before .before .match .keys1) (c .before .before .oper .ensures)
 
   returns-2 : Of lts.Need-returns-2
-  returns-2 c = is-call (c .before .before .before .before .before .before .before .before .before .before .args .text .now) (c .before .before .before .before .before .before .before .before .before .before .args .counts .now) _ _
+  returns-2 c = is-call (c .before .before .before .before .before .before .before .before .before .before .args .text .now) (c .before .before .before .before .before .before .before .before .before .before .args .counts .now) (c .before .before .before .before .before .before .before .before .before .before .args .step) _ _
       (c .before .before .before .before .before .get .ensures) (c .before .before .before .before .match .keys2) (c .before .before .call .ensures)
 
   returns-3 : Of lts.Need-returns-3
-  returns-3 c = is-label (c .before .before .before .before .before .before .before .before .before .before .args .text .now) (c .before .before .before .before .before .before .before .before .before .before .args .counts .now) _ _
+  returns-3 c = is-label (c .before .before .before .before .before .before .before .before .before .before .args .text .now) (c .before .before .before .before .before .before .before .before .before .before .args .counts .now) (c .before .before .before .before .before .before .before .before .before .before .args .step) _ _
       (c .before .before .before .before .before .get .ensures) (c .before .before .before .before .match .keys3) (c .before .before .label .ensures)
 
   returns-4 : Of lts.Need-returns-4
-  returns-4 c = is-let (c .before .before .before .before .before .before .before .before .before .before .args .text .now) (c .before .before .before .before .before .before .before .before .before .before .args .counts .now) _ _
+  returns-4 c = is-let (c .before .before .before .before .before .before .before .before .before .before .args .text .now) (c .before .before .before .before .before .before .before .before .before .before .args .counts .now) (c .before .before .before .before .before .before .before .before .before .before .args .step) _ _
       (c .before .before .before .before .before .get .ensures) (c .before .before .before .before .match .keys4)
       (c .before .before .let-expr .ensures)
 
   returns-5 : Of lts.Need-returns-5
-  returns-5 c = is-quantifier (c .before .before .before .before .before .before .before .before .before .before .args .text .now) (c .before .before .before .before .before .before .before .before .before .before .args .counts .now) _ _
+  returns-5 c = is-quantifier (c .before .before .before .before .before .before .before .before .before .before .args .text .now) (c .before .before .before .before .before .before .before .before .before .before .args .counts .now) (c .before .before .before .before .before .before .before .before .before .before .args .step) _ _
       (c .before .before .before .before .before .get .ensures) (c .before .before .before .before .match .keys5) (c .before .before .quant .ensures)
 
   returns-6 : Of lts.Need-returns-6
-  returns-6 c = is-closure (c .before .before .before .before .before .before .before .before .before .before .args .text .now) (c .before .before .before .before .before .before .before .before .before .before .args .counts .now) _ _
+  returns-6 c = is-closure (c .before .before .before .before .before .before .before .before .before .before .args .text .now) (c .before .before .before .before .before .before .before .before .before .before .args .counts .now) (c .before .before .before .before .before .before .before .before .before .before .args .step) _ _
       (c .before .before .before .before .before .get .ensures) (c .before .before .before .before .match .keys6) (c .before .before .lift .ensures)
 
   returns-7 : Of lts.Need-returns-7
   returns-7 c =
-      is-leaf (c .before .before .before .before .before .before .before .before .before .before .args .text .now) (c .before .before .before .before .before .before .before .before .before .before .args .counts .now) _ _
+      is-leaf (c .before .before .before .before .before .before .before .before .before .before .args .text .now) (c .before .before .before .before .before .before .before .before .before .before .args .counts .now) (c .before .before .before .before .before .before .before .before .before .before .args .step) _ _
       (c .before .before .before .before .before .get .ensures) (c .before .before .before .before .match .rest .0 .0 .0 .0 .0 .1)
       (c .before .before .before .before .match .rest .0 .0 .0 .0 .1) (c .before .before .before .before .match .rest .0 .0 .0 .1)
       (c .before .before .before .before .match .rest .0 .0 .1) (c .before .before .before .before .match .rest .0 .1)

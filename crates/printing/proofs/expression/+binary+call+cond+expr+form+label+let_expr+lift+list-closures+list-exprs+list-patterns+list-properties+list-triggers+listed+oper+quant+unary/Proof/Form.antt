@@ -57,22 +57,22 @@ module _ (t : ℕ) where
   )
 
   returns : Of lts.Need-returns
-  returns c = is-unary (c .before .before .before .before .before .before .before .before .before .before .args .text .now) (c .before .before .before .before .before .before .before .before .before .before .args .counts .now) _ _
+  returns c = is-unary (c .before .before .before .before .before .before .before .before .before .before .args .text .now) (c .before .before .before .before .before .before .before .before .before .before .args .counts .now) (c .before .before .before .before .before .before .before .before .before .before .args .step) _ _
       (c .before .before .before .before .before .operator-form .ensures) (c .before .before .before .before .match .keys1)
       (c .before .before .unary .ensures)
 
   returns-2 : Of lts.Need-returns-2
-  returns-2 c = is-binary (c .before .before .before .before .before .before .before .before .before .before .args .text .now) (c .before .before .before .before .before .before .before .before .before .before .args .counts .now) _ _
+  returns-2 c = is-binary (c .before .before .before .before .before .before .before .before .before .before .args .text .now) (c .before .before .before .before .before .before .before .before .before .before .args .counts .now) (c .before .before .before .before .before .before .before .before .before .before .args .step) _ _
       (c .before .before .before .before .before .operator-form .ensures) (c .before .before .before .before .match .keys2)
       (c .before .before .binary .ensures)
 
   returns-3 : Of lts.Need-returns-3
-  returns-3 c = is-conditional (c .before .before .before .before .before .before .before .before .before .before .args .text .now) (c .before .before .before .before .before .before .before .before .before .before .args .counts .now) _ _
+  returns-3 c = is-conditional (c .before .before .before .before .before .before .before .before .before .before .args .text .now) (c .before .before .before .before .before .before .before .before .before .before .args .counts .now) (c .before .before .before .before .before .before .before .before .before .before .args .step) _ _
       (c .before .before .before .before .before .operator-form .ensures) (c .before .before .before .before .match .keys3)
       (c .before .before .cond .ensures)
 
   returns-4 : Of lts.Need-returns-4
-  returns-4 c = is-listed (c .before .before .before .before .before .before .before .before .before .before .args .text .now) (c .before .before .before .before .before .before .before .before .before .before .args .counts .now) _ _
+  returns-4 c = is-listed (c .before .before .before .before .before .before .before .before .before .before .args .text .now) (c .before .before .before .before .before .before .before .before .before .before .args .counts .now) (c .before .before .before .before .before .before .before .before .before .before .args .step) _ _
       (c .before .before .before .before .before .operator-form .ensures) (c .before .before .before .before .match .rest .0 .0 .1)
       (c .before .before .before .before .match .rest .0 .1) (c .before .before .before .before .match .rest .1) (c .before .before .listed .ensures)
 

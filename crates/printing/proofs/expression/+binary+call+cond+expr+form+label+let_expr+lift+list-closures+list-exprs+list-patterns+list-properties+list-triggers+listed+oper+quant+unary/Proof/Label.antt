@@ -5,9 +5,11 @@ use borrow.Author.Needs.{needs}
 use borrow.Fn.Kinds.{In, Out}
 use mathlib.Core.Path.{refl}
 use Rattle.printing.specs.ExprParts.{aLabel}
+use Rattle.prints.proofs as prints
 use Rattle.printing.proofs as fn
 use fn.ExprPrints.Equations.{label-print}
-use fn.ExprPrints.Reached.{Reached, begin, sooner, ahead, seen, text, part, ready, expression, done}
+use fn.Places.{ahead, seen, text, part, ready, done}
+use fn.ExprPrints.Reached.{Reached, begin, sooner, expression}
 use fn.expression.+binary+call+cond+expr+form+label+let_expr+lift+list-closures+list-exprs+list-patterns+list-properties+list-triggers+listed+oper+quant+unary as cycle
 use cycle.Lts-label as lts
 use cycle.Proof.Ranks.{label-at, expr-below}
@@ -18,12 +20,12 @@ module _ (t : ℕ) where
   claims = (
     fn.parts.label_head.Reads.Asked,
     fn.parts.label_head.Reads.Learnt,
-    fn.power.BindingPower.subexpression_power.Reads.Asked,
-    fn.power.BindingPower.subexpression_power.Reads.Learnt,
+    prints.power.BindingPower.subexpression_power.Reads.Asked,
+    prints.power.BindingPower.subexpression_power.Reads.Learnt,
     expr-below t,
     fn.expression.expr.Reads.Post,
-    fn.power.BindingPower.parenthesis.Reads.Asked,
-    fn.power.BindingPower.parenthesis.Reads.Learnt,
+    fn.write.endless_parenthesis.Reads.Asked,
+    fn.write.endless_parenthesis.Reads.Learnt,
   )
 
   abbrev Of : (lts.Claims → In 4 lts.ps → Out 4 lts.ps lts.r → Type 0) → Type 0
@@ -32,9 +34,9 @@ module _ (t : ℕ) where
   abbrev at-start : Of lts.Start → Reached
   at-start c =
       seen
-      (begin (c .args .text .now) (c .args .counts .now) (c .args .context) (c .args .format) (aLabel (c .args .text .now) (c .args .words .now) (c .args .counts .now) (c .args .at) (c .args .context) (c .args .format))
+      (begin (c .args .text .now) (c .args .counts .now) (c .args .step) (c .args .context) (c .args .format) (aLabel (c .args .text .now) (c .args .words .now) (c .args .counts .now) (c .args .step) (c .args .at) (c .args .context) (c .args .format))
       (c .args .words .now) (c .args .at) (c .args .out .now) (c .args .pos) 0 (c .pre .1) (c .pre .0))
-      _ (λ x. label-print (c .args .text .now) (x .tree .0) (x .tree .1) (c .args .context) (c .args .format))
+      _ (λ x. label-print (c .args .text .now) (c .args .step) (x .tree .0) (x .tree .1) (c .args .context) (c .args .format))
 
   abbrev at-head : Of lts.After-label-head → Reached
   at-head c =
@@ -46,8 +48,8 @@ module _ (t : ℕ) where
       (c .before .before .before .before .before .before .before .before .before .before .before .args .format) (c .expr .ensures) (λ x. x .tree .1)
       _ (λ x. (ready (at-head (c .before .before .before .before .before)) (omega arith) (x .given .0), x .given .1)) _ _ (λ x. c .before .before .subexpression-power .ensures) (λ x. refl) _ (λ x. refl) (λ x. refl)
 
-  abbrev at-end : Of lts.After-parenthesis → Reached
-  at-end c = text (at-body (c .before .before .before .before)) (c .parenthesis .ensures) _ (λ x. refl)
+  abbrev at-end : Of lts.After-endless-parenthesis → Reached
+  at-end c = text (at-body (c .before .before .before .before)) (c .endless-parenthesis .ensures) _ (λ x. refl)
 
   expr-requires : Of lts.Need-expr-requires
   expr-requires c κs = (sooner (at-head (c .before .before .before .before)) 3 (omega arith) (omega arith), tt)

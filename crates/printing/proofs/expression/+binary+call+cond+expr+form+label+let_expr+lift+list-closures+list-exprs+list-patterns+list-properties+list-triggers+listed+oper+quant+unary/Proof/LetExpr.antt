@@ -4,11 +4,13 @@ use native.Mathlib.Omega.{arith}
 use borrow.Author.Needs.{needs}
 use borrow.Fn.Kinds.{In, Out}
 use mathlib.Core.Path.{refl}
-use Rattle.printing.specs.declared.format.ExprFormatOption.the-variants.{SingleLine}
+use Rattle.prints.specs.declared.format.ExprFormatOption.the-variants.{SingleLine}
 use Rattle.printing.specs.ExprParts.{aLet}
+use Rattle.prints.proofs as prints
 use Rattle.printing.proofs as fn
 use fn.ExprPrints.Equations.{let-print}
-use fn.ExprPrints.Reached.{Reached, begin, sooner, ahead, seen, text, part, ready, expression, done}
+use fn.Places.{ahead, seen, text, part, ready, done}
+use fn.ExprPrints.Reached.{Reached, begin, sooner, expression}
 use fn.expression.+binary+call+cond+expr+form+label+let_expr+lift+list-closures+list-exprs+list-patterns+list-properties+list-triggers+listed+oper+quant+unary as cycle
 use cycle.Lts-let_expr as lts
 use cycle.Proof.Ranks.{let-expr-at, expr-below}
@@ -21,12 +23,12 @@ module _ (t : ℕ) where
     fn.parts.let_head.Reads.Learnt,
     expr-below t,
     fn.expression.expr.Reads.Post,
-    fn.format.ExprFormatOption.space.Reads.Asked,
-    fn.format.ExprFormatOption.space.Reads.Learnt,
-    fn.power.BindingPower.subexpression_power.Reads.Asked,
-    fn.power.BindingPower.subexpression_power.Reads.Learnt,
-    fn.power.BindingPower.parenthesis.Reads.Asked,
-    fn.power.BindingPower.parenthesis.Reads.Learnt,
+    fn.write.space.Reads.Asked,
+    fn.write.space.Reads.Learnt,
+    prints.power.BindingPower.subexpression_power.Reads.Asked,
+    prints.power.BindingPower.subexpression_power.Reads.Learnt,
+    fn.write.endless_parenthesis.Reads.Asked,
+    fn.write.endless_parenthesis.Reads.Learnt,
   )
 
   abbrev Of : (lts.Claims → In 4 lts.ps → Out 4 lts.ps lts.r → Type 0) → Type 0
@@ -35,9 +37,9 @@ module _ (t : ℕ) where
   abbrev at-start : Of lts.Start → Reached
   at-start c =
       seen
-      (begin (c .args .text .now) (c .args .counts .now) (c .args .context) (c .args .format) (aLet (c .args .text .now) (c .args .words .now) (c .args .counts .now) (c .args .at) (c .args .context) (c .args .format))
+      (begin (c .args .text .now) (c .args .counts .now) (c .args .step) (c .args .context) (c .args .format) (aLet (c .args .text .now) (c .args .words .now) (c .args .counts .now) (c .args .step) (c .args .at) (c .args .context) (c .args .format))
       (c .args .words .now) (c .args .at) (c .args .out .now) (c .args .pos) 0 (c .pre .1) (c .pre .0))
-      _ (λ x. let-print (c .args .text .now) (x .tree .0) (x .tree .1) (x .tree .2) (x .tree .3) (c .args .context) (c .args .format))
+      _ (λ x. let-print (c .args .text .now) (c .args .step) (x .tree .0) (x .tree .1) (x .tree .2) (x .tree .3) (c .args .context) (c .args .format))
 
   abbrev at-head : Of lts.After-let-head → Reached
   at-head c =
@@ -58,8 +60,8 @@ module _ (t : ℕ) where
       (c .expr2 .ensures) (λ x. x .tree .3)
       _ (λ x. (ready (at-space (c .before .before .before .before .before)) (omega arith) (x .given .0), x .given .1 .1)) _ _ (λ x. c .before .before .subexpression-power .ensures) (λ x. refl) _ (λ x. refl) (λ x. refl)
 
-  abbrev at-end : Of lts.After-parenthesis → Reached
-  at-end c = text (at-body (c .before .before .before .before)) (c .parenthesis .ensures) _ (λ x. refl)
+  abbrev at-end : Of lts.After-endless-parenthesis → Reached
+  at-end c = text (at-body (c .before .before .before .before)) (c .endless-parenthesis .ensures) _ (λ x. refl)
 
   expr-requires : Of lts.Need-expr-requires
   expr-requires c κs = (sooner (at-head (c .before .before .before)) 3 (omega arith) (omega arith), tt)

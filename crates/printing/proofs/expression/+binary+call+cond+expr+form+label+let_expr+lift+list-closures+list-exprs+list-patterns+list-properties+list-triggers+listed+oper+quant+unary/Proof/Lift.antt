@@ -4,12 +4,13 @@ use native.Mathlib.Omega.{arith}
 use borrow.Author.Needs.{needs}
 use borrow.Fn.Kinds.{In, Out}
 use mathlib.Core.Path.{refl}
-use Rattle.printing.specs.declared.format.ExprFormatOption.the-variants.{SingleLine}
-use Rattle.printing.specs.PrintUtil.{Init}
+use Rattle.prints.specs.declared.format.ExprFormatOption.the-variants.{SingleLine}
+use Rattle.prints.specs.PrintUtil.{Init}
 use Rattle.printing.specs.ExprParts.{aClosure}
 use Rattle.printing.proofs as fn
 use fn.ExprPrints.Equations.{closure-print}
-use fn.ExprPrints.Reached.{Reached, begin, sooner, ahead, seen, text, part, ready, done}
+use fn.Places.{ahead, seen, text, part, ready, done}
+use fn.ExprPrints.Reached.{Reached, begin, sooner}
 use fn.expression.+binary+call+cond+expr+form+label+let_expr+lift+list-closures+list-exprs+list-patterns+list-properties+list-triggers+listed+oper+quant+unary as cycle
 use cycle.Lts-lift as lts
 use cycle.Proof.Ranks.{lift-at, closures-below, properties-below}
@@ -34,9 +35,9 @@ module _ (t : ℕ) where
   abbrev at-start : Of lts.Start → Reached
   at-start c =
       seen
-      (begin (c .args .text .now) (c .args .counts .now) Init SingleLine (aClosure (c .args .text .now) (c .args .words .now) (c .args .counts .now) (c .args .at))
+      (begin (c .args .text .now) (c .args .counts .now) (c .args .step) Init SingleLine (aClosure (c .args .text .now) (c .args .words .now) (c .args .counts .now) (c .args .step) (c .args .at))
       (c .args .words .now) (c .args .at) (c .args .out .now) (c .args .pos) 0 (c .pre .1) (c .pre .0))
-      _ (λ x. closure-print (c .args .text .now) (x .tree .0) (x .tree .1) (x .tree .2) (x .tree .3) Init SingleLine)
+      _ (λ x. closure-print (c .args .text .now) (c .args .step) (x .tree .0) (x .tree .1) (x .tree .2) (x .tree .3) Init SingleLine)
 
   abbrev at-word : Of lts.After-put → Reached
   at-word c = text (ahead (at-start (c .before .before .before .before .before .before .before)) 1 _ (λ x. refl)) (c .put .ensures) _ (λ x. refl)

@@ -7,11 +7,12 @@ use mathlib.Core.Path.{refl}
 use mathlib.Core.List.{_++_}
 use Rattle.grammar.specs.Words.{bytes}
 use Rattle.tree.specs.Ast.{Operator}
-use Rattle.printing.specs.declared.format.ExprFormatOption.the-variants.{SingleLine}
-use Rattle.printing.specs.PrintUtil.{Init, ToString}
+use Rattle.prints.specs.declared.format.ExprFormatOption.the-variants.{SingleLine}
+use Rattle.prints.specs.PrintUtil.{Init, ToString}
 use Rattle.printing.specs.ExprParts.{aListed}
 use Rattle.printing.proofs as fn
-use fn.ExprPrints.Reached.{Reached, begin, sooner, ahead, text-of, text, part, ready, done}
+use fn.Places.{ahead, text-of, text, part, ready, done}
+use fn.ExprPrints.Reached.{Reached, begin, sooner}
 use fn.ExprPrints.Contexts.{operator-wrote}
 use fn.expression.+binary+call+cond+expr+form+label+let_expr+lift+list-closures+list-exprs+list-patterns+list-properties+list-triggers+listed+oper+quant+unary as cycle
 use cycle.Lts-listed as lts
@@ -34,7 +35,7 @@ module _ (t : ℕ) where
 
   abbrev at-start : Of lts.Start → Reached
   at-start c =
-      begin (c .args .text .now) (c .args .counts .now) Init SingleLine (aListed (c .args .text .now) (c .args .words .now) (c .args .counts .now) (c .args .at))
+      begin (c .args .text .now) (c .args .counts .now) (c .args .step) Init SingleLine (aListed (c .args .text .now) (c .args .words .now) (c .args .counts .now) (c .args .step) (c .args .at))
       (c .args .words .now) (c .args .at) (c .args .out .now) (c .args .pos) 0 (c .pre .1) (c .pre .0)
 
   abbrev at-head : Of lts.After-listed-head → Reached

@@ -5,15 +5,16 @@ use borrow.Author.Needs.{needs}
 use borrow.Fn.Kinds.{In, Out}
 use mathlib.Core.Path.{refl, ap, _∙_, _≡_}
 use mathlib.Core.List.{_++_}
-use Rattle.printing.specs.declared.power.BindingPower.{BindingPower}
-use Rattle.printing.specs.declared.power.Side.the-variants.{Left, Right}
-use Rattle.printing.specs.PrintUtil.{BindingStrength, Parenthesis}
+use Rattle.prints.specs.declared.power.BindingPower.{BindingPower}
+use Rattle.prints.specs.declared.power.Side.the-variants.{Left, Right}
+use Rattle.prints.specs.PrintUtil.{BindingStrength, Parenthesis}
 use Rattle.printing.specs.OperatorWords.{operatorOf}
 use Rattle.printing.specs.ExprParts.{anOperatorExpr}
 use Rattle.tree.proofs.get.Reads as get
 use Rattle.printing.proofs as fn
 use fn.ExprPrints.Equations.{operator-print}
-use fn.ExprPrints.Reached.{Begun, Reached, begin, seen, text-of, part, same-print, done}
+use fn.Places.{Begun, seen, text-of, part, done}
+use fn.ExprPrints.Reached.{Reached, begin, same-print}
 use fn.ExprPrints.Contexts.{by-operator}
 use fn.expression.+binary+call+cond+expr+form+label+let_expr+lift+list-closures+list-exprs+list-patterns+list-properties+list-triggers+listed+oper+quant+unary as cycle
 use cycle.Lts-oper as lts
@@ -27,8 +28,8 @@ module _ (t : ℕ) where
     get.Learnt,
     fn.operator.binding_strength.Reads.Asked,
     fn.operator.binding_strength.Reads.Learnt,
-    fn.power.BindingPower.parenthesis.Reads.Asked,
-    fn.power.BindingPower.parenthesis.Reads.Learnt,
+    fn.write.parenthesis.Reads.Asked,
+    fn.write.parenthesis.Reads.Learnt,
     form-below t,
     fn.expression.form.Reads.Post,
   )
@@ -39,10 +40,10 @@ module _ (t : ℕ) where
   abbrev at-start : Of lts.Start → Reached
   at-start c =
       seen
-      (begin (c .args .text .now) (c .args .counts .now) (c .args .context) (c .args .format)
-      (anOperatorExpr (c .args .text .now) (c .args .words .now) (c .args .counts .now) (c .args .at) (c .args .context) (c .args .format))
+      (begin (c .args .text .now) (c .args .counts .now) (c .args .step) (c .args .context) (c .args .format)
+      (anOperatorExpr (c .args .text .now) (c .args .words .now) (c .args .counts .now) (c .args .step) (c .args .at) (c .args .context) (c .args .format))
       (c .args .words .now) (c .args .at) (c .args .out .now) (c .args .pos) 2 (c .pre .1) (c .pre .0))
-      _ (λ x. operator-print (c .args .text .now) (x .tree .0) (x .tree .1) (c .args .context) (c .args .format))
+      _ (λ x. operator-print (c .args .text .now) (c .args .step) (x .tree .0) (x .tree .1) (c .args .context) (c .args .format))
 
   -- the strength of the operator that was read
   is-strength : (c : Of lts.After-binding-strength) (x : Begun (at-start (c .before .before .before .before .before .before) .origin)) → c .binding-strength .result ≡ BindingStrength (x .tree .0)
@@ -52,10 +53,10 @@ module _ (t : ℕ) where
   abbrev at-left : Of lts.After-parenthesis → Reached
   at-left c =
       text-of (at-start (c .before .before .before .before .before .before .before .before))
-      (λ x r. Parenthesis Left (BindingStrength (x .tree .0)) (at-start (c .before .before .before .before .before .before .before .before) .origin .context) ++ r)
+      (λ x r. Parenthesis Left (BindingStrength (x .tree .0)) (at-start (c .before .before .before .before .before .before .before .before) .origin .known .context) ++ r)
       _
       (λ x. same-print
-      (λ (v : BindingPower) r. Parenthesis Left v (at-start (c .before .before .before .before .before .before .before .before) .origin .context) ++ r)
+      (λ (v : BindingPower) r. Parenthesis Left v (at-start (c .before .before .before .before .before .before .before .before) .origin .known .context) ++ r)
       (is-strength (c .before .before) x) (c .parenthesis .ensures)) (λ x. refl)
 
   abbrev at-form : Of lts.After-form → Reached
@@ -64,8 +65,8 @@ module _ (t : ℕ) where
 
   abbrev at-end : Of lts.After-parenthesis2 → Reached
   at-end c =
-      text-of (at-form (c .before .before .before .before)) (λ x r. Parenthesis Right (BindingStrength (x .tree .0)) (at-form (c .before .before .before .before) .origin .context) ++ r) _
-      (λ x. same-print (λ (v : BindingPower) r. Parenthesis Right v (at-form (c .before .before .before .before) .origin .context) ++ r)
+      text-of (at-form (c .before .before .before .before)) (λ x r. Parenthesis Right (BindingStrength (x .tree .0)) (at-form (c .before .before .before .before) .origin .known .context) ++ r) _
+      (λ x. same-print (λ (v : BindingPower) r. Parenthesis Right v (at-form (c .before .before .before .before) .origin .known .context) ++ r)
       (is-strength (c .before .before .before .before .before .before .before .before .before .before) x) (c .parenthesis2 .ensures)) (λ x. refl)
 
   form-requires : Of lts.Need-form-requires

@@ -7,11 +7,10 @@ use mathlib.Core.Path.{refl, _≡_}
 use mathlib.Core.List.{List, _++_}
 use lib.ListN.{getD, length}
 use Rattle.grammar.specs.Words.{bytes}
-use Rattle.printing.specs.declared.format.ExprFormatOption.the-variants.{SingleLine}
-use Rattle.printing.specs.PrintUtil.{Init}
-use Rattle.printing.specs.Printer.{triggersEnd}
-use Rattle.printing.specs.Entries.{nameIn}
-use Rattle.printing.specs.Text.{unless}
+use Rattle.prints.specs.declared.format.ExprFormatOption.the-variants.{SingleLine}
+use Rattle.prints.specs.PrintUtil.{Init}
+use Rattle.prints.specs.Printer.{triggersEnd}
+use Rattle.prints.specs.Text.{unless}
 use Rattle.printing.specs.ExprParts.{propertyList}
 use Rattle.printing.specs.Parts.{Prints}
 use Rattle.printing.specs.declared.parts.Step.{Step}
@@ -19,8 +18,10 @@ use Rattle.tree.proofs.get.Reads as get
 use Rattle.printing.proofs as fn
 use fn.PartPrints.Joins.{inside}
 use fn.ExprPrints.Equations.{properties-print}
-use fn.ExprPrints.Reached.{Reached, begin, sooner, item, seen, text-of, text, part, ready, same-print, expression, done}
-use fn.ExprPrints.SequencePrints.{properties-none, someProperties, properties-more, triggers-end}
+use fn.Places.{item, seen, text-of, text, part, ready, done}
+use fn.ExprPrints.Reached.{Reached, begin, sooner, same-print, expression}
+use fn.ExprPrints.SequencePrints.{someProperties, some-properties, triggers-end}
+use fn.Sequences.{at-none, at-some}
 use fn.expression.+binary+call+cond+expr+form+label+let_expr+lift+list-closures+list-exprs+list-patterns+list-properties+list-triggers+listed+oper+quant+unary as cycle
 use cycle.Lts-list-properties as lts
 use cycle.Proof.Ranks.{properties-at, expr-below, triggers-below, properties-below}
@@ -51,9 +52,9 @@ module _ (t : ℕ) where
   abbrev at-start : (c : Of lts.Start) → c .args .at < length (c .args .words .now) → Reached
   at-start c h =
       seen
-      (begin (c .args .text .now) (c .args .counts .now) Init SingleLine (someProperties (c .args .text .now) (c .args .words .now) (c .args .counts .now) (c .args .at) (c .args .first))
+      (begin (c .args .text .now) (c .args .counts .now) (c .args .step) Init SingleLine (someProperties (c .args .text .now) (c .args .words .now) (c .args .counts .now) (c .args .step) (c .args .at) (c .args .first))
       (c .args .words .now) (c .args .at) (c .args .out .now) (c .args .pos) 0 h (c .pre .0))
-      _ (λ x. properties-print (c .args .text .now) (unless (c .args .first) (bytes ", ")) (x .tree .0) (x .tree .1) (x .tree .2))
+      _ (λ x. properties-print (c .args .text .now) (c .args .step) (unless (c .args .first) (bytes ", ")) (x .tree .0) (x .tree .1) (x .tree .2))
 
   -- an item stands here
   is-inside : (c : Of lts.Else1) → c .before .before .before .before .before .before .before .args .at < length (c .before .before .before .before .before .before .before .args .words .now)
@@ -72,9 +73,9 @@ module _ (t : ℕ) where
   abbrev at-colons : Of lts.After-put-unless → Reached
   at-colons c =
       text-of (at-triggers (c .before .before .before .before .before .before))
-      (λ x r. bytes (triggersEnd (nameIn (at-triggers (c .before .before .before .before .before .before) .origin .text)) 2 (x .tree .0)) ++ r) _
+      (λ x r. bytes (triggersEnd (x .tree .0)) ++ r) _
       (λ x. same-print (λ (l : List ℕ) r. l ++ r)
-      (triggers-end (at-item (c .before .before .before .before .before .before .before .before .before .before .before .before) .origin .text)
+      (triggers-end (at-item (c .before .before .before .before .before .before .before .before .before .before .before .before) .origin .known .text)
       (at-item (c .before .before .before .before .before .before .before .before .before .before .before .before) .origin .table)
       (at-item (c .before .before .before .before .before .before .before .before .before .before .before .before) .next) (x .tree .0) _
       (c .before .before .get2 .ensures)
@@ -91,8 +92,8 @@ module _ (t : ℕ) where
       part (at-body (c .before .before .before .before)) (c .properties .ensures) (λ x. x .tree .2) _ (λ x. (ready (at-body (c .before .before .before .before)) (omega arith) (x .given .0), x .given .1 .3)) _ (λ x. refl) (λ x. refl)
 
   returns : Of lts.Need-returns
-  returns c = properties-none (c .before .before .before .before .before .before .before .args .text .now) (c .before .before .before .before .before .before .before .args .counts .now) (c .before .before .after .ensures)
-      (c .before .get .ensures) (c .if1 .taken) (c .before .before .before .before .before .before .before .args .first)
+  returns c = at-none _ _ (some-properties (c .before .before .before .before .before .before .before .args .text .now) (c .before .before .before .before .before .before .before .args .words .now) (c .before .before .before .before .before .before .before .args .counts .now)
+      (c .before .before .before .before .before .before .before .args .step) (c .before .before .before .before .before .before .before .args .at) (c .before .before .before .before .before .before .before .args .first)) (c .before .get .ensures) (c .before .before .after .ensures) (c .if1 .taken)
 
   triggers-requires : Of lts.Need-triggers-requires
   triggers-requires c κs = (sooner (at-separator (c .before .before .before)) 0 (omega arith) (omega arith), tt)
@@ -105,10 +106,20 @@ module _ (t : ℕ) where
 
   -- the print of an item and the others is that of the sequence
   with-item : (c : Of lts.Start) {g : ℕ} {b : List ℕ} {s : Step} → g ≡ getD (c .args .words .now) (c .args .at) 0 → (g ≡ 0 → ⊥)
-      → Prints (someProperties (c .args .text .now) (c .args .words .now) (c .args .counts .now) (c .args .at) (c .args .first)) (c .args .words .now)
+      → Prints (someProperties (c .args .text .now) (c .args .words .now) (c .args .counts .now) (c .args .step) (c .args .at) (c .args .first)) (c .args .words .now)
       (c .args .at) (c .args .out .now) (c .args .pos) b s
-      → Prints (propertyList (c .args .text .now) (c .args .words .now) (c .args .counts .now) (c .args .at) (c .args .first)) (c .args .words .now) (c .args .at) (c .args .out .now) (c .args .pos) b s
-  with-item c e z p = properties-more (c .args .text .now) (c .args .words .now) (c .args .counts .now) (c .args .at) e z (c .args .first) p
+      → Prints (propertyList (c .args .text .now) (c .args .words .now) (c .args .counts .now) (c .args .step) (c .args .at) (c .args .first)) (c .args .words .now) (c .args .at) (c .args .out .now) (c .args .pos) b s
+  with-item c e z p = at-some _ _ (some-properties (c .args .text .now) (c .args .words .now) (c .args .counts .now) (c .args .step) (c .args .at) (c .args .first)) e z p
+
+  same-length : Of lts.Need-same-length
+  same-length c = omega (
+    arith,
+    c .before .before .before .before .before .before .before .before .before .before .before .before .before .before .before .before .before .before .before .out .given,
+    c .before .before .before .before .before .before .before .before .before .before .before .before .before .before .before .out2 .given,
+    c .before .before .before .before .before .before .before .before .before .out3 .given,
+    c .before .before .before .before .before .out4 .given,
+    c .before .out5 .given,
+  )
 
   returns-2 : Of lts.Need-returns-2
   returns-2 c = with-item
@@ -121,4 +132,4 @@ module _ (t : ℕ) where
   spec =
       lts.spec claims (properties-at t) Post
       (λ c κs. tt) (λ c κs. tt) returns (λ c κs. tt) triggers-requires (λ c κs. tt) (λ c. search needs) (λ c κs. tt) expr-requires properties-requires
-      (λ c. search needs) returns-2
+      same-length returns-2

@@ -4,9 +4,11 @@ use native.Mathlib.Omega.{arith}
 use borrow.Fn.Kinds.{In, Out}
 use mathlib.Core.Path.{refl}
 use Rattle.printing.specs.ExprParts.{aQuantifier}
+use Rattle.prints.proofs as prints
 use Rattle.printing.proofs as fn
 use fn.ExprPrints.Equations.{quantifierTail, quantifier-print}
-use fn.ExprPrints.Reached.{Reached, begin, sooner, ahead, seen, text, part, one-deeper, ready-more, formatted, expression, done}
+use fn.Places.{ahead, seen, text, part, done}
+use fn.ExprPrints.Reached.{Reached, begin, sooner, one-deeper, ready-more, formatted, expression}
 use fn.expression.+binary+call+cond+expr+form+label+let_expr+lift+list-closures+list-exprs+list-patterns+list-properties+list-triggers+listed+oper+quant+unary as cycle
 use cycle.Lts-quant as lts
 use cycle.Proof.Ranks.{quant-at, expr-below, patterns-below}
@@ -17,18 +19,18 @@ module _ (t : ℕ) where
   claims = (
     fn.parts.quantifier_head.Reads.Asked,
     fn.parts.quantifier_head.Reads.Learnt,
-    fn.format.ExprFormatOption.more.Reads.Asked,
-    fn.format.ExprFormatOption.more.Reads.Learnt,
+    prints.format.ExprFormatOption.more.Reads.Asked,
+    prints.format.ExprFormatOption.more.Reads.Learnt,
     patterns-below t,
     fn.expression.list.patterns.Reads.Post,
-    fn.format.ExprFormatOption.space.Reads.Asked,
-    fn.format.ExprFormatOption.space.Reads.Learnt,
-    fn.power.BindingPower.subexpression_power.Reads.Asked,
-    fn.power.BindingPower.subexpression_power.Reads.Learnt,
+    fn.write.space.Reads.Asked,
+    fn.write.space.Reads.Learnt,
+    prints.power.BindingPower.subexpression_power.Reads.Asked,
+    prints.power.BindingPower.subexpression_power.Reads.Learnt,
     expr-below t,
     fn.expression.expr.Reads.Post,
-    fn.power.BindingPower.parenthesis.Reads.Asked,
-    fn.power.BindingPower.parenthesis.Reads.Learnt,
+    fn.write.endless_parenthesis.Reads.Asked,
+    fn.write.endless_parenthesis.Reads.Learnt,
   )
 
   abbrev Of : (lts.Claims → In 4 lts.ps → Out 4 lts.ps lts.r → Type 0) → Type 0
@@ -37,9 +39,9 @@ module _ (t : ℕ) where
   abbrev at-start : Of lts.Start → Reached
   at-start c =
       seen
-      (begin (c .args .text .now) (c .args .counts .now) (c .args .context) (c .args .format) (aQuantifier (c .args .text .now) (c .args .words .now) (c .args .counts .now) (c .args .at) (c .args .context) (c .args .format))
+      (begin (c .args .text .now) (c .args .counts .now) (c .args .step) (c .args .context) (c .args .format) (aQuantifier (c .args .text .now) (c .args .words .now) (c .args .counts .now) (c .args .step) (c .args .at) (c .args .context) (c .args .format))
       (c .args .words .now) (c .args .at) (c .args .out .now) (c .args .pos) 0 (c .pre .1) (c .pre .0))
-      _ (λ x. quantifier-print (c .args .text .now) (x .tree .0) (x .tree .1) (x .tree .2) (x .tree .3) (c .args .context) (c .args .format))
+      _ (λ x. quantifier-print (c .args .text .now) (c .args .step) (x .tree .0) (x .tree .1) (x .tree .2) (x .tree .3) (c .args .context) (c .args .format))
 
   abbrev at-head : Of lts.After-quantifier-head → Reached
   at-head c =
@@ -48,7 +50,7 @@ module _ (t : ℕ) where
   abbrev at-indent : Of lts.After-more → Reached
   at-indent c =
       formatted (at-head (c .before .before .before))
-      (λ f x r. quantifierTail (at-head (c .before .before .before) .origin .text) (x .tree .2) (x .tree .3) (at-head (c .before .before .before) .origin .context) f r)
+      (λ f x r. quantifierTail (at-head (c .before .before .before) .origin .known .text) (at-head (c .before .before .before) .origin .known .step) (x .tree .2) (x .tree .3) (at-head (c .before .before .before) .origin .known .context) f r)
       (λ x. one-deeper (at-head (c .before .before .before)) (c .more .ensures) (x .given .0)) (λ x. refl)
 
   abbrev at-patterns : Of lts.After-patterns → Reached
@@ -69,8 +71,8 @@ module _ (t : ℕ) where
       )) _ _
       (λ x. c .before .before .subexpression-power .ensures) (λ x. refl) _ (λ x. refl) (λ x. refl)
 
-  abbrev at-end : Of lts.After-parenthesis → Reached
-  at-end c = text (at-body (c .before .before .before .before)) (c .parenthesis .ensures) _ (λ x. refl)
+  abbrev at-end : Of lts.After-endless-parenthesis → Reached
+  at-end c = text (at-body (c .before .before .before .before)) (c .endless-parenthesis .ensures) _ (λ x. refl)
 
   patterns-requires : Of lts.Need-patterns-requires
   patterns-requires c κs = (sooner (at-indent (c .before)) 0 (omega arith) (omega arith), tt)

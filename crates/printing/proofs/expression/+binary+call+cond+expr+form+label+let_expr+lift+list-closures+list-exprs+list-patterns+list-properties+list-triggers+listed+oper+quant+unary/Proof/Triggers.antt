@@ -6,8 +6,8 @@ use borrow.Fn.Kinds.{In, Out}
 use mathlib.Core.Path.{refl, _≡_}
 use mathlib.Core.List.{List}
 use lib.ListN.{getD, length}
-use Rattle.printing.specs.declared.format.ExprFormatOption.the-variants.{SingleLine}
-use Rattle.printing.specs.PrintUtil.{Init}
+use Rattle.prints.specs.declared.format.ExprFormatOption.the-variants.{SingleLine}
+use Rattle.prints.specs.PrintUtil.{Init}
 use Rattle.printing.specs.ExprParts.{triggerList}
 use Rattle.printing.specs.Parts.{Prints}
 use Rattle.printing.specs.declared.parts.Step.{Step}
@@ -15,8 +15,10 @@ use Rattle.tree.proofs.get.Reads as get
 use Rattle.printing.proofs as fn
 use fn.PartPrints.Joins.{inside}
 use fn.ExprPrints.Equations.{triggers-print}
-use fn.ExprPrints.Reached.{Reached, begin, sooner, item, seen, text, part, ready, done}
-use fn.ExprPrints.SequencePrints.{triggers-none, someTriggers, triggers-more}
+use fn.Places.{item, seen, text, part, ready, done}
+use fn.ExprPrints.Reached.{Reached, begin, sooner}
+use fn.ExprPrints.SequencePrints.{someTriggers, some-triggers}
+use fn.Sequences.{at-none, at-some}
 use fn.expression.+binary+call+cond+expr+form+label+let_expr+lift+list-closures+list-exprs+list-patterns+list-properties+list-triggers+listed+oper+quant+unary as cycle
 use cycle.Lts-list-triggers as lts
 use cycle.Proof.Ranks.{triggers-at, exprs-below, triggers-below}
@@ -43,9 +45,9 @@ module _ (t : ℕ) where
   abbrev at-start : (c : Of lts.Start) → c .args .at < length (c .args .words .now) → Reached
   at-start c h =
       seen
-      (begin (c .args .text .now) (c .args .counts .now) Init SingleLine (someTriggers (c .args .text .now) (c .args .words .now) (c .args .counts .now) (c .args .at))
+      (begin (c .args .text .now) (c .args .counts .now) (c .args .step) Init SingleLine (someTriggers (c .args .text .now) (c .args .words .now) (c .args .counts .now) (c .args .step) (c .args .at))
       (c .args .words .now) (c .args .at) (c .args .out .now) (c .args .pos) 0 h (c .pre .0))
-      _ (λ x. triggers-print (c .args .text .now) (x .tree .0) (x .tree .1))
+      _ (λ x. triggers-print (c .args .text .now) (c .args .step) (x .tree .0) (x .tree .1))
 
   -- an item stands here
   is-inside : (c : Of lts.Else1) → c .before .before .before .before .before .before .before .args .at < length (c .before .before .before .before .before .before .before .args .words .now)
@@ -69,7 +71,8 @@ module _ (t : ℕ) where
       part (at-space (c .before .before .before .before)) (c .triggers .ensures) (λ x. x .tree .1) _ (λ x. (ready (at-space (c .before .before .before .before)) (omega arith) (x .given .0), x .given .1 .2)) _ (λ x. refl) (λ x. refl)
 
   returns : Of lts.Need-returns
-  returns c = triggers-none (c .before .before .before .before .before .before .before .args .text .now) (c .before .before .before .before .before .before .before .args .counts .now) (c .before .before .after .ensures) (c .before .get .ensures) (c .if1 .taken)
+  returns c = at-none _ _ (some-triggers (c .before .before .before .before .before .before .before .args .text .now) (c .before .before .before .before .before .before .before .args .words .now) (c .before .before .before .before .before .before .before .args .counts .now)
+      (c .before .before .before .before .before .before .before .args .step) (c .before .before .before .before .before .before .before .args .at)) (c .before .get .ensures) (c .before .before .after .ensures) (c .if1 .taken)
 
   exprs-requires : Of lts.Need-exprs-requires
   exprs-requires c κs = (sooner (at-word (c .before .before .before)) 0 (omega arith) (omega arith), tt)
@@ -79,9 +82,9 @@ module _ (t : ℕ) where
 
   -- the print of an item and the others is that of the sequence
   with-item : (c : Of lts.Start) {g : ℕ} {b : List ℕ} {s : Step} → g ≡ getD (c .args .words .now) (c .args .at) 0 → (g ≡ 0 → ⊥)
-      → Prints (someTriggers (c .args .text .now) (c .args .words .now) (c .args .counts .now) (c .args .at)) (c .args .words .now) (c .args .at) (c .args .out .now) (c .args .pos) b s
-      → Prints (triggerList (c .args .text .now) (c .args .words .now) (c .args .counts .now) (c .args .at)) (c .args .words .now) (c .args .at) (c .args .out .now) (c .args .pos) b s
-  with-item c e z p = triggers-more (c .args .text .now) (c .args .words .now) (c .args .counts .now) (c .args .at) e z p
+      → Prints (someTriggers (c .args .text .now) (c .args .words .now) (c .args .counts .now) (c .args .step) (c .args .at)) (c .args .words .now) (c .args .at) (c .args .out .now) (c .args .pos) b s
+      → Prints (triggerList (c .args .text .now) (c .args .words .now) (c .args .counts .now) (c .args .step) (c .args .at)) (c .args .words .now) (c .args .at) (c .args .out .now) (c .args .pos) b s
+  with-item c e z p = at-some _ _ (some-triggers (c .args .text .now) (c .args .words .now) (c .args .counts .now) (c .args .step) (c .args .at)) e z p
 
   returns-2 : Of lts.Need-returns-2
   returns-2 c = with-item

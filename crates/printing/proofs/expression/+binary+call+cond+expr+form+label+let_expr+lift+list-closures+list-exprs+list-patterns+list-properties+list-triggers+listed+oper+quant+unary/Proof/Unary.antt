@@ -7,14 +7,15 @@ use mathlib.Core.Path.{refl, ap}
 use mathlib.Core.List.{_++_}
 use Rattle.grammar.specs.Words.{bytes}
 use Rattle.tree.specs.Ast.{Operator}
-use Rattle.printing.specs.declared.power.Side.the-variants.{Right}
-use Rattle.printing.specs.declared.format.ExprFormatOption.the-variants.{SingleLine}
-use Rattle.printing.specs.PrintUtil.{ToString}
+use Rattle.prints.specs.declared.power.Side.the-variants.{Right}
+use Rattle.prints.specs.declared.format.ExprFormatOption.the-variants.{SingleLine}
+use Rattle.prints.specs.PrintUtil.{ToString}
 use Rattle.printing.specs.OperatorWords.{operatorOf}
 use Rattle.printing.specs.ExprParts.{aUnary}
 use Rattle.tree.proofs.get.Reads as get
 use Rattle.printing.proofs as fn
-use fn.ExprPrints.Reached.{Reached, begin, sooner, ahead, passed, text-of, ready, same-print, expression, done}
+use fn.Places.{ahead, passed, text-of, ready, done}
+use fn.ExprPrints.Reached.{Reached, begin, sooner, same-print, expression}
 use fn.ExprPrints.Contexts.{by-operator, operand-context}
 use fn.expression.+binary+call+cond+expr+form+label+let_expr+lift+list-closures+list-exprs+list-patterns+list-properties+list-triggers+listed+oper+quant+unary as cycle
 use cycle.Lts-unary as lts
@@ -41,7 +42,7 @@ module _ (t : ℕ) where
 
   abbrev at-start : Of lts.Start → Reached
   at-start c =
-      begin (c .args .text .now) (c .args .counts .now) (c .args .context) SingleLine (aUnary (c .args .text .now) (c .args .words .now) (c .args .counts .now) (c .args .at) (c .args .context))
+      begin (c .args .text .now) (c .args .counts .now) (c .args .step) (c .args .context) SingleLine (aUnary (c .args .text .now) (c .args .words .now) (c .args .counts .now) (c .args .step) (c .args .at) (c .args .context))
       (c .args .words .now) (c .args .at) (c .args .out .now) (c .args .pos) 0 (c .pre .1) (c .pre .0)
 
   abbrev at-sign : Of lts.After-put-operator → Reached

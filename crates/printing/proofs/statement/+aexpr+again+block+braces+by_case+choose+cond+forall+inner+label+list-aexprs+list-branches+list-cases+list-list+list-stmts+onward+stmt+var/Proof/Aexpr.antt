@@ -10,10 +10,10 @@ use Rattle.printing.specs.StmtParts.{anAExpr}
 use Rattle.tree.proofs.get.Reads as get
 use Rattle.printing.proofs as fn
 use fn.PartPrints.Joins.{inside}
-use fn.Places.{Place, begin, seen, passed, text, part, done}
+use fn.Places.{Place, begin, seen, passed, text, part, done, ready}
 use fn.Sequences.{made}
 use fn.StmtPrints.Forms.{is-assertion, is-plain, plainly, plain-print}
-use fn.StmtPrints.Room.{one-line, ready, nearer-by}
+use fn.StmtPrints.Room.{one-line, nearer-by}
 use fn.statement.+aexpr+again+block+braces+by_case+choose+cond+forall+inner+label+list-aexprs+list-branches+list-cases+list-list+list-stmts+onward+stmt+var as cycle
 use cycle.Lts-aexpr as lts
 use cycle.Proof.Ranks.{aexpr-at, stmt-below}
@@ -46,20 +46,20 @@ module _ (t : ℕ) where
   returns : Of lts.Need-returns
   returns c = is-assertion (c .before .before .before .before .before .before .before .before .before .before .before .args .text .now)
       (c .before .before .before .before .before .before .before .before .before .before .before .args .words .now)
-      (c .before .before .before .before .before .before .before .before .before .before .before .args .counts .now)
+      (c .before .before .before .before .before .before .before .before .before .before .before .args .counts .now) (c .before .before .before .before .before .before .before .before .before .before .before .args .step)
       (c .before .before .before .before .before .before .before .before .before .before .before .args .at)
       (c .before .before .before .before .before .before .before .before .before .before .before .args .indent) (c .before .before .before .before .before .get .ensures)
       (c .before .before .before .before .before .before .after .ensures) (c .before .before .before .before .if1 .taken) (c .before .before .stmt .ensures)
 
   abbrev at-start : Of lts.Start → Place
-  at-start c = seen (begin (made (anAExpr (c .args .text .now) (c .args .words .now) (c .args .counts .now) (c .args .at) (c .args .indent)) (plainly (c .args .text .now))) (c .args .words .now) (c .args .at) (c .args .out .now) (c .args .pos)) _ (λ x. plain-print (c .args .text .now) (x .tree) (c .args .indent))
+  at-start c = seen (begin (made (anAExpr (c .args .text .now) (c .args .words .now) (c .args .counts .now) (c .args .step) (c .args .at) (c .args .indent)) (plainly (c .args .text .now))) (c .args .words .now) (c .args .at) (c .args .out .now) (c .args .pos)) _ (λ x. plain-print (c .args .text .now) (c .args .step) (x .tree) (c .args .indent))
 
   abbrev at-word : Of lts.Else1 → Place
   at-word c = passed (at-start (c .before .before .before .before .before .before .before)) (c .before .before .after .ensures) _ _ (λ x. refl)
 
   abbrev at-expr : Of lts.After-expr → Place
   at-expr c = part (at-word (c .before .before)) (one-line (c .before .before .before .before .before .before .before .before .before .args .text .now)
-      (c .before .before .before .before .before .before .before .before .before .args .words .now) (c .before .before .before .before .before .before .before .before .before .args .counts .now) _
+      (c .before .before .before .before .before .before .before .before .before .args .words .now) (c .before .before .before .before .before .before .before .before .before .args .counts .now) (c .before .before .before .before .before .before .before .before .before .args .step) _
       (c .expr .ensures)) (λ x. x .tree) _ (λ x. (ready (at-word (c .before .before)) (omega arith) (x .given .0), x .given .1)) _ (λ x. refl) (λ x. refl)
 
   abbrev at-end : Of lts.After-put → Place
@@ -68,7 +68,7 @@ module _ (t : ℕ) where
   returns-2 : Of lts.Need-returns-2
   returns-2 c = is-plain (c .before .before .before .before .before .before .before .before .before .before .before .before .before .before .before .before .args .text .now)
       (c .before .before .before .before .before .before .before .before .before .before .before .before .before .before .before .before .args .words .now)
-      (c .before .before .before .before .before .before .before .before .before .before .before .before .before .before .before .before .args .counts .now)
+      (c .before .before .before .before .before .before .before .before .before .before .before .before .before .before .before .before .args .counts .now) (c .before .before .before .before .before .before .before .before .before .before .before .before .before .before .before .before .args .step)
       (c .before .before .before .before .before .before .before .before .before .before .before .before .before .before .before .before .args .at)
       (c .before .before .before .before .before .before .before .before .before .before .before .before .before .before .before .before .args .indent)
       (c .before .before .before .before .before .before .before .before .before .before .get .ensures) (c .before .before .before .before .before .before .before .before .before .if1 .left) (done (at-end

@@ -3,18 +3,19 @@ use Prim.Native.Nat.{ℕ}
 use native.Mathlib.Omega.{arith}
 use borrow.Author.Needs.{needs}
 use borrow.Fn.Kinds.{In, Out}
-use mathlib.Core.Path.{refl}
+use mathlib.Core.Path.{refl, _∙_}
 use native.Mathlib.Nat.{le-refl}
 use Prim.Native.Nat.{_+_}
 use lib.Dec.{eqb}
 use Rattle.printing.specs.StmtParts.{aLoop}
 use Rattle.tree.proofs.get.Reads as get
+use Rattle.prints.proofs as prints
 use Rattle.printing.proofs as fn
 use fn.PartPrints.Joins.{next-inside}
-use fn.Places.{Place, begin, seen, ahead, text, part, done}
+use fn.Places.{Place, begin, seen, ahead, text, part, done, ready-deeper}
 use fn.StmtPrints.Equations.{loop-print}
 use fn.StmtPrints.Marks.{aexprs-mark}
-use fn.StmtPrints.Room.{ready-deeper, small, sooner, deeper-small}
+use fn.StmtPrints.Room.{small, sooner, deeper-small}
 use fn.statement.+aexpr+again+block+braces+by_case+choose+cond+forall+inner+label+list-aexprs+list-branches+list-cases+list-list+list-stmts+onward+stmt+var as cycle
 use cycle.Lts-again as lts
 use cycle.Proof.Ranks.{again-at, aexprs-below, block-below}
@@ -29,8 +30,8 @@ module _ (t : ℕ) where
     fn.write.put.Reads.Learnt,
     fn.write.put_either.Reads.Asked,
     fn.write.put_either.Reads.Learnt,
-    fn.format.deeper.Reads.Asked,
-    fn.format.deeper.Reads.Learnt,
+    prints.deeper.Reads.Asked,
+    prints.deeper.Reads.Learnt,
     aexprs-below t,
     fn.statement.list.aexprs.Reads.Post,
     fn.write.put_indent_unless.Reads.Asked,
@@ -46,17 +47,17 @@ module _ (t : ℕ) where
   at-start c = ahead (text (text (seen (begin (aLoop
       (c .before .before .before .before .before .before .before .before .before .before .before .before .before .before .before .before .before .before .args .text .now)
       (c .before .before .before .before .before .before .before .before .before .before .before .before .before .before .before .before .before .before .args .words .now)
-      (c .before .before .before .before .before .before .before .before .before .before .before .before .before .before .before .before .before .before .args .counts .now)
+      (c .before .before .before .before .before .before .before .before .before .before .before .before .before .before .before .before .before .before .args .counts .now) (c .before .before .before .before .before .before .before .before .before .before .before .before .before .before .before .before .before .before .args .step)
       (c .before .before .before .before .before .before .before .before .before .before .before .before .before .before .before .before .before .before .args .at)
       (c .before .before .before .before .before .before .before .before .before .before .before .before .before .before .before .before .before .before .args .indent))
       (c .before .before .before .before .before .before .before .before .before .before .before .before .before .before .before .before .before .before .args .words .now)
       (c .before .before .before .before .before .before .before .before .before .before .before .before .before .before .before .before .before .before .args .at)
       (c .before .before .before .before .before .before .before .before .before .before .before .before .before .before .before .before .before .before .args .out .now)
       (c .before .before .before .before .before .before .before .before .before .before .before .before .before .before .before .before .before .before .args .pos)) _
-      (λ x. loop-print (c .before .before .before .before .before .before .before .before .before .before .before .before .before .before .before .before .before .before .args .text .now) (x .tree .0)
+      (λ x. loop-print (c .before .before .before .before .before .before .before .before .before .before .before .before .before .before .before .before .before .before .args .text .now) (c .before .before .before .before .before .before .before .before .before .before .before .before .before .before .before .before .before .before .args .step) (x .tree .0)
       (x .tree .1) (c .before .before .before .before .before .before .before .before .before .before .before .before .before .before .before .before .before .before .args .indent) (c .deeper .result) (eqb
-      (c .before .before .before .before .before .before .before .before .before .before .before .before .before .get .result) 0) (c .deeper .ensures (small
-      (c .before .before .before .before .before .before .before .before .before .before .before .before .before .before .before .before .before .before .pre .1) (x .given .0)))
+      (c .before .before .before .before .before .before .before .before .before .before .before .before .before .get .result) 0) (c .deeper .ensures ∙ small
+      (c .before .before .before .before .before .before .before .before .before .before .before .before .before .before .before .before .before .before .pre .1) (x .given .0))
       (aexprs-mark (c .before .before .before .before .before .before .before .before .before .before .before .before .before .before .before .before .before .before .args .text .now)
       (c .before .before .before .before .before .before .before .before .before .before .before .before .before .before .before .before .before .before .args .words .now)
       (c .before .before .before .before .before .before .before .before .before .before .before .before .before .before .before .before .before .before .args .at + 1)
@@ -70,9 +71,9 @@ module _ (t : ℕ) where
   at-invariants c = part (at-start (c .before .before)) (c .aexprs .ensures) (λ x. x .tree .0) _
       (λ x. (
         ready-deeper (at-start (c .before .before)) (omega arith) (deeper-small
-            (c .before .before .before .before .before .before .before .before .before .before .before .before .before .before .before .before .before .before .before .before .args .indent)
-            (c .before .before .deeper .ensures (small
-            (c .before .before .before .before .before .before .before .before .before .before .before .before .before .before .before .before .before .before .before .before .pre .1) (x .given .0))))
+            (c .before .before .before .before .before .before .before .before .before .before .before .before .before .before .before .before .before .before .before .before .args .step) (c .before .before .before .before .before .before .before .before .before .before .before .before .before .before .before .before .before .before .before .before .args .indent)
+            (c .before .before .deeper .ensures ∙ small
+            (c .before .before .before .before .before .before .before .before .before .before .before .before .before .before .before .before .before .before .before .before .pre .1) (x .given .0)))
             (x .given .0),
         x .given .1 .1,
       )) _ (λ x. refl) (λ x. refl)

@@ -3,8 +3,9 @@ use Prim.Native.Nat.{ℕ}
 use native.Mathlib.Omega.{arith}
 use borrow.Author.Needs.{needs}
 use borrow.Fn.Kinds.{In, Out}
-use mathlib.Core.Path.{refl}
+use mathlib.Core.Path.{refl, _∙_}
 use Rattle.printing.specs.StmtParts.{aBlock}
+use Rattle.prints.proofs as prints
 use Rattle.printing.proofs as fn
 use fn.Places.{Place, begin, seen, text, part, done}
 use fn.StmtPrints.Equations.{block-print, S}
@@ -19,8 +20,8 @@ module _ (t : ℕ) where
   claims = (
     fn.write.put.Reads.Asked,
     fn.write.put.Reads.Learnt,
-    fn.format.deeper.Reads.Asked,
-    fn.format.deeper.Reads.Learnt,
+    prints.deeper.Reads.Asked,
+    prints.deeper.Reads.Learnt,
     inner-below t,
     fn.statement.inner.Reads.Post,
     fn.write.put_indent.Reads.Asked,
@@ -33,26 +34,26 @@ module _ (t : ℕ) where
   abbrev at-start : Of lts.After-deeper → Place
   at-start c = seen (text (seen (begin (aBlock (c .before .before .before .before .before .before .before .before .before .before .args .text .now)
       (c .before .before .before .before .before .before .before .before .before .before .args .words .now)
-      (c .before .before .before .before .before .before .before .before .before .before .args .counts .now) (c .before .before .before .before .before .before .before .before .before .before .args .at)
+      (c .before .before .before .before .before .before .before .before .before .before .args .counts .now) (c .before .before .before .before .before .before .before .before .before .before .args .step) (c .before .before .before .before .before .before .before .before .before .before .args .at)
       (c .before .before .before .before .before .before .before .before .before .before .args .indent)) (c .before .before .before .before .before .before .before .before .before .before .args .words .now)
       (c .before .before .before .before .before .before .before .before .before .before .args .at) (c .before .before .before .before .before .before .before .before .before .before .args .out .now)
       (c .before .before .before .before .before .before .before .before .before .before .args .pos)) _
-      (λ x. block-print (c .before .before .before .before .before .before .before .before .before .before .args .text .now) (S
-      (c .before .before .before .before .before .before .before .before .before .before .args .text .now) (x .tree))
-      (c .before .before .before .before .before .before .before .before .before .before .args .indent) (c .deeper .result) (c .deeper .ensures (small-indent
-      (c .before .before .before .before .before .before .before .before .before .before .args .indent) (x .given .0) (stmt-inside
+      (λ x. block-print (c .before .before .before .before .before .before .before .before .before .before .args .text .now) (c .before .before .before .before .before .before .before .before .before .before .args .step) (S
+      (c .before .before .before .before .before .before .before .before .before .before .args .text .now) (c .before .before .before .before .before .before .before .before .before .before .args .step) (x .tree))
+      (c .before .before .before .before .before .before .before .before .before .before .args .indent) (c .deeper .result) (c .deeper .ensures ∙ small-indent
+      (c .before .before .before .before .before .before .before .before .before .before .args .step) (c .before .before .before .before .before .before .before .before .before .before .args .indent) (x .given .0) (stmt-inside
       (c .before .before .before .before .before .before .before .before .before .before .args .text .now)
       (c .before .before .before .before .before .before .before .before .before .before .args .words .now) (c .before .before .before .before .before .before .before .before .before .before .args .at)
-      (x .tree) (x .rest) (x .stands)))))) (c .before .before .before .put .ensures) _ (λ x. refl)) _ (λ x. refl)
+      (x .tree) (x .rest) (x .stands))))) (c .before .before .before .put .ensures) _ (λ x. refl)) _ (λ x. refl)
 
   abbrev at-inner : Of lts.After-inner → Place
   at-inner c = part (at-start (c .before .before)) (c .inner .ensures) (λ x. x .tree) _
       (λ x. (
-        at-indent (c .before .before .before .before .before .before .before .before .before .before .before .before .args .indent) (c .before .before .deeper .ensures (small-indent
-            (c .before .before .before .before .before .before .before .before .before .before .before .before .args .indent) (x .given .0) (stmt-inside
+        at-indent (c .before .before .before .before .before .before .before .before .before .before .before .before .args .indent) (c .before .before .deeper .ensures ∙ small-indent
+            (c .before .before .before .before .before .before .before .before .before .before .before .before .args .step) (c .before .before .before .before .before .before .before .before .before .before .before .before .args .indent) (x .given .0) (stmt-inside
             (c .before .before .before .before .before .before .before .before .before .before .before .before .args .text .now)
             (c .before .before .before .before .before .before .before .before .before .before .before .before .args .words .now)
-            (c .before .before .before .before .before .before .before .before .before .before .before .before .args .at) (x .tree) (x .rest) (x .stands)))) (x .given .0),
+            (c .before .before .before .before .before .before .before .before .before .before .before .before .args .at) (x .tree) (x .rest) (x .stands))) (x .given .0),
         x .given .1,
       )) _ (λ x. refl) (λ x. refl)
 

@@ -3,12 +3,13 @@ use Prim.Native.Nat.{ℕ}
 use native.Mathlib.Omega.{arith}
 use borrow.Author.Needs.{needs}
 use borrow.Fn.Kinds.{In, Out}
-use mathlib.Core.Path.{refl}
+use mathlib.Core.Path.{refl, _∙_}
 use Rattle.printing.specs.StmtParts.{aBraces}
+use Rattle.prints.proofs as prints
 use Rattle.printing.proofs as fn
-use fn.Places.{Place, begin, seen, ahead, text, part, done}
+use fn.Places.{Place, begin, seen, ahead, text, part, done, ready-deeper}
 use fn.StmtPrints.Equations.{braces-print}
-use fn.StmtPrints.Room.{ready-deeper, small, sooner, deeper-small}
+use fn.StmtPrints.Room.{small, sooner, deeper-small}
 use fn.statement.+aexpr+again+block+braces+by_case+choose+cond+forall+inner+label+list-aexprs+list-branches+list-cases+list-list+list-stmts+onward+stmt+var as cycle
 use cycle.Lts-braces as lts
 use cycle.Proof.Ranks.{braces-at, list-below}
@@ -19,8 +20,8 @@ module _ (t : ℕ) where
   claims = (
     fn.write.put.Reads.Asked,
     fn.write.put.Reads.Learnt,
-    fn.format.deeper.Reads.Asked,
-    fn.format.deeper.Reads.Learnt,
+    prints.deeper.Reads.Asked,
+    prints.deeper.Reads.Learnt,
     list-below t,
     fn.statement.list.list.Reads.Post,
     fn.write.put_indent.Reads.Asked,
@@ -33,19 +34,19 @@ module _ (t : ℕ) where
   abbrev at-start : Of lts.After-deeper → Place
   at-start c = ahead (text (seen (begin (aBraces (c .before .before .before .before .before .before .before .before .before .before .args .text .now)
       (c .before .before .before .before .before .before .before .before .before .before .args .words .now)
-      (c .before .before .before .before .before .before .before .before .before .before .args .counts .now) (c .before .before .before .before .before .before .before .before .before .before .args .at)
+      (c .before .before .before .before .before .before .before .before .before .before .args .counts .now) (c .before .before .before .before .before .before .before .before .before .before .args .step) (c .before .before .before .before .before .before .before .before .before .before .args .at)
       (c .before .before .before .before .before .before .before .before .before .before .args .indent)) (c .before .before .before .before .before .before .before .before .before .before .args .words .now)
       (c .before .before .before .before .before .before .before .before .before .before .args .at) (c .before .before .before .before .before .before .before .before .before .before .args .out .now)
       (c .before .before .before .before .before .before .before .before .before .before .args .pos)) _
-      (λ x. braces-print (c .before .before .before .before .before .before .before .before .before .before .args .text .now) (x .tree)
-      (c .before .before .before .before .before .before .before .before .before .before .args .indent) (c .deeper .result) (c .deeper .ensures (small
-      (c .before .before .before .before .before .before .before .before .before .before .pre .1) (x .given .0))))) (c .before .before .before .put .ensures) _ (λ x. refl)) 1 _ (λ x. refl)
+      (λ x. braces-print (c .before .before .before .before .before .before .before .before .before .before .args .text .now) (c .before .before .before .before .before .before .before .before .before .before .args .step) (x .tree)
+      (c .before .before .before .before .before .before .before .before .before .before .args .indent) (c .deeper .result) (c .deeper .ensures ∙ small
+      (c .before .before .before .before .before .before .before .before .before .before .pre .1) (x .given .0)))) (c .before .before .before .put .ensures) _ (λ x. refl)) 1 _ (λ x. refl)
 
   abbrev at-list : Of lts.After-list → Place
   at-list c = part (at-start (c .before .before)) (c .list .ensures) (λ x. x .tree) _
       (λ x. (
-        ready-deeper (at-start (c .before .before)) (omega arith) (deeper-small (c .before .before .before .before .before .before .before .before .before .before .before .before .args .indent)
-            (c .before .before .deeper .ensures (small (c .before .before .before .before .before .before .before .before .before .before .before .before .pre .1) (x .given .0)))) (x .given .0),
+        ready-deeper (at-start (c .before .before)) (omega arith) (deeper-small (c .before .before .before .before .before .before .before .before .before .before .before .before .args .step) (c .before .before .before .before .before .before .before .before .before .before .before .before .args .indent)
+            (c .before .before .deeper .ensures ∙ small (c .before .before .before .before .before .before .before .before .before .before .before .before .pre .1) (x .given .0))) (x .given .0),
         x .given .1,
       )) _
       (λ x. refl) (λ x. refl)

@@ -10,10 +10,10 @@ use Prim.Native.Nat.{_+_}
 use Rattle.tree.proofs.get.Reads as get
 use Rattle.printing.proofs as fn
 use fn.PartPrints.Joins.{next-inside}
-use fn.Places.{Place, begin, seen, ahead, text, part, done}
+use fn.Places.{Place, begin, seen, ahead, text, part, done, ready}
 use fn.StmtPrints.Equations.{cases-print}
 use fn.StmtPrints.Marks.{cases-mark}
-use fn.StmtPrints.Room.{ready, sooner}
+use fn.StmtPrints.Room.{sooner}
 use fn.statement.+aexpr+again+block+braces+by_case+choose+cond+forall+inner+label+list-aexprs+list-branches+list-cases+list-list+list-stmts+onward+stmt+var as cycle
 use cycle.Lts-by_case as lts
 use cycle.Proof.Ranks.{by-case-at, cases-below}
@@ -38,14 +38,14 @@ module _ (t : ℕ) where
   abbrev at-start : Of lts.After-no-cases → Place
   at-start c = ahead (text (text (seen (begin (anIfCase (c .before .before .before .before .before .before .before .before .before .before .before .before .args .text .now)
       (c .before .before .before .before .before .before .before .before .before .before .before .before .args .words .now)
-      (c .before .before .before .before .before .before .before .before .before .before .before .before .args .counts .now)
+      (c .before .before .before .before .before .before .before .before .before .before .before .before .args .counts .now) (c .before .before .before .before .before .before .before .before .before .before .before .before .args .step)
       (c .before .before .before .before .before .before .before .before .before .before .before .before .args .at)
       (c .before .before .before .before .before .before .before .before .before .before .before .before .args .indent))
       (c .before .before .before .before .before .before .before .before .before .before .before .before .args .words .now)
       (c .before .before .before .before .before .before .before .before .before .before .before .before .args .at)
       (c .before .before .before .before .before .before .before .before .before .before .before .before .args .out .now)
       (c .before .before .before .before .before .before .before .before .before .before .before .before .args .pos)) _
-      (λ x. cases-print (c .before .before .before .before .before .before .before .before .before .before .before .before .args .text .now) (x .tree)
+      (λ x. cases-print (c .before .before .before .before .before .before .before .before .before .before .before .before .args .text .now) (c .before .before .before .before .before .before .before .before .before .before .before .before .args .step) (x .tree)
       (c .before .before .before .before .before .before .before .before .before .before .before .before .args .indent) (cases-mark
       (c .before .before .before .before .before .before .before .before .before .before .before .before .args .text .now)
       (c .before .before .before .before .before .before .before .before .before .before .before .before .args .words .now)

@@ -12,12 +12,12 @@ use Rattle.printing.specs.StmtParts.{caseSequence}
 use Rattle.tree.proofs.get.Reads as get
 use Rattle.printing.proofs as fn
 use fn.PartPrints.Joins.{inside}
-use fn.Places.{Place, begin, seen, item, text, text-of, part, done}
+use fn.Places.{Place, begin, seen, item, text, text-of, part, done, ready, ready-deeper}
 use fn.Sequences.{made, at-none, at-some}
 use fn.StmtPrints.Equations.{case-print}
 use fn.StmtPrints.Pieces.{same-bytes}
 use fn.StmtPrints.Marks.{casesOf, some-cases, case-end}
-use fn.StmtPrints.Room.{ready, ready-deeper, sooner, one-line}
+use fn.StmtPrints.Room.{sooner, one-line}
 use fn.statement.+aexpr+again+block+braces+by_case+choose+cond+forall+inner+label+list-aexprs+list-branches+list-cases+list-list+list-stmts+onward+stmt+var as cycle
 use cycle.Lts-list-cases as lts
 use cycle.Proof.Ranks.{cases-at, block-below, cases-below}
@@ -46,19 +46,19 @@ module _ (t : ℕ) where
   Of N = N claims (cases-at t) Post
 
   abbrev list : Of lts.Start → Part
-  list c = caseSequence (c .args .text .now) (c .args .words .now) (c .args .counts .now) (c .args .at) (c .args .indent)
+  list c = caseSequence (c .args .text .now) (c .args .words .now) (c .args .counts .now) (c .args .step) (c .args .at) (c .args .indent)
 
   is-inside : (c : Of lts.Else1) → c .before .before .before .before .before .before .before .args .at < length (c .before .before .before .before .before .before .before .args .words .now)
   is-inside c = inside (c .before .before .before .before .before .before .before .args .words .now) (c .before .get .ensures) (c .if1 .left)
 
   returns : Of lts.Need-returns
   returns c = at-none (list (c .before .before .before .before .before .before .before)) casesOf (some-cases (c .before .before .before .before .before .before .before .args .text .now)
-      (c .before .before .before .before .before .before .before .args .words .now) (c .before .before .before .before .before .before .before .args .counts .now)
+      (c .before .before .before .before .before .before .before .args .words .now) (c .before .before .before .before .before .before .before .args .counts .now) (c .before .before .before .before .before .before .before .args .step)
       (c .before .before .before .before .before .before .before .args .at) (c .before .before .before .before .before .before .before .args .indent)) (c .before .get .ensures)
       (c .before .before .after .ensures) (c .if1 .taken)
 
   abbrev at-start : Of lts.Start → Place
-  at-start c = seen (begin (made (list c) casesOf) (c .args .words .now) (c .args .at) (c .args .out .now) (c .args .pos)) _ (λ x. case-print (c .args .text .now) (x .tree .0) (x .tree .1) (x .tree .2) (c .args .indent))
+  at-start c = seen (begin (made (list c) casesOf) (c .args .words .now) (c .args .at) (c .args .out .now) (c .args .pos)) _ (λ x. case-print (c .args .text .now) (c .args .step) (x .tree .0) (x .tree .1) (x .tree .2) (c .args .indent))
 
   abbrev at-item : Of lts.Else1 → Place
   at-item c = item (at-start (c .before .before .before .before .before .before .before)) (c .before .before .after .ensures) (is-inside c) _ _ (λ x. refl)
@@ -70,7 +70,7 @@ module _ (t : ℕ) where
   at-cond c = part (at-word (c .before .before .before .before)) (one-line
       (c .before .before .before .before .before .before .before .before .before .before .before .before .before .before .args .text .now)
       (c .before .before .before .before .before .before .before .before .before .before .before .before .before .before .args .words .now)
-      (c .before .before .before .before .before .before .before .before .before .before .before .before .before .before .args .counts .now) _ (c .expr .ensures)) (λ x. x .tree .0) _ (λ x. (
+      (c .before .before .before .before .before .before .before .before .before .before .before .before .before .before .args .counts .now) (c .before .before .before .before .before .before .before .before .before .before .before .before .before .before .args .step) _ (c .expr .ensures)) (λ x. x .tree .0) _ (λ x. (
         ready (at-word
             (c .before .before .before .before)) (omega arith) (x .given .0),
         x .given .1 .0,
@@ -114,6 +114,7 @@ module _ (t : ℕ) where
       (c .before .before .before .before .before .before .before .before .before .before .before .before .before .before .before .before .before .before .before .before .before .before .before .before .before .before .before .before .before .before .before .before .before .before .before .before .args .text .now)
       (c .before .before .before .before .before .before .before .before .before .before .before .before .before .before .before .before .before .before .before .before .before .before .before .before .before .before .before .before .before .before .before .before .before .before .before .before .args .words .now)
       (c .before .before .before .before .before .before .before .before .before .before .before .before .before .before .before .before .before .before .before .before .before .before .before .before .before .before .before .before .before .before .before .before .before .before .before .before .args .counts .now)
+      (c .before .before .before .before .before .before .before .before .before .before .before .before .before .before .before .before .before .before .before .before .before .before .before .before .before .before .before .before .before .before .before .before .before .before .before .before .args .step)
       (c .before .before .before .before .before .before .before .before .before .before .before .before .before .before .before .before .before .before .before .before .before .before .before .before .before .before .before .before .before .before .before .before .before .before .before .before .args .at)
       (c .before .before .before .before .before .before .before .before .before .before .before .before .before .before .before .before .before .before .before .before .before .before .before .before .before .before .before .before .before .before .before .before .before .before .before .before .args .indent))
       (c .before .before .before .before .before .before .before .before .before .before .before .before .before .before .before .before .before .before .before .before .before .before .before .before .before .before .before .before .before .before .get .ensures)

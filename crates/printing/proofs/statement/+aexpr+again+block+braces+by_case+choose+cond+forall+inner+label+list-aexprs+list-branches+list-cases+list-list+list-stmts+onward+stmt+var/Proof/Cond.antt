@@ -7,10 +7,10 @@ use mathlib.Core.Path.{refl, ap}
 use native.Mathlib.Nat.{le-refl}
 use Rattle.printing.specs.StmtParts.{anIf}
 use Rattle.printing.proofs as fn
-use fn.Places.{Place, begin, seen, ahead, passed, text, part, done}
+use fn.Places.{Place, begin, seen, ahead, passed, text, part, done, ready, ready-deeper}
 use fn.StmtPrints.Equations.{if-print, if-empty, if-else, else-then}
 use fn.StmtPrints.Marks.{empty-block-words}
-use fn.StmtPrints.Room.{ready, ready-deeper, sooner, one-line}
+use fn.StmtPrints.Room.{sooner, one-line}
 use fn.statement.+aexpr+again+block+braces+by_case+choose+cond+forall+inner+label+list-aexprs+list-branches+list-cases+list-list+list-stmts+onward+stmt+var as cycle
 use cycle.Lts-cond as lts
 use cycle.Proof.Ranks.{cond-at, block-below, onward-below}
@@ -40,16 +40,16 @@ module _ (t : ℕ) where
 
   abbrev at-start : Of lts.After-put → Place
   at-start c = ahead (text (seen (begin (anIf (c .before .before .before .before .before .before .before .args .text .now) (c .before .before .before .before .before .before .before .args .words .now)
-      (c .before .before .before .before .before .before .before .args .counts .now) (c .before .before .before .before .before .before .before .args .at)
+      (c .before .before .before .before .before .before .before .args .counts .now) (c .before .before .before .before .before .before .before .args .step) (c .before .before .before .before .before .before .before .args .at)
       (c .before .before .before .before .before .before .before .args .indent)) (c .before .before .before .before .before .before .before .args .words .now)
       (c .before .before .before .before .before .before .before .args .at) (c .before .before .before .before .before .before .before .args .out .now)
-      (c .before .before .before .before .before .before .before .args .pos)) _ (λ x. if-print (c .before .before .before .before .before .before .before .args .text .now) (x .tree .0) (x .tree .1)
+      (c .before .before .before .before .before .before .before .args .pos)) _ (λ x. if-print (c .before .before .before .before .before .before .before .args .text .now) (c .before .before .before .before .before .before .before .args .step) (x .tree .0) (x .tree .1)
       (x .tree .2) (c .before .before .before .before .before .before .before .args .indent))) (c .put .ensures) _ (λ x. refl)) 1 _ (λ x. refl)
 
   abbrev at-cond : Of lts.After-expr → Place
   at-cond c = part (at-start (c .before .before .before .before)) (one-line (c .before .before .before .before .before .before .before .before .before .before .before .args .text .now)
       (c .before .before .before .before .before .before .before .before .before .before .before .args .words .now)
-      (c .before .before .before .before .before .before .before .before .before .before .before .args .counts .now) _ (c .expr .ensures)) (λ x. x .tree .0) _ (λ x. (
+      (c .before .before .before .before .before .before .before .before .before .before .before .args .counts .now) (c .before .before .before .before .before .before .before .before .before .before .before .args .step) _ (c .expr .ensures)) (λ x. x .tree .0) _ (λ x. (
         ready (at-start
             (c .before .before .before .before)) (omega arith) (x .given .0),
         x .given .1 .0,
@@ -64,17 +64,21 @@ module _ (t : ℕ) where
   abbrev at-none : Of lts.Then1 → Place
   at-none c = seen (at-then (c .before .before .before .before)) _ (λ x. if-empty
       (c .before .before .before .before .before .before .before .before .before .before .before .before .before .before .before .before .before .before .before .before .before .before .before .before .args .text .now)
+      (c .before .before .before .before .before .before .before .before .before .before .before .before .before .before .before .before .before .before .before .before .before .before .before .before .args .step)
       (x .tree .2)
       (c .before .before .before .before .before .before .before .before .before .before .before .before .before .before .before .before .before .before .before .before .before .before .before .before .args .indent)
       (c .before .is-empty-block .ensures .tells
       (c .before .before .before .before .before .before .before .before .before .before .before .before .before .before .before .before .before .before .before .before .before .before .before .before .args .text .now)
+      (c .before .before .before .before .before .before .before .before .before .before .before .before .before .before .before .before .before .before .before .before .before .before .before .before .args .step)
       (x .tree .2) (x .rest) (at-then (c .before .before .before .before) .left x)) (c .if1 .taken))
 
   abbrev at-word : Of lts.After-after → Place
   at-word c = passed (at-none (c .before)) (c .after .ensures) _ _ (λ x. empty-block-words
       (c .before .before .before .before .before .before .before .before .before .before .before .before .before .before .before .before .before .before .before .before .before .before .before .before .before .args .text .now)
+      (c .before .before .before .before .before .before .before .before .before .before .before .before .before .before .before .before .before .before .before .before .before .before .before .before .before .args .step)
       (x .tree .2) (x .rest) (c .before .before .is-empty-block .ensures .tells
       (c .before .before .before .before .before .before .before .before .before .before .before .before .before .before .before .before .before .before .before .before .before .before .before .before .before .args .text .now)
+      (c .before .before .before .before .before .before .before .before .before .before .before .before .before .before .before .before .before .before .before .before .before .before .before .before .before .args .step)
       (x .tree .2) (x .rest) (at-then (c .before .before .before .before .before) .left x)) (c .before .if1 .taken))
 
   abbrev at-short : Of lts.After-put3 → Place
@@ -94,10 +98,12 @@ module _ (t : ℕ) where
   abbrev at-else : Of lts.Else1 → Place
   at-else c = seen (at-then (c .before .before .before .before)) _ (λ x. if-else
       (c .before .before .before .before .before .before .before .before .before .before .before .before .before .before .before .before .before .before .before .before .before .before .before .before .args .text .now)
+      (c .before .before .before .before .before .before .before .before .before .before .before .before .before .before .before .before .before .before .before .before .before .before .before .before .args .step)
       (x .tree .2)
       (c .before .before .before .before .before .before .before .before .before .before .before .before .before .before .before .before .before .before .before .before .before .before .before .before .args .indent)
       (c .before .is-empty-block .ensures .tells
       (c .before .before .before .before .before .before .before .before .before .before .before .before .before .before .before .before .before .before .before .before .before .before .before .before .args .text .now)
+      (c .before .before .before .before .before .before .before .before .before .before .before .before .before .before .before .before .before .before .before .before .before .before .before .before .args .step)
       (x .tree .2) (x .rest) (at-then (c .before .before .before .before) .left x)) (c .if1 .left))
 
   abbrev at-word-else : Of lts.After-put4 → Place
@@ -106,10 +112,12 @@ module _ (t : ℕ) where
   abbrev at-end : Of lts.After-onward → Place
   at-end c = part (seen (at-word-else (c .before .before .before .before .before)) _ (λ x. else-then
       (c .before .before .before .before .before .before .before .before .before .before .before .before .before .before .before .before .before .before .before .before .before .before .before .before .before .before .before .before .before .before .before .before .args .text .now)
+      (c .before .before .before .before .before .before .before .before .before .before .before .before .before .before .before .before .before .before .before .before .before .before .before .before .before .before .before .before .before .before .before .before .args .step)
       (x .tree .2)
       (c .before .before .before .before .before .before .before .before .before .before .before .before .before .before .before .before .before .before .before .before .before .before .before .before .before .before .before .before .before .before .before .before .args .indent)
       (c .before .before .is-conditional .ensures .tells
       (c .before .before .before .before .before .before .before .before .before .before .before .before .before .before .before .before .before .before .before .before .before .before .before .before .before .before .before .before .before .before .before .before .args .text .now)
+      (c .before .before .before .before .before .before .before .before .before .before .before .before .before .before .before .before .before .before .before .before .before .before .before .before .before .before .before .before .before .before .before .before .args .step)
       (x .tree .2) (x .rest) (at-then (c .before .before .before .before .before .before .before .before .before .before .before .before) .left x)))) (c .onward .ensures) (λ x. x .tree .2) _
       (λ x. (ready-deeper (at-word-else (c .before .before .before .before .before)) (omega arith) (le-refl _) (x .given .0), x .given .1 .2)) _ (λ x. refl) (λ x. refl)
 

@@ -7,9 +7,9 @@ use mathlib.Core.Path.{refl}
 use native.Mathlib.Nat.{le-refl}
 use Rattle.printing.specs.StmtParts.{aForall}
 use Rattle.printing.proofs as fn
-use fn.Places.{Place, begin, seen, ahead, text, part, done}
+use fn.Places.{Place, begin, seen, ahead, text, part, done, ready-deeper}
 use fn.StmtPrints.Equations.{forall-print}
-use fn.StmtPrints.Room.{ready-deeper, sooner}
+use fn.StmtPrints.Room.{sooner}
 use fn.statement.+aexpr+again+block+braces+by_case+choose+cond+forall+inner+label+list-aexprs+list-branches+list-cases+list-list+list-stmts+onward+stmt+var as cycle
 use cycle.Lts-forall as lts
 use cycle.Proof.Ranks.{forall-at, block-below}
@@ -30,7 +30,7 @@ module _ (t : ℕ) where
   Of N = N claims (forall-at t) Post
 
   abbrev at-start : Of lts.Start → Place
-  at-start c = ahead (seen (begin (aForall (c .args .text .now) (c .args .words .now) (c .args .counts .now) (c .args .at) (c .args .indent)) (c .args .words .now) (c .args .at) (c .args .out .now) (c .args .pos)) _ (λ x. forall-print (c .args .text .now) (x .tree .0) (x .tree .1) (x .tree .2) (c .args .indent))) 1 _ (λ x. refl)
+  at-start c = ahead (seen (begin (aForall (c .args .text .now) (c .args .words .now) (c .args .counts .now) (c .args .step) (c .args .at) (c .args .indent)) (c .args .words .now) (c .args .at) (c .args .out .now) (c .args .pos)) _ (λ x. forall-print (c .args .text .now) (c .args .step) (x .tree .0) (x .tree .1) (x .tree .2) (c .args .indent))) 1 _ (λ x. refl)
 
   abbrev at-head : Of lts.After-for-head → Place
   at-head c = part (at-start (c .before .before .before .before .before .before)) (c .for-head .ensures) (λ x. (x .tree .0, x .tree .1)) _ (λ x. tt) _ (λ x. refl) (λ x. refl)

@@ -49,7 +49,7 @@ module _ (t : ℕ) where
   returns : Of lts.Need-returns
   returns c = block-list (c .before .before .before .before .before .before .before .before .before .before .args .text .now)
       (c .before .before .before .before .before .before .before .before .before .before .args .words .now)
-      (c .before .before .before .before .before .before .before .before .before .before .args .counts .now) (c .before .before .before .before .before .before .before .before .before .before .args .at)
+      (c .before .before .before .before .before .before .before .before .before .before .args .counts .now) (c .before .before .before .before .before .before .before .before .before .before .args .step) (c .before .before .before .before .before .before .before .before .before .before .args .at)
       (c .before .before .before .before .before .before .before .before .before .before .args .indent) (c .before .before .before .before .before .get .ensures)
       (c .before .before .before .before .before .before .before .before .before .before .args .followed) (next-inside
       (c .before .before .before .before .before .before .before .before .before .before .args .words .now) (c .before .before .before .before .before .before .before .before .before .before .args .at)
@@ -57,12 +57,12 @@ module _ (t : ℕ) where
 
   abbrev at-start : Of lts.Else1 → Place
   at-start c = seen (begin (anInner (c .before .before .before .before .before .before .args .text .now) (c .before .before .before .before .before .before .args .words .now)
-      (c .before .before .before .before .before .before .args .counts .now) (c .before .before .before .before .before .before .args .at) (c .before .before .before .before .before .before .args .indent)
+      (c .before .before .before .before .before .before .args .counts .now) (c .before .before .before .before .before .before .args .step) (c .before .before .before .before .before .before .args .at) (c .before .before .before .before .before .before .args .indent)
       (c .before .before .before .before .before .before .args .followed)) (c .before .before .before .before .before .before .args .words .now) (c .before .before .before .before .before .before .args .at)
       (c .before .before .before .before .before .before .args .out .now) (c .before .before .before .before .before .before .args .pos)) _
-      (λ x. bare-print (c .before .before .before .before .before .before .args .text .now) (S (c .before .before .before .before .before .before .args .text .now) (x .tree))
+      (λ x. bare-print (c .before .before .before .before .before .before .args .text .now) (c .before .before .before .before .before .before .args .step) (S (c .before .before .before .before .before .before .args .text .now) (c .before .before .before .before .before .before .args .step) (x .tree))
       (c .before .before .before .before .before .before .args .indent) (c .before .before .before .before .before .before .args .followed) (told
-      (c .before .before .before .before .before .before .args .text .now) (c .before .before .before .before .before .before .args .words .now) (c .before .before .before .before .before .before .args .at)
+      (c .before .before .before .before .before .before .args .text .now) (c .before .before .before .before .before .before .args .step) (c .before .before .before .before .before .before .args .words .now) (c .before .before .before .before .before .before .args .at)
       (x .tree) (x .rest) (x .stands) .no-list (λ z. c .if1 .left (c .before .get .ensures ∙ z))))
 
   abbrev at-line : Of lts.After-put-indent → Place

@@ -7,9 +7,9 @@ use mathlib.Core.Path.{refl}
 use native.Mathlib.Nat.{le-refl}
 use Rattle.printing.specs.StmtParts.{aLabelled}
 use Rattle.printing.proofs as fn
-use fn.Places.{Place, begin, seen, ahead, part, done}
+use fn.Places.{Place, begin, seen, ahead, part, done, ready-deeper}
 use fn.StmtPrints.Equations.{label-print, label-then}
-use fn.StmtPrints.Room.{ready-deeper, sooner}
+use fn.StmtPrints.Room.{sooner}
 use fn.statement.+aexpr+again+block+braces+by_case+choose+cond+forall+inner+label+list-aexprs+list-branches+list-cases+list-list+list-stmts+onward+stmt+var as cycle
 use cycle.Lts-label as lts
 use cycle.Proof.Ranks.{label-at, onward-below}
@@ -30,16 +30,16 @@ module _ (t : ℕ) where
   Of N = N claims (label-at t) Post
 
   abbrev at-start : Of lts.Start → Place
-  at-start c = ahead (seen (begin (aLabelled (c .args .text .now) (c .args .words .now) (c .args .counts .now) (c .args .at) (c .args .indent)) (c .args .words .now) (c .args .at) (c .args .out .now) (c .args .pos)) _ (λ x. label-print (c .args .text .now) (x .tree .0) (x .tree .1) (c .args .indent))) 1 _ (λ x. refl)
+  at-start c = ahead (seen (begin (aLabelled (c .args .text .now) (c .args .words .now) (c .args .counts .now) (c .args .step) (c .args .at) (c .args .indent)) (c .args .words .now) (c .args .at) (c .args .out .now) (c .args .pos)) _ (λ x. label-print (c .args .text .now) (c .args .step) (x .tree .0) (x .tree .1) (c .args .indent))) 1 _ (λ x. refl)
 
   abbrev at-name : Of lts.After-name-head → Place
   at-name c = part (at-start (c .before .before .before .before .before .before .before)) (c .name-head .ensures) (λ x. x .tree .0) _ (λ x. tt) _ (λ x. refl) (λ x. refl)
 
   abbrev at-end : Of lts.After-onward → Place
   at-end c = part (seen (at-name (c .before .before .before .before .before)) _ (λ x. label-then
-      (c .before .before .before .before .before .before .before .before .before .before .before .before .args .text .now) (x .tree .1)
+      (c .before .before .before .before .before .before .before .before .before .before .before .before .args .text .now) (c .before .before .before .before .before .before .before .before .before .before .before .before .args .step) (x .tree .1)
       (c .before .before .before .before .before .before .before .before .before .before .before .before .args .indent) (c .before .before .is-loop .ensures .tells
-      (c .before .before .before .before .before .before .before .before .before .before .before .before .args .text .now) (x .tree .1) (x .rest) (at-name
+      (c .before .before .before .before .before .before .before .before .before .before .before .before .args .text .now) (c .before .before .before .before .before .before .before .before .before .before .before .before .args .step) (x .tree .1) (x .rest) (at-name
       (c .before .before .before .before .before) .left x)))) (c .onward .ensures) (λ x. x .tree .1) _
       (λ x. (ready-deeper (at-name (c .before .before .before .before .before)) (omega arith) (le-refl _) (x .given .0), x .given .1)) _ (λ x. refl) (λ x. refl)
 

@@ -27,7 +27,7 @@ module _ (t : ℕ) where
 
   returns : Of lts.Need-returns
   returns c = by-count (c .before .before .before .before .before .before .before .before .before .args .text .now)
-      (c .before .before .before .before .before .before .before .before .before .args .words .now) (c .before .before .before .before .before .before .before .before .before .args .counts .now)
+      (c .before .before .before .before .before .before .before .before .before .args .words .now) (c .before .before .before .before .before .before .before .before .before .args .counts .now) (c .before .before .before .before .before .before .before .before .before .args .step)
       (c .before .before .before .before .before .before .before .before .before .args .at) (c .before .before .before .before .before .before .before .before .before .args .indent)
       (c .before .before .before .before .count-at .ensures) (c .before .before .stmts .ensures)
 

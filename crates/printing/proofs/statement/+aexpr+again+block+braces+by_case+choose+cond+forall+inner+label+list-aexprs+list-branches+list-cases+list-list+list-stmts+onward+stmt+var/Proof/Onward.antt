@@ -30,10 +30,10 @@ module _ (t : ℕ) where
 
   abbrev at-stay : Of lts.Then1 → Place
   at-stay c = seen (begin (anOnward (c .before .before .before .before .before .args .text .now) (c .before .before .before .before .before .args .words .now)
-      (c .before .before .before .before .before .args .counts .now) (c .before .before .before .before .before .args .at) (c .before .before .before .before .before .args .indent)
+      (c .before .before .before .before .before .args .counts .now) (c .before .before .before .before .before .args .step) (c .before .before .before .before .before .args .at) (c .before .before .before .before .before .args .indent)
       (c .before .before .before .before .before .args .stays)) (c .before .before .before .before .before .args .words .now) (c .before .before .before .before .before .args .at)
-      (c .before .before .before .before .before .args .out .now) (c .before .before .before .before .before .args .pos)) _ (λ x. ap (onwardPrint (c .before .before .before .before .before .args .text .now)
-      (S (c .before .before .before .before .before .args .text .now) (x .tree)) (c .before .before .before .before .before .args .indent)) (c .if1 .taken))
+      (c .before .before .before .before .before .args .out .now) (c .before .before .before .before .before .args .pos)) _ (λ x. ap (onwardPrint (c .before .before .before .before .before .args .text .now) (c .before .before .before .before .before .args .step)
+      (S (c .before .before .before .before .before .args .text .now) (c .before .before .before .before .before .args .step) (x .tree)) (c .before .before .before .before .before .args .indent)) (c .if1 .taken))
 
   abbrev at-stmt : Of lts.After-stmt → Place
   at-stmt c = part (at-stay (c .before .before)) (c .stmt .ensures) (λ x. x .tree) _ (λ x. (less-indent (c .before .before .before .before .before .before .before .args .indent) (x .given .0), x .given .1)) _ (λ x. refl) (λ x. refl)
@@ -46,10 +46,10 @@ module _ (t : ℕ) where
 
   abbrev at-own : Of lts.Else1 → Place
   at-own c = seen (begin (anOnward (c .before .before .before .before .before .args .text .now) (c .before .before .before .before .before .args .words .now)
-      (c .before .before .before .before .before .args .counts .now) (c .before .before .before .before .before .args .at) (c .before .before .before .before .before .args .indent)
+      (c .before .before .before .before .before .args .counts .now) (c .before .before .before .before .before .args .step) (c .before .before .before .before .before .args .at) (c .before .before .before .before .before .args .indent)
       (c .before .before .before .before .before .args .stays)) (c .before .before .before .before .before .args .words .now) (c .before .before .before .before .before .args .at)
-      (c .before .before .before .before .before .args .out .now) (c .before .before .before .before .before .args .pos)) _ (λ x. ap (onwardPrint (c .before .before .before .before .before .args .text .now)
-      (S (c .before .before .before .before .before .args .text .now) (x .tree)) (c .before .before .before .before .before .args .indent)) (c .if1 .left))
+      (c .before .before .before .before .before .args .out .now) (c .before .before .before .before .before .args .pos)) _ (λ x. ap (onwardPrint (c .before .before .before .before .before .args .text .now) (c .before .before .before .before .before .args .step)
+      (S (c .before .before .before .before .before .args .text .now) (c .before .before .before .before .before .args .step) (x .tree)) (c .before .before .before .before .before .args .indent)) (c .if1 .left))
 
   abbrev at-block : Of lts.After-block → Place
   at-block c = part (at-own (c .before .before)) (c .block .ensures) (λ x. x .tree) _ (λ x. x .given) _ (λ x. refl) (λ x. refl)

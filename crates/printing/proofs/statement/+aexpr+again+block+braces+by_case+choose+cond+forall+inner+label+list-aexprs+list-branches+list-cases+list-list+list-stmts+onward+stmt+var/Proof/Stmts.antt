@@ -14,11 +14,11 @@ use mathlib.Core.Path.{_∙_}
 use Rattle.tree.proofs.get.Reads as get
 use Rattle.printing.proofs as fn
 use fn.PartPrints.Joins.{inside}
-use fn.Places.{Place, begin, seen, item, text, text-of, part, done}
+use fn.Places.{Place, begin, seen, item, text, text-of, part, done, ready}
 use fn.Sequences.{made, at-none, at-some}
 use fn.StmtPrints.Equations.{statements-print}
 use fn.StmtPrints.Marks.{stmtsOf, some-statements, last-is, others-left}
-use fn.StmtPrints.Room.{ready, sooner}
+use fn.StmtPrints.Room.{sooner}
 use fn.statement.+aexpr+again+block+braces+by_case+choose+cond+forall+inner+label+list-aexprs+list-branches+list-cases+list-list+list-stmts+onward+stmt+var as cycle
 use cycle.Lts-list-stmts as lts
 use cycle.Proof.Ranks.{stmts-at, stmt-below, stmts-below}
@@ -45,20 +45,20 @@ module _ (t : ℕ) where
   Of N = N claims (stmts-at t) Post
 
   abbrev list : Of lts.Start → Part
-  list c = lastStatements (c .args .text .now) (c .args .words .now) (c .args .counts .now) (c .args .at) (c .args .indent) (c .args .left)
+  list c = lastStatements (c .args .text .now) (c .args .words .now) (c .args .counts .now) (c .args .step) (c .args .at) (c .args .indent) (c .args .left)
 
   is-inside : (c : Of lts.Else1) → c .before .before .before .before .before .before .before .args .at < length (c .before .before .before .before .before .before .before .args .words .now)
   is-inside c = inside (c .before .before .before .before .before .before .before .args .words .now) (c .before .get .ensures) (c .if1 .left)
 
   returns : Of lts.Need-returns
   returns c = at-none (list (c .before .before .before .before .before .before .before)) stmtsOf (some-statements (c .before .before .before .before .before .before .before .args .text .now)
-      (c .before .before .before .before .before .before .before .args .words .now) (c .before .before .before .before .before .before .before .args .counts .now)
+      (c .before .before .before .before .before .before .before .args .words .now) (c .before .before .before .before .before .before .before .args .counts .now) (c .before .before .before .before .before .before .before .args .step)
       (c .before .before .before .before .before .before .before .args .at) (c .before .before .before .before .before .before .before .args .indent)
       (c .before .before .before .before .before .before .before .args .left)) (c .before .get .ensures) (c .before .before .after .ensures) (c .if1 .taken)
 
   abbrev at-start : Of lts.Start → Place
   at-start c = seen (begin (made (list c) stmtsOf) (c .args .words .now) (c .args .at) (c .args .out .now) (c .args .pos)) _
-      (λ x. statements-print (c .args .text .now) (x .tree .0) (x .tree .1) (c .args .indent) (eqb (c .args .left) 1) (last-is (x .tree .1) (x .given .1 .0)))
+      (λ x. statements-print (c .args .text .now) (c .args .step) (x .tree .0) (x .tree .1) (c .args .indent) (eqb (c .args .left) 1) (last-is (x .tree .1) (x .given .1 .0)))
 
   abbrev at-item : Of lts.Else1 → Place
   at-item c = item (at-start (c .before .before .before .before .before .before .before)) (c .before .before .after .ensures) (is-inside c) _ _ (λ x. refl)
@@ -92,7 +92,7 @@ module _ (t : ℕ) where
       (c .before .before .before .before .before .before .before .before .before .before .before .before .before .before .before .before .before .before .before .before)) stmtsOf (some-statements
       (c .before .before .before .before .before .before .before .before .before .before .before .before .before .before .before .before .before .before .before .before .args .text .now)
       (c .before .before .before .before .before .before .before .before .before .before .before .before .before .before .before .before .before .before .before .before .args .words .now)
-      (c .before .before .before .before .before .before .before .before .before .before .before .before .before .before .before .before .before .before .before .before .args .counts .now)
+      (c .before .before .before .before .before .before .before .before .before .before .before .before .before .before .before .before .before .before .before .before .args .counts .now) (c .before .before .before .before .before .before .before .before .before .before .before .before .before .before .before .before .before .before .before .before .args .step)
       (c .before .before .before .before .before .before .before .before .before .before .before .before .before .before .before .before .before .before .before .before .args .at)
       (c .before .before .before .before .before .before .before .before .before .before .before .before .before .before .before .before .before .before .before .before .args .indent)
       (c .before .before .before .before .before .before .before .before .before .before .before .before .before .before .before .before .before .before .before .before .args .left))

@@ -6,9 +6,9 @@ use borrow.Fn.Kinds.{In, Out}
 use mathlib.Core.Path.{refl}
 use Rattle.printing.specs.StmtParts.{aVariable}
 use Rattle.printing.proofs as fn
-use fn.Places.{Place, begin, seen, ahead, text, part, done}
+use fn.Places.{Place, begin, seen, ahead, text, part, done, ready, ready-deeper}
 use fn.StmtPrints.Equations.{variable-print}
-use fn.StmtPrints.Room.{ready, ready-deeper, small, own-small, sooner}
+use fn.StmtPrints.Room.{small, own-is, own-small, sooner}
 use fn.statement.+aexpr+again+block+braces+by_case+choose+cond+forall+inner+label+list-aexprs+list-branches+list-cases+list-list+list-stmts+onward+stmt+var as cycle
 use cycle.Lts-var as lts
 use cycle.Proof.Ranks.{var-at, inner-below}
@@ -34,11 +34,11 @@ module _ (t : ℕ) where
 
   abbrev at-start : Of lts.After-indent-inside → Place
   at-start c = seen (begin (aVariable (c .before .before .before .before .before .args .text .now) (c .before .before .before .before .before .args .words .now)
-      (c .before .before .before .before .before .args .counts .now) (c .before .before .before .before .before .args .at) (c .before .before .before .before .before .args .indent)
+      (c .before .before .before .before .before .args .counts .now) (c .before .before .before .before .before .args .step) (c .before .before .before .before .before .args .at) (c .before .before .before .before .before .args .indent)
       (c .before .before .before .before .before .args .followed)) (c .before .before .before .before .before .args .words .now) (c .before .before .before .before .before .args .at)
       (c .before .before .before .before .before .args .out .now) (c .before .before .before .before .before .args .pos)) _
-      (λ x. variable-print (c .before .before .before .before .before .args .text .now) (x .tree .0) (x .tree .1) (x .tree .2) (c .before .before .before .before .before .args .indent) (c .before .before .before .before .before .args .followed) (c .indent-inside .result)
-      (c .indent-inside .ensures (small (c .before .before .before .before .before .pre .1) (x .given .0))))
+      (λ x. variable-print (c .before .before .before .before .before .args .text .now) (c .before .before .before .before .before .args .step) (x .tree .0) (x .tree .1) (x .tree .2) (c .before .before .before .before .before .args .indent) (c .before .before .before .before .before .args .followed) (c .indent-inside .result)
+      (own-is (c .before .before .before .before .before .args .followed) (c .before .before .before .before .before .args .step) (c .before .before .before .before .before .args .indent) (c .indent-inside .ensures) (small (c .before .before .before .before .before .pre .1) (x .given .0))))
 
   abbrev at-open : Of lts.After-open-own → Place
   at-open c = ahead (text (at-start (c .before .before)) (c .open-own .ensures) _ (λ x. refl)) 1 _ (λ x. refl)
@@ -50,9 +50,10 @@ module _ (t : ℕ) where
   at-body c = part (at-head (c .before .before .before .before)) (c .inner .ensures) (λ x. x .tree .2) _
       (λ x. (
         ready-deeper (at-head (c .before .before .before .before)) (omega arith) (own-small
-            (c .before .before .before .before .before .before .before .before .before .before .before .before .before .before .before .args .followed)
+            (c .before .before .before .before .before .before .before .before .before .before .before .before .before .before .before .args .followed) (c .before .before .before .before .before .before .before .before .before .before .before .before .before .before .before .args .step)
             (c .before .before .before .before .before .before .before .before .before .before .before .before .before .before .before .args .indent)
-            (c .before .before .before .before .before .before .before .before .before .before .indent-inside .ensures (small
+            (own-is (c .before .before .before .before .before .before .before .before .before .before .before .before .before .before .before .args .followed) (c .before .before .before .before .before .before .before .before .before .before .before .before .before .before .before .args .step)
+            (c .before .before .before .before .before .before .before .before .before .before .before .before .before .before .before .args .indent) (c .before .before .before .before .before .before .before .before .before .before .indent-inside .ensures) (small
             (c .before .before .before .before .before .before .before .before .before .before .before .before .before .before .before .pre .1) (x .given .0)))) (x .given .0),
         x .given .1 .2,
       )) _ (λ x. refl)
