@@ -128,15 +128,20 @@ fn read_into(run: Run, text: &[u8], table: &mut [u32]) {
 // The bytes of the output, the table, a slash, and the text.
 pub(crate) fn print_case(run: Run, rest: &[u8]) {
     let mut table = [0u32; WORDS];
-    let mut text = [0u8; TEXT];
-    let mut out = [b'~'; OUTPUT];
     let size = number(rest);
     let parts = tail(rest, size.digits);
     let n = until(parts, b'/');
     let words = build_table(&parts[..n], &mut table);
-    let bytes = build(tail(parts, n), &mut text);
-    let room = most_bytes(size.value, &out);
-    print_into(run, &text[..bytes], &mut table[..words], &mut out[..room]);
+    print_over(run, size.value, tail(parts, n), &mut table[..words]);
+}
+
+// A table's print over the text of a line. The text and the output are made when the table is: they take the stack that making it took.
+fn print_over(run: Run, size: u32, line: &[u8], table: &mut [u32]) {
+    let mut text = [0u8; TEXT];
+    let mut out = [b'~'; OUTPUT];
+    let bytes = build(line, &mut text);
+    let room = most_bytes(size, &out);
+    print_into(run, &text[..bytes], table, &mut out[..room]);
 }
 
 fn print_into(run: Run, text: &[u8], table: &mut [u32], out: &mut [u8]) {

@@ -45,10 +45,10 @@ fn main() {
 }
 
 // More bytes than the cases have. Callers know its length alone, so no proof computes the array.
-fn input_buffer() -> [u8; 1048576]
-    ensures { λ r. ⌜ 1048576 ≡ length r ⌝ }
+fn input_buffer() -> [u8; 655360]
+    ensures { λ r. ⌜ 655360 ≡ length r ⌝ }
 {
-    [0; 1048576]
+    [0; 655360]
 }
 
 fn cases(input: &[u8]) {
@@ -69,6 +69,8 @@ fn case(line: &[u8]) {
     print(b"\n");
 }
 
+// `read_case` and `table_case` are each called from two places, so that the compiler doesn't put them, and their buffers with them, into the frame
+// of `main`, which is on the stack at every print.
 fn answer(entry: u8, line: &[u8]) {
     let times = number(line);
     let rest = tail(line, times.digits);
@@ -78,11 +80,13 @@ fn answer(entry: u8, line: &[u8]) {
         indent: 0,
     };
     match entry {
-        b'r' | b'R' => read_case(run, rest),
+        b'r' => read_case(run, rest),
+        b'R' => read_case(run, rest),
         b'p' | b'P' => print_case(run, rest),
         b'm' => print_lines_case(run, rest),
         b'x' => name_case(rest),
-        b'c' | b'C' | b'w' | b'v' => table_case(entry, rest),
+        b'c' | b'C' => table_case(entry, rest),
+        b'w' | b'v' => table_case(entry, rest),
         _ => token_case(entry, rest),
     }
 }
