@@ -1,5 +1,5 @@
--- What is proved of the operator grammar (document 01, "The operator grammar"), from the definitions in Words, Tokens, Grammar and Parser, and of
--- the reading rules, from those in Steps, Rules and Reading.
+-- What is proved of the operator grammar (REFERENCE, "The operator grammar"), from the definitions in Words, Tokens, Grammar and Parser, and of
+-- the reading rules of expressions and programs, from those in Steps, Rules, Statements, Declarations and Reading.
 use Prim.Native.Nat.{ℕ, _+_, _*_, _≤_, _<_}
 use lib.ListN.{length, take}
 use mathlib.Core.Path.{_≡_}
@@ -9,7 +9,7 @@ use mathlib.Core.List.{List, []}
 use mathlib.Core.Option.{none, some}
 use Rattle.lexing.specs.Answer.{ok}
 use Rattle.tree.specs.Ast.{Span, Expr, Program}
-use Rattle.tree.specs.Resolve.{bytes, mapExpr, mapProgram, resolveExpr}
+use Rattle.tree.specs.Resolve.{bytesOf, mapExpr, mapProgram, resolveExpr}
 use Rattle.tree.specs.Limits.{mostWords}
 use Rattle.tree.specs.Words.{exprWords, programWords}
 use Rattle.tree.specs.Claims.{expression-count}
@@ -20,14 +20,14 @@ use Rattle.grammar.specs.OperatorTrees.{OperatorTree, smallNaturals, wor
 use Rattle.grammar.specs.Parser.{parse, whole, parseExpr}
 use Rattle.grammar.specs.Reading.{words, refusal, parseText, readTree, readExpression, parseProgram, readTreeOfProgram, readProgram}
 use Rattle.grammar.specs.TreeRead.{GivesTree}
-use Rattle.grammar.specs.Bridge.Limits.{read-derives, gives-derives, derives-gives, derives-operators, gives-same}
-use Rattle.grammar.specs.Inside.Accepted.{expression-inside, program-inside, expression-passes, program-passes}
-use Rattle.grammar.specs.Refusals.Entries.{Refused, expression-refused, program-refused}
-use Rattle.grammar.specs.Size.Entries.{expression-few, program-few, program-roomy}
+use Rattle.grammar.specs.Proofs.Bridge.Limits.{read-derives, gives-derives, derives-gives, derives-operators, gives-same}
+use Rattle.grammar.specs.Proofs.Inside.Accepted.{expression-inside, program-inside, expression-passes, program-passes}
+use Rattle.grammar.specs.Proofs.Refusals.Entries.{Refused, expression-refused, program-refused}
+use Rattle.grammar.specs.Proofs.Size.Entries.{expression-few, program-few, program-roomy}
 use Rattle.grammar.specs.Tables.{short}
-use Rattle.grammar.specs.Laws.Exact.{parse-sound, parse-complete, no-parse, deeper, unambiguous}
-use Rattle.grammar.specs.Laws.Every.{allLegal, legal, derived-operators}
-use Rattle.grammar.specs.Laws.Limited.{limited, parse-limited}
+use Rattle.grammar.specs.Proofs.Laws.Exact.{parse-sound, parse-complete, no-parse, deeper, unambiguous}
+use Rattle.grammar.specs.Proofs.Laws.Every.{allLegal, legal, derived-operators}
+use Rattle.grammar.specs.Proofs.Laws.Limited.{limited, parse-limited}
 
 -- Demand 3, first claim: whatever the text, any two derivations of it have the same tree. No limit is meant, and the depths may differ.
 pub derivations-agree : (text : List ℕ) (d d′ : ℕ) (t t′ : Tree) → Derives d text t → Derives d′ text t′ → t ≡ t′
@@ -61,7 +61,7 @@ derived-tree-is-operators d text t = derived-operators d (cut text) t
 
 -- The words counted for a tree with names as bytes are those of the tree with names as spans that it comes from.
 pub words-counted : (text : List ℕ) (t : Expr Span) → wordCount (resolveExpr text t) ≡ length (exprWords (λ s. s) t [])
-words-counted text t = expression-count (bytes text) _ _ t
+words-counted text t = expression-count (bytesOf text) _ _ t
 
 -- ---- the reading rules
 

@@ -3,10 +3,10 @@ use Prim.Native.Nat.{ℕ, zero, suc}
 use mathlib.Core.Bool.{Bool, true, false}
 use mathlib.Core.List.{List, [], _∷_}
 use mathlib.Core.Option.{Option, none, some}
-use Rattle.lexing.specs.Answer.{Answer, ok, refused}
+use Rattle.lexing.specs.Answer.{Answer, ok, refused, unusableToken}
 use Rattle.tree.specs.Ast.{Span, Binding, binding, Expr, Exprs, noExprs, _then_, Stmt, ParameterMode, In, InOut, Out}
 use Rattle.tree.specs.Ast.{Tagger, FParameter, FunctionDefinition, Function, Axiom, PParameter, Procedure, Program}
-use Rattle.grammar.specs.Words.{bytes}
+use Rattle.lexing.specs.Bytes.{bytes}
 use Rattle.grammar.specs.Steps.{Reader, after, need, must, _or_, mapped, T, Sym, parseName, parseType}
 use Rattle.grammar.specs.Rules.{Sequence, exprs, parseIdType, parseNonemptyCommaDelimitedSeq, parseListed}
 use Rattle.grammar.specs.Statements.{Gallery, rep, names, parseOptionalAutoInvariant, parseAExprSeq, theExpr}
@@ -47,7 +47,7 @@ formal i (binding n t) = record { name = n; injective = i; typ = t }
 -- no `{` follows: there is no definition, unless `when` clauses stood before it
 abbrev pub undefined : Exprs Span → Reader (Option (FunctionDefinition Span))
 undefined noExprs at = ok none at
-undefined (_then_ e es) at = refused 2 at
+undefined (_then_ e es) at = refused unusableToken at
 
 -- a parameter without its invariant
 abbrev pub moded : ParameterMode → Binding Span → PParameter Span

@@ -7,13 +7,13 @@ use mathlib.Core.Bool.{Bool, true, false}
 use mathlib.Core.List.{List, [], _∷_, map}
 use mathlib.Core.Option.{Option, none, some}
 use lib.ListN.{length}
-use Rattle.lexing.specs.Bytes.{isSpace, isDigit, canStartIdentifierChar, identifierChar, notNewline, run, startsWith, sameBytes}
+use Rattle.lexing.specs.Bytes.{isSpace, isDigit, canStartIdentifierChar, identifierChar, notNewline, run, startsWith, sameBytes, bytes}
 use Rattle.lexing.specs.Blanks.{mark as commentMark, longComment, positionAfterEndOfLongComment, blank, blanksFrom, W}
 use Rattle.lexing.specs.Tokens.{identifierLength, decimal}
 use Rattle.tree.specs.Ast.{BLiteral, ILiteral, IdExpr, OperatorExpr, FunctionCallExpr, noExprs, _then_}
 use Rattle.tree.specs.Ast.{Operator, Equiv, LogicalImp, LogicalAnd, LogicalOr, Eq, Neq, Less, AtMost, Plus, Minus, Times, Div, Mod, LogicalNot}
 use Rattle.tree.specs.Ast.{UnaryMinus}
-use Rattle.grammar.specs.Words.{bytes, oneOf, isName, isIdentifier, isFaithfulName, excludedWords, keywords}
+use Rattle.grammar.specs.Words.{oneOf, isName, isIdentifier, isFaithfulName, excludedWords, keywords}
 use Rattle.grammar.specs.Tokens.{Spelling, _is_, signs, signAt, naturalAt, nameAt, tokenAt, atToken, tokensAfter, cut}
 use Rattle.grammar.specs.Grammar.{Tree, signRole, wordRole, role, binary, unary, single}
 use Rattle.grammar.specs.OperatorTrees.{Operators, Faithful, notOnTheRight, isNoneOf, fitsRight}

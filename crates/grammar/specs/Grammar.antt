@@ -1,4 +1,4 @@
--- The operator grammar (document 01, "The operator grammar"): derivations as a relation between runs of tokens and trees, written without
+-- The operator grammar (REFERENCE, "The operator grammar"): derivations as a relation between runs of tokens and trees, written without
 -- the parser. A run is split wherever `++` stands, and every split counts. The rules stand tightest first, each over an arbitrary relation
 -- for the next tighter one.
 use Prim.Native.Nat.{ℕ, zero, suc}
@@ -8,11 +8,11 @@ use mathlib.Core.Bool.{true, false}
 use mathlib.Core.List.{List, [], _∷_, _++_}
 use mathlib.Core.Option.{Option, none, some}
 use Rattle.lexing.specs.Answer.{pick}
-use Rattle.lexing.specs.Bytes.{sameBytes}
+use Rattle.lexing.specs.Bytes.{sameBytes, bytes}
 use Rattle.tree.specs.Ast.{Expr, BLiteral, ILiteral, IdExpr, OperatorExpr, FunctionCallExpr, Exprs, noExprs, _then_}
 use Rattle.tree.specs.Ast.{Operator, Equiv, LogicalImp, LogicalAnd, LogicalOr, Eq, Neq, Less, AtMost, Plus, Minus, Times, Div, Mod, LogicalNot}
 use Rattle.tree.specs.Ast.{UnaryMinus}
-use Rattle.grammar.specs.Words.{bytes, isName}
+use Rattle.grammar.specs.Words.{isName}
 use Rattle.grammar.specs.Tokens.{Token, name, nat, mark, sign, illegal, lparen, rparen, comma, cut}
 use Rattle.grammar.specs.Tokens.{Sign, '!', '-', '*', '+', '==', '!=', '<', '<=', '>=', '>', '&&', '||', '==>', '<==', '<==>'}
 

@@ -1,11 +1,10 @@
--- What is read. The operator grammar (document 01, "The operator grammar"), its token parser and what is proved of them.
+-- What is read. The operator grammar (REFERENCE, "The operator grammar") and its token parser.
 pub mod Words
 pub mod Tokens
 pub mod Grammar
 pub mod OperatorTrees
 pub mod Parser
-pub mod Laws
--- The reading rules of expressions, and how they agree with the grammar.
+-- The reading rules of expressions, statements and declarations (REFERENCE, "The reading rules"), and the entries; then what is proved of all.
 pub mod Steps
 pub mod StepLaws
 pub mod Rules
@@ -13,11 +12,8 @@ pub mod Statements
 pub mod Declarations
 pub mod Reading
 pub mod TreeRead
-pub mod Bridge
-pub mod Inside
-pub mod Refusals
-pub mod Size
 pub mod Tables
+pub mod Proofs
 pub mod Claims
 pub mod Examples
 pub mod ReadingExamples

@@ -1,4 +1,4 @@
--- Operator trees, faithful ones, and the limits (document 01, "The operator grammar", its last two paragraphs).
+-- Operator trees, faithful ones (REFERENCE, "Faithful trees"), and the limits of a derivation (REFERENCE, "The operator grammar").
 use Prim.Native.Nat.{ℕ, _≤_}
 use mathlib.Core.Path.{_≡_}
 use mathlib.Core.Bool.{Bool, true, _&&_, not}
@@ -33,7 +33,7 @@ mutual
     none : AllOperators named fits noExprs
     next : {t : Tree} {es : Exprs (List ℕ)} → Operators named fits t → AllOperators named fits es → AllOperators named fits (_then_ t es)
 
--- document 01's operator tree
+-- document 01's 'operator tree' (REFERENCE, "Faithful trees")
 abbrev pub OperatorTree : Tree → Type 0
 OperatorTree = Operators (λ w. true) (λ op u. true)
 
@@ -72,11 +72,11 @@ fitsRight op (LetExpr w y t u) = true
 fitsRight op (QuantifierExpr u bs ps t) = true
 fitsRight op (ClosureExpr bs w y ps) = true
 
--- document 01's faithful operator tree
+-- document 01's 'faithful' operator tree (REFERENCE, "Faithful trees")
 abbrev pub Faithful : Tree → Type 0
 Faithful = Operators isFaithfulName fitsRight
 
--- document 01's depth limit
+-- the depth limit (REFERENCE, "Limits")
 abbrev pub mostDepth : ℕ
 mostDepth = 200
 

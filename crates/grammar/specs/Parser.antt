@@ -7,9 +7,9 @@ use mathlib.Core.List.{List, [], _∷_}
 use mathlib.Core.Option.{Option, none, some}
 use lib.ListN.{length}
 use Rattle.lexing.specs.Answer.{pick}
-use Rattle.lexing.specs.Bytes.{sameBytes}
+use Rattle.lexing.specs.Bytes.{sameBytes, bytes}
 use Rattle.tree.specs.Ast.{BLiteral, ILiteral, IdExpr, FunctionCallExpr, Exprs, noExprs, _then_}
-use Rattle.grammar.specs.Words.{bytes, isName}
+use Rattle.grammar.specs.Words.{isName}
 use Rattle.grammar.specs.Tokens.{Token, name, nat, mark, sign, illegal, Mark, Mark-discrete, lparen, rparen, comma}
 use Rattle.grammar.specs.Grammar.{Tree, Class, Class-discrete, product, sum, comparison, conjunction, disjunction, implication}
 use Rattle.grammar.specs.Grammar.{explication, equivalence}

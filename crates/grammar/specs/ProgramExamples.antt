@@ -11,7 +11,8 @@ use Rattle.tree.specs.Ast.{Span, Expr, IdExpr, Exprs, noExprs, _then_, In, InOu
 use Rattle.tree.specs.Ast.{Stmt, VarDecl, Assign, Reinit, Block, Call, Check, Assume, Reach, Assert, AForall, Choose, If, IfCase, Loop, LabeledStmt, Exit, Return, Probe}
 use Rattle.tree.specs.Ast.{Stmts, noStmts, stmts, noCases, case, aExpr, AAssertion, noAExprs, aExprs}
 use Rattle.tree.specs.Resolve.{part, resolveProgram}
-use Rattle.grammar.specs.Words.{bytes, oneOf}
+use Rattle.lexing.specs.Bytes.{bytes}
+use Rattle.grammar.specs.Words.{oneOf}
 use Rattle.grammar.specs.Statements
 use Rattle.grammar.specs.Declarations
 use Rattle.grammar.specs.Reading.{Outcome, words, refusal, parseProgram, readTreeOfProgram, readProgram}
@@ -288,7 +289,7 @@ if-cont-kept-nothing : none-left "{ }" .ifCont 0 ≡ Answer.none
 unfolding computed
 if-cont-kept-nothing = refl
 
--- document 01, P12: a long comment that is never closed runs to the end of the text
+-- P12 (REFERENCE, "Trials"): a long comment that is never closed runs to the end of the text
 unclosed-comment : readProgram (bytes "/* q") 5 ≡ words 5 (0 ∷ 0 ∷ 0 ∷ 0 ∷ 0 ∷ [])
 unfolding computed
 unclosed-comment = refl

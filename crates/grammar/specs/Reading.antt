@@ -1,10 +1,10 @@
--- Read expression and read program (document 01, "The entries"): refusals 1 to 5, and the table afterwards.
+-- Read expression and read program (REFERENCE, "The entries"): refusals 1 to 5, and the table afterwards.
 use Prim.Native.Nat.{ℕ, suc, _-_}
 use mathlib.Core.Bool.{_&&_}
 use mathlib.Core.List.{List, [], _++_}
 use lib.ListN.{length, replicate}
 use lib.Dec.{leb, eqb}
-use Rattle.lexing.specs.Answer.{Answer, ok, refused, unclosedComment, pick}
+use Rattle.lexing.specs.Answer.{Answer, ok, refused, unclosedComment, pick, textTooLong, unusableToken, treeTooLarge}
 use Rattle.lexing.specs.Blanks.{Blanks, passed, unclosed, W}
 use Rattle.tree.specs.Ast.{Span, Expr, Program}
 use Rattle.tree.specs.Limits.{mostText, mostWords}
@@ -26,7 +26,7 @@ leading (unclosed n) = refused unclosedComment n
 
 -- the text ends at this place
 abbrev pub toEnd : {A : Type 0} → List ℕ → A → ℕ → Answer A
-toEnd text a at = pick (eqb at (length text)) (ok a at) (refused 2 at)
+toEnd text a at = pick (eqb at (length text)) (ok a at) (refused unusableToken at)
 
 -- what a rule reads of a whole text, after the blanks at its start
 abbrev pub wholeText : {A : Type 0} → List ℕ → Reader A → Answer A
@@ -34,7 +34,7 @@ wholeText text rule = after (leading (W text)) Answer.none (λ at _. need at (ru
 
 -- a text of at most 32,768 bytes is read
 abbrev pub unlessLong : {A : Type 0} → List ℕ → Answer A → Answer A
-unlessLong text r = pick (leb (length text) mostText) r (refused 1 mostText)
+unlessLong text r = pick (leb (length text) mostText) r (refused textTooLong mostText)
 
 -- what a reading answers and leaves in a table of n words
 pub data Outcome : Type 0 where
@@ -44,12 +44,12 @@ pub data Outcome : Type 0 where
 -- the tree's words and zeros after them, or refusal 5 and all zero
 abbrev pub stored : ℕ → List ℕ → Outcome
 stored n ws =
-    pick (leb (length ws) n && leb (length ws) mostWords) (words (length ws) (ws ++ replicate (n - length ws) 0)) (refusal 5 0 (replicate n 0))
+    pick (leb (length ws) n && leb (length ws) mostWords) (words (length ws) (ws ++ replicate (n - length ws) 0)) (refusal treeTooLarge 0 (replicate n 0))
 
 -- the outcome of an answer, by the words of what was read
 abbrev pub outcomeBy : {A : Type 0} → (A → List ℕ) → ℕ → Answer A → Outcome
 outcomeBy wordsOf n (ok a at) = stored n (wordsOf a)
-outcomeBy wordsOf n Answer.none = refusal 2 0 (replicate n 0)
+outcomeBy wordsOf n Answer.none = refusal unusableToken 0 (replicate n 0)
 outcomeBy wordsOf n (refused number place) = refusal number place (replicate n 0)
 
 -- ---- read expression

@@ -10,7 +10,7 @@ use Rattle.lexing.specs.Examples.{computed as tokens}
 use Rattle.tree.specs.Ast.{Span, binding, Expr, CustomLiteral, IdExpr, OperatorExpr, IfThenElse, FunctionCallExpr, LabeledExpr, LetExpr, QuantifierExpr, ClosureExpr}
 use Rattle.tree.specs.Ast.{Exprs, noExprs, _then_, Patterns, noPatterns, pattern, noClosureBindings, closureBinding, noClosureProperties, closureProperty}
 use Rattle.tree.specs.Resolve.{part, resolveExpr}
-use Rattle.grammar.specs.Words.{bytes}
+use Rattle.lexing.specs.Bytes.{bytes}
 use Rattle.grammar.specs.Grammar.{Tree}
 use Rattle.grammar.specs.Steps.{after}
 use Rattle.grammar.specs.Rules

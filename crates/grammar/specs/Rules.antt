@@ -6,13 +6,12 @@ use mathlib.Core.List.{List, [], _∷_}
 use mathlib.Core.Option.{Option, none, some}
 use lib.ListN.{drop, getD}
 use lib.Dec.{ltb, eqb}
-use Rattle.lexing.specs.Answer.{Answer, ok, refused, pick}
-use Rattle.lexing.specs.Bytes.{isDigit}
+use Rattle.lexing.specs.Answer.{Answer, ok, refused, pick, levelTooDeep}
+use Rattle.lexing.specs.Bytes.{isDigit, bytes}
 use Rattle.lexing.specs.Tokens.{identifierLength}
 use Rattle.tree.specs.Ast.{Span, Binding, binding, Expr, BLiteral, ILiteral, CustomLiteral, IdExpr, OperatorExpr, FunctionCallExpr, LabeledExpr, LetExpr, QuantifierExpr, ClosureExpr}
 use Rattle.tree.specs.Ast.{Exprs, noExprs, _then_, Patterns, noPatterns, pattern, ClosureBindings, noClosureBindings, closureBinding, ClosureProperties, noClosureProperties, closureProperty}
 use Rattle.tree.specs.Ast.{Operator, IfThenElse, Equiv, LogicalImp, LogicalAnd, LogicalOr, Eq, Neq, Less, AtMost, Plus, Minus, Times, Div, Mod, LogicalNot, UnaryMinus}
-use Rattle.grammar.specs.Words.{bytes}
 use Rattle.grammar.specs.Grammar.{Build, straight, swapped, single, build}
 use Rattle.grammar.specs.Grammar.{Class, product, sum, comparison, conjunction, disjunction, implication, explication, equivalence}
 use Rattle.grammar.specs.Steps.{Reader, after, need, _or_, mapped, T, Sym, SymNotPrefix, keywordAt, signAt, parseName, parseType, parseLiteralText, parseNat}
@@ -322,5 +321,5 @@ module _ (text : List ℕ) where
 
   -- `RecMap(exprGallery, "expr")` with d levels left: refusal 3 where one more would be opened
   unfoldable pub parseExpr : ℕ → ℕ → Reader E
-  parseExpr m zero at = pick (opensExpr (drop at text)) (refused 3 at) Answer.none
+  parseExpr m zero at = pick (opensExpr (drop at text)) (refused levelTooDeep at) Answer.none
   parseExpr m (suc d) at = parseEquivExpr m (parseExpr m d) at

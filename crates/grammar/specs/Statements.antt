@@ -1,4 +1,4 @@
--- The reading rules of statements, in Parser.dfy's order and under its names (document 01, "Choice and repetition"). `c` holds the rules that a
+-- The reading rules of statements, in Parser.dfy's order and under its names (REFERENCE, "The reading rules"). `c` holds the rules that a
 -- rule opens: "expr" of `exprGallery` and the four of `stmtGallery`, each with the levels that are left. m bounds the turns of each repetition.
 use Prim.Native.Nat.{ℕ, zero, suc}
 use Prim.Native.String.{String}
@@ -6,11 +6,11 @@ use mathlib.Core.Bool.{Bool, true, false}
 use mathlib.Core.List.{List, [], _∷_}
 use mathlib.Core.Option.{Option, none, some}
 use lib.ListN.{drop}
-use Rattle.lexing.specs.Answer.{Answer, ok, refused, pick}
+use Rattle.lexing.specs.Answer.{Answer, ok, refused, pick, levelTooDeep}
 use Rattle.tree.specs.Ast.{Span, Binding, binding, Expr, IdExpr, Variable, CallArgument, ParameterMode, In, InOut, Out}
 use Rattle.tree.specs.Ast.{Stmt, VarDecl, Assign, Reinit, Block, Call, Check, Assume, Reach, Assert, AForall, Choose, If, IfCase, Loop, LabeledStmt, Exit, Return, Probe}
 use Rattle.tree.specs.Ast.{Stmts, noStmts, stmts, Cases, noCases, case, AExpr, aExpr, AAssertion, AExprs, noAExprs, aExprs}
-use Rattle.grammar.specs.Words.{bytes}
+use Rattle.lexing.specs.Bytes.{bytes}
 use Rattle.grammar.specs.Steps.{Reader, after, need, must, _or_, mapped, T, Sym, keywordAt, parseName}
 use Rattle.grammar.specs.Rules.{Sequence, opensExpr, parseExpr, parseIdType, parseOptionalType, parseNonemptyCommaDelimitedSeq, parseListed}
 
@@ -219,7 +219,7 @@ module _ (text : List ℕ) where
 
   -- refusal 3 at a place where a token is kept
   abbrev pub tooDeep : {A B : Type 0} → ℕ → Answer A → Answer B
-  tooDeep at r = after r Answer.none (λ _ _. refused 3 at)
+  tooDeep at r = after r Answer.none (λ _ _. refused levelTooDeep at)
 
   -- the rules with d levels left: where none is left, refusal 3 at the rule's first token
   unfoldable pub gallery : ℕ → ℕ → Gallery
@@ -229,7 +229,7 @@ module _ (text : List ℕ) where
         expr = parseExpr text m zero;
         block = λ at. tooDeep at (Sym text "{" at);
         stmt = λ at. tooDeep at (Sym text "{" at) or tooDeep at (wordOf statementWords at) or tooDeep at (atomic mark at);
-        ifCont = λ at. pick (opensExpr (drop at text)) (refused 3 at) Answer.none;
+        ifCont = λ at. pick (opensExpr (drop at text)) (refused levelTooDeep at) Answer.none;
         loop = λ at. tooDeep at (T text "loop" at);
       }
   gallery m (suc d) =

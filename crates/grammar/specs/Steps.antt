@@ -1,13 +1,13 @@
--- Reading steps at a place of a text: the token readers of `lexing`, and the combinators that the rules are written with (document 01,
+-- Reading steps at a place of a text: the token readers of `lexing`, and the combinators that the rules are written with (REFERENCE,
 -- "Choice and repetition").
 use Prim.Native.Nat.{ℕ}
 use Prim.Native.String.{String}
 use mathlib.Core.List.{List}
 use lib.ListN.{drop}
-use Rattle.lexing.specs.Answer.{Answer, ok, refused, moved}
+use Rattle.lexing.specs.Answer.{Answer, ok, refused, moved, unusableToken}
 use Rattle.lexing.specs.Tokens.{parseId, parseCustomLiteral, keyword, sign, signNotPrefix, natural}
 use Rattle.tree.specs.Ast.{Span}
-use Rattle.grammar.specs.Words.{bytes}
+use Rattle.lexing.specs.Bytes.{bytes}
 
 -- a rule: what it answers at a place
 abbrev pub Reader : Type 0 → Type 0
@@ -21,7 +21,7 @@ after (refused number place) stop go = refused number place
 
 -- a step that must follow at a place where tokens were kept before: refusal 2 there where it keeps nothing
 abbrev pub need : {A B : Type 0} → ℕ → Answer A → (A → ℕ → Answer B) → Answer B
-need at r go = after r (refused 2 at) go
+need at r go = after r (refused unusableToken at) go
 
 -- the same, and nothing after it
 abbrev pub must : {A : Type 0} → ℕ → Answer A → Answer A

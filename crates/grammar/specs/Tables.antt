@@ -11,7 +11,7 @@ use Rattle.lexing.specs.Answer.{Answer, ok, refused, pick}
 use Rattle.tree.specs.Limits.{mostWords}
 use Rattle.tree.specs.Words.{programWords}
 use Rattle.grammar.specs.Reading.{Outcome, words, refusal, stored, outcomeBy, readTreeOfProgram, readProgram}
-use Rattle.grammar.specs.Bridge.Limits.{stored-inv, stored-fits}
+use Rattle.grammar.specs.Proofs.Bridge.Limits.{stored-inv, stored-fits}
 
 -- the words of the tree, or the refusal, without the rest of the table
 abbrev pub gist : Outcome → Outcome

@@ -1,14 +1,13 @@
--- Tokens, and the cut of a text into them (document 01, "The operator grammar"): blanks are passed over, then one token is cut, a whole
+-- Tokens, and the cut of a text into them (REFERENCE, "The operator grammar"): blanks are passed over, then one token is cut, a whole
 -- identifier, a whole natural or the longest of the signs. `false`, `true`, `old`, `div` and `mod` are identifiers.
 use Prim.Native.Nat.{ℕ, zero, suc, pred, _+_}
 use Prim.Native.String.{String}
 use mathlib.Core.Bool.{true, false}
 use mathlib.Core.List.{List, [], _∷_}
 use lib.ListN.{length, take, drop}
-use Rattle.lexing.specs.Bytes.{isDigit, run, startsWith}
+use Rattle.lexing.specs.Bytes.{isDigit, run, startsWith, bytes}
 use Rattle.lexing.specs.Blanks.{Blanks, passed, unclosed, W}
 use Rattle.lexing.specs.Tokens.{identifierLength, decimal}
-use Rattle.grammar.specs.Words.{bytes}
 
 pub data Mark : Type 0 where
   lparen rparen comma : Mark

@@ -1,4 +1,4 @@
--- What it is to read a tree (document 01, "The entries" and "The operator grammar"): the terms of demand 3's second claim.
+-- What it is to read a tree (REFERENCE, "The entries" and "The operator grammar"): the terms of demand 3's second claim.
 use Prim.Native.Nat.{ℕ, _-_}
 use mathlib.Core.Path.{_≡_}
 use mathlib.Core.List.{List, [], _++_}

@@ -1,18 +1,12 @@
 -- The words of B3 as bytes: the eight that are no name of an operand, and the 46 that Parser.dfy gives to `T` or `parseAExprSeq`.
 use Prim.Native.Nat.{ℕ}
-use Prim.Native.Char.{code}
 use Prim.Native.String.{String}
 use mathlib.Core.Bool.{Bool, false, _&&_, _||_, not}
 use mathlib.Core.List.{List, [], _∷_}
 use lib.Dec.{leb, eqb}
 use lib.ListN.{length}
-use Rattle.lexing.specs.Bytes.{sameBytes}
+use Rattle.lexing.specs.Bytes.{bytes, sameBytes}
 use Rattle.lexing.specs.Tokens.{identifierLength}
-
--- an ASCII text as the list of its bytes
-abbrev pub bytes : String → List ℕ
-bytes String.[] = []
-bytes (String._∷_ c s) = code c ∷ bytes s
 
 -- w is one of the words
 unfoldable pub oneOf : List String → List ℕ → Bool
@@ -31,7 +25,7 @@ keywords =
     ∷ "forall" ∷ "choose" ∷ "or" ∷ "if" ∷ "autoinv" ∷ "else" ∷ "case" ∷ "loop" ∷ "invariant" ∷ "div" ∷ "mod" ∷ "exists" ∷ "lift" ∷ "into"
     ∷ "by" ∷ "trigger" ∷ "pattern" ∷ "false" ∷ "true" ∷ "old" ∷ []
 
--- document 01's name of an operand, given an identifier
+-- document 01's 'name' of an operand, given an identifier (REFERENCE, "The operator grammar")
 unfoldable pub isName : List ℕ → Bool
 isName w = not (oneOf excludedWords w)
 

@@ -4,18 +4,35 @@ use Prim.Native.Nat.{ℕ, _+_}
 pub use mathlib.Core.Bool.{cond as pick}
 
 -- The answer of a step that reads at a place: `ok`, with a value and the place after what was kept; `none`, it failed having kept nothing;
--- `refused`, with document 01's number and place.
+-- `refused`, with a refusal's number and place (REFERENCE, "The refusals").
 pub data Answer (A : Type 0) : Type 0 where
   ok : A → ℕ → Answer A
   none : Answer A
   refused : ℕ → ℕ → Answer A
 
--- document 01's number for a long comment that is not closed, and for a natural above the largest
-abbrev pub unclosedComment : ℕ
-unclosedComment = 2
+-- The numbers of a reading's refusals (REFERENCE, "The refusals"). The text is longer than it may be:
+abbrev pub textTooLong : ℕ
+textTooLong = 1
 
+-- the rules can't go on:
+abbrev pub unusableToken : ℕ
+unusableToken = 2
+
+-- one level more than may be would be opened:
+abbrev pub levelTooDeep : ℕ
+levelTooDeep = 3
+
+-- a natural is above the largest:
 abbrev pub largeNatural : ℕ
 largeNatural = 4
+
+-- the tree has more words than the table, or than a table may have:
+abbrev pub treeTooLarge : ℕ
+treeTooLarge = 5
+
+-- a long comment is not closed:
+abbrev pub unclosedComment : ℕ
+unclosedComment = 2
 
 -- the answer of a step over `drop at text`, with its places counted in `text`
 abbrev pub moved : {A : Type 0} → ℕ → Answer A → Answer A

@@ -2,7 +2,14 @@
 use mathlib.Core.Bool.{Bool, true, false, _&&_, _||_, not}
 use mathlib.Core.List.{List, [], _∷_}
 use Prim.Native.Nat.{ℕ, suc}
+use Prim.Native.Char.{code}
+use Prim.Native.String.{String}
 use lib.Dec.{leb, eqb}
+
+-- an ASCII text as the list of its bytes
+abbrev pub bytes : String → List ℕ
+bytes String.[] = []
+bytes (String._∷_ c s) = code c ∷ bytes s
 
 -- from the least byte to the most
 abbrev pub between : ℕ → ℕ → ℕ → Bool

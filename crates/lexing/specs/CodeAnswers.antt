@@ -45,7 +45,7 @@ abbrev pub endOf : End → Option ℕ
 endOf (At n) = some n
 endOf Never = none
 
--- document 01's number and place of a refusal stand in `Refused`
+-- a refusal's number and place stand in `Refused`
 abbrev pub answerOf : Lexed → Answer ℕ
 answerOf (Ok v n) = ok v n
 answerOf None = Answer.none

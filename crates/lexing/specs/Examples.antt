@@ -1,4 +1,4 @@
--- Closed examples, by computation: each pins a rule of document 01 on a text.
+-- Closed examples, by computation: each pins a rule of REFERENCE, "Blanks and tokens", on a text.
 use mathlib.Core.Path.{_≡_, refl}
 use mathlib.Core.List.{List, [], _∷_}
 use Prim.Native.Nat.{ℕ}

@@ -1,4 +1,4 @@
--- Blanks and words of B3: document 01, "Names, blanks, strengths" and "Choice and repetition"; the first part of Parser.dfy.
+-- Blanks and words of B3: REFERENCE, "Blanks and tokens"; the first part of Parser.dfy.
 pub mod Answer
 pub mod Bytes
 pub mod Blanks

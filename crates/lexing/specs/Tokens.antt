@@ -52,7 +52,7 @@ unfoldable pub decimal : ℕ → List ℕ → ℕ
 decimal v [] = v
 decimal v (d ∷ s) = decimal (v * 10 + (d - 48)) s
 
--- document 01's largest natural, 18446744073709551615
+-- the largest natural, 18446744073709551615 (REFERENCE, "Limits")
 abbrev pub mostNatural : ℕ
 mostNatural = 0xffff_ffff_ffff_ffff
 

@@ -6,15 +6,12 @@ use crate::bytes::can_start_identifier_char;
 use crate::bytes::run_length;
 use crate::bytes::same_bytes;
 use crate::bytes::starts_with;
+use crate::refusal::LARGE_NATURAL;
+use crate::refusal::UNCLOSED_COMMENT;
 ghost use mathlib.Core.Path.{_≡_};
 ghost use Prim.Native.Nat.{_-_};
 ghost use Rattle.lexing.specs.Tokens as tokens;
 ghost use Rattle.lexing.specs.CodeAnswers.{answerOf, numberOf};
-
-// The refusal numbers of a long comment that is not closed and of a natural above the largest.
-pub const UNCLOSED_COMMENT: u64 = 2;
-
-pub const LARGE_NATURAL: u64 = 4;
 
 // The largest natural.
 const MOST_NATURAL: u64 = 18446744073709551615;

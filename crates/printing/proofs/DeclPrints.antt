@@ -4,12 +4,12 @@ use mathlib.Core.Path.{_≡_, refl, sym, subst}
 use mathlib.Core.List.{List}
 use Rattle.tree.specs.Ast.{Expr, Exprs, noExprs, _then_, Program as Tree}
 use Rattle.tree.specs.Words.{exprWords, exprsWords}
-use Rattle.printing.specs.declared.parts.Step.{Step}
-use Rattle.printing.specs.declared.program.Decl.{Decl}
-use Rattle.prints.specs.Text.{_▹_, _▸_}
-use Rattle.prints.specs.PrintUtil.{Indent}
-use Rattle.prints.specs.Statements.{inline}
-use Rattle.prints.specs.Program.{TypeDecl, TaggerDecl, whenClauses, FunctionDecl, AxiomDecl, Procedure, declarations, Program}
+use Rattle.printing.specs.declared.parts.Advance.{Advance}
+use Rattle.printing.specs.declared.program.DeclKind.{DeclKind}
+use Rattle.layout.specs.Text.{_▹_, _▸_}
+use Rattle.layout.specs.PrintUtil.{Indent}
+use Rattle.layout.specs.Statements.{inline}
+use Rattle.layout.specs.Program.{TypeDecl, TaggerDecl, whenClauses, FunctionDecl, AxiomDecl, Procedure, declarations, Program}
 use Rattle.printing.specs.Entries.{nameIn}
 use Rattle.printing.specs.Parts.{Prints}
 use Rattle.printing.specs.StmtParts.{N}
@@ -17,9 +17,9 @@ use Rattle.printing.specs.DeclParts.{aDecl, whenList}
 use Rattle.printing.proofs.Sequences.{View, nothing, something, Listing}
 
 -- a declaration of a kind
-pub of-kind : (text table counts : List ℕ) (step at : ℕ) {k kind : Decl} {b : List ℕ} {p : ℕ} {b₁ : List ℕ} {s : Step} → kind ≡ k → Prints (aDecl text table counts step at k) table at b p b₁ s
+pub of-kind : (text table counts : List ℕ) (step at : ℕ) {k kind : DeclKind} {b : List ℕ} {p : ℕ} {b₁ : List ℕ} {s : Advance} → kind ≡ k → Prints (aDecl text table counts step at k) table at b p b₁ s
     → Prints (aDecl text table counts step at kind) table at b p b₁ s
-of-kind text table counts step at {b = b} {p = p} {b₁ = b₁} {s = s} e x = subst (λ (d : Decl). Prints (aDecl text table counts step at d) table at b p b₁ s) (sym e) x
+of-kind text table counts step at {b = b} {p = p} {b₁ = b₁} {s = s} e x = subst (λ (d : DeclKind). Prints (aDecl text table counts step at d) table at b p b₁ s) (sym e) x
 
 -- ---- the `when` clauses are a list
 

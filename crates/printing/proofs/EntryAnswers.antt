@@ -13,7 +13,7 @@ use Rattle.lexing.specs.Answer.{pick}
 use Rattle.tree.specs.Limits.{mostText, mostWords}
 use Rattle.tree.specs.Check.{Refusal}
 use Rattle.tree.specs.CountLaws.{expression-counted, program-counted}
-use Rattle.printing.specs.declared.parts.Step.{Step}
+use Rattle.printing.specs.declared.parts.Advance.{Advance}
 use Rattle.printing.specs.declared.Printed.{Printed}
 use Rattle.printing.specs.declared.entry.Root.{Root}
 use Rattle.printing.specs.declared.entry.Root.the-variants.{AnExpression, AProgram}
@@ -108,7 +108,7 @@ numbered text words before step root {after} h e f =
     by-root AProgram t d l m = program-counted words (length text) before t d l m
 
 -- the print of a tree in a buffer is handed over
-handed-tree : (text words counts out : List ℕ) (step : ℕ) (root : Root) {b b₁ : List ℕ} {s : Step} → step ≤ mostStep → rooted step text root .indent ≤ mostIndent → length words ≤ mostWords
+handed-tree : (text words counts out : List ℕ) (step : ℕ) (root : Root) {b b₁ : List ℕ} {s : Advance} → step ≤ mostStep → rooted step text root .indent ≤ mostIndent → length words ≤ mostWords
     → length b ≤ mostPrint → min (length out) mostPrint ≤ length b → Prints (rootPart text words counts step root) words 0 b 0 b₁ s
     → (t : rooted step text root .Tree) → RootCounted text words counts step root t → rooted step text root .words t ≡ words
     → delivered b₁ (s .pos) out ≡ stored (rooted step text root .print t) out
@@ -119,7 +119,7 @@ handed-tree text words counts out step AProgram n i l h k x t c f =
     handed out (x .prints t [] (record { few = l; short = n; room = omega arith }, c) (sym f) .wrote) h k
 
 -- the print of the tree is delivered, for every tree with the table's words
-pub through : (step : ℕ) (text : List ℕ) (root : Root) {words counts : List ℕ} {b b₁ : List ℕ} {s : Step} {out out′ : List ℕ} {r : Printed}
+pub through : (step : ℕ) (text : List ℕ) (root : Root) {words counts : List ℕ} {b b₁ : List ℕ} {s : Advance} {out out′ : List ℕ} {r : Printed}
     → step ≤ mostStep → rooted step text root .indent ≤ mostIndent → Numbered text words counts step root → length b ≤ mostPrint → min (length out) mostPrint ≤ length b
     → Prints (rootPart text words counts step root) words 0 b 0 b₁ s → outcomeOf r out′ ≡ delivered b₁ (s .pos) out → Stores (rooted step text root) words out out′ r
 through step text root {words} {counts} {out = out} m i n h k x e =
@@ -140,7 +140,7 @@ checked-by text words before step {q = q} {after = after} e x =
     subst (λ (r : Root). (q ≡ rooted step text r .refused words) × (after ≡ rootCounts r words (length text) before)) (sym e) x
 
 -- the print of a table by its root
-pub printed-by : (text words counts : List ℕ) (step : ℕ) {root k : Root} {b b₁ : List ℕ} {s : Step} → root ≡ k
+pub printed-by : (text words counts : List ℕ) (step : ℕ) {root k : Root} {b b₁ : List ℕ} {s : Advance} → root ≡ k
     → Prints (rootPart text words counts step k) words 0 b 0 b₁ s → Prints (rootPart text words counts step root) words 0 b 0 b₁ s
 printed-by text words counts step {b = b} {b₁ = b₁} {s = s} e x = subst (λ (r : Root). Prints (rootPart text words counts step r) words 0 b 0 b₁ s) (sym e) x
 

@@ -7,7 +7,7 @@ use mathlib.Core.Path.{_≡_, sym, ap, _∙_, subst}
 use mathlib.Core.List.{List, _∷_}
 use lib.ListN.{length, drop}
 use lib.Seq.{drop-drop}
-use Rattle.printing.specs.declared.parts.Step.{Step}
+use Rattle.printing.specs.declared.parts.Advance.{Advance}
 use Rattle.printing.specs.Wrote.{Wrote}
 use Rattle.printing.specs.ExprParts.{Ready}
 use Rattle.printing.specs.Parts.{Part, Done, Prints, Next}
@@ -171,7 +171,7 @@ abbrev pub text : {K : List ℕ → ℕ → Type 0} (l : PlaceOf K) {X : List �
 text l {X} v Y e = text-of l (λ x. X) Y (λ x. v) e
 
 -- the words from here on were printed, which may depend on the tree
-abbrev pub print-of : {K : List ℕ → ℕ → Type 0} (l : PlaceOf K) (X : Begun (l .origin) → List ℕ → List ℕ) (ws : Begun (l .origin) → List ℕ) (Y : Begun (l .origin) → List ℕ → List ℕ) {b : List ℕ} {s : Step} → l .next ≤ s .next
+abbrev pub print-of : {K : List ℕ → ℕ → Type 0} (l : PlaceOf K) (X : Begun (l .origin) → List ℕ → List ℕ) (ws : Begun (l .origin) → List ℕ) (Y : Begun (l .origin) → List ℕ → List ℕ) {b : List ℕ} {s : Advance} → l .next ≤ s .next
     → ((x : Begun (l .origin)) → Done (l .origin .table) (X x) (ws x) (l .buffer) (l .pos) b s) → ((x : Begun (l .origin)) → l .print x ≡ (λ r. X x (Y x r))) → PlaceOf K
 print-of l X ws Y {b} {s} f d e =
     record {
@@ -188,7 +188,7 @@ print-of l X ws Y {b} {s} f d e =
     }
 
 -- a part was printed
-abbrev pub part : {K : List ℕ → ℕ → Type 0} (l : PlaceOf K) {Q : Part} {b : List ℕ} {s : Step} → Prints Q (l .origin .table) (l .next) (l .buffer) (l .pos) b s → (of : Begun (l .origin) → Q .Tree)
+abbrev pub part : {K : List ℕ → ℕ → Type 0} (l : PlaceOf K) {Q : Part} {b : List ℕ} {s : Advance} → Prints Q (l .origin .table) (l .next) (l .buffer) (l .pos) b s → (of : Begun (l .origin) → Q .Tree)
     → (ws : Begun (l .origin) → List ℕ) → ((x : Begun (l .origin)) → Q .given (of x) (ws x)) → (Y : Begun (l .origin) → List ℕ → List ℕ) → ((x : Begun (l .origin)) → l .words x ≡ Q .words (of x) (ws x))
     → ((x : Begun (l .origin)) → l .print x ≡ (λ r. Q .print (of x) (Y x r))) → PlaceOf K
 part l {Q} q of ws g Y d e = print-of l (λ x. Q .print (of x)) ws Y (q .forward) (λ x. q .prints (of x) (ws x) (g x) (l .left x ∙ d x)) e

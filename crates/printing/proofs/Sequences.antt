@@ -6,8 +6,8 @@ use mathlib.Core.List.{List, [], _∷_, _++_}
 use lib.ListN.{drop, getD}
 use Rattle.tree.specs.Clash.{impossible}
 use Rattle.tree.specs.Words.{optionWords, seqWords}
-use Rattle.printing.specs.declared.parts.Step.{Step}
-use Rattle.prints.specs.Statements.{optional, separated}
+use Rattle.printing.specs.declared.parts.Advance.{Advance}
+use Rattle.layout.specs.Statements.{optional, separated}
 use Rattle.printing.specs.Parts.{Part, Done, Prints, Next}
 use Rattle.printing.proofs.Writing.Bytes.{none as no-bytes}
 use Rattle.printing.proofs.PartPrints.Joins.{word-at}
@@ -36,7 +36,7 @@ module _ (P : Part) {A : Type 0} (make : A → P .Tree) (L : Listing P make) {ta
       by-view t rest d (something a m w) = impossible (sym z ∙ word-at table at e (d ∙ w rest .1))
 
   -- where it is not 0, what was made is printed
-  pub at-some : {b₁ : List ℕ} {s : Step} → (g ≡ 0 → ⊥) → Prints (made P make) table at b p b₁ s → Prints P table at b p b₁ s
+  pub at-some : {b₁ : List ℕ} {s : Advance} → (g ≡ 0 → ⊥) → Prints (made P make) table at b p b₁ s → Prints P table at b p b₁ s
   at-some {b₁} {s} z x = record { forward = x .forward; prints = λ t rest k d. by-view t rest k d (L .view t) }
     where
       by-view : (t : P .Tree) (rest : List ℕ) → P .given t rest → drop at table ≡ P .words t rest → View P make t → Done table (P .print t) rest b p b₁ s

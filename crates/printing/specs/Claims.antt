@@ -8,9 +8,10 @@ use mathlib.Core.Logic.{_↔_, _⊎_}
 use mathlib.Core.Option.{some}
 use mathlib.Core.List.{List, _++_}
 use lib.ListN.{length, drop}
+use Rattle.tree.specs.Check.{oversized, misfitting}
 use Rattle.printing.specs.declared.Printed.{Printed}
 use Rattle.printing.specs.declared.Printed.the-variants.{Written, Refused}
-use Rattle.printing.specs.Entries.{Printable, Answered, Within, Fits}
+use Rattle.printing.specs.Entries.{Printable, Answered, Within, Fits, printTooLong}
 use Rattle.printing.specs.EntryLaws.{Lawful}
 use Rattle.printing.specs.PrintCases as Cases
 
@@ -26,21 +27,21 @@ module _ (P : Printable) (L : Lawful P) (text words out : List ℕ) (r : Printed
   written-tree = Cases.written-tree P L text words out r out′ a
 
   -- Refusal 6: exactly past the limits on the text, the words and the start indent.
-  pub refused-6 : (r ≡ Refused 6 0) ↔ (Within P text words → ⊥)
+  pub refused-6 : (r ≡ Refused oversized 0) ↔ (Within P text words → ⊥)
   refused-6 = Cases.refused-6 P L text words out r out′ a
 
   -- Refusal 7: exactly where the table holds no tree, and at the place of the check's refusal.
-  pub refused-7 : ((place : ℕ) × (r ≡ Refused 7 place)) ↔ (Within P text words × ((t : P .Tree) → P .words t ≡ words → ⊥))
+  pub refused-7 : ((place : ℕ) × (r ≡ Refused misfitting place)) ↔ (Within P text words × ((t : P .Tree) → P .words t ≡ words → ⊥))
   refused-7 = Cases.refused-7 P L text words out r out′ a
 
   pub refused-7-place : (place : ℕ)
-      → (r ≡ Refused 7 place) ↔ (Within P text words × (P .refused words ≡ some (record { number = 7; place = place })))
+      → (r ≡ Refused misfitting place) ↔ (Within P text words × (P .refused words ≡ some (record { number = misfitting; place = place })))
   refused-7-place = Cases.refused-7-place P L text words out r out′ a
 
   -- Refusal 8: exactly where the print of the table's tree is longer than the output or than 65,536 bytes.
-  pub refused-8 : (r ≡ Refused 8 0) ↔ (Within P text words × ((t : P .Tree) × ((P .words t ≡ words) × (Fits (P .print t) out → ⊥))))
+  pub refused-8 : (r ≡ Refused printTooLong 0) ↔ (Within P text words × ((t : P .Tree) × ((P .words t ≡ words) × (Fits (P .print t) out → ⊥))))
   refused-8 = Cases.refused-8 P L text words out r out′ a
 
   -- There is no other refusal, and each leaves the output as it was.
-  pub refusal-keeps : (number place : ℕ) → r ≡ Refused number place → ((r ≡ Refused 6 0) ⊎ (r ≡ Refused 7 place) ⊎ (r ≡ Refused 8 0)) × (out′ ≡ out)
+  pub refusal-keeps : (number place : ℕ) → r ≡ Refused number place → ((r ≡ Refused oversized 0) ⊎ (r ≡ Refused misfitting place) ⊎ (r ≡ Refused printTooLong 0)) × (out′ ≡ out)
   refusal-keeps = Cases.refusal-keeps P L text words out r out′ a

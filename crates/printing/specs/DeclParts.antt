@@ -6,14 +6,14 @@ use lib.ListN.{length}
 use Rattle.tree.specs.Ast.{Expr, Exprs, Stmt, Tagger, FunctionDefinition, Function, Axiom, Procedure as Proc, Program as Tree}
 use Rattle.tree.specs.Words.{optionWords, seqWords, nameWords, exprWords, exprsWords, stmtWords, taggerWords, functionDefinitionWords, functionWords, axiomWords, procedureWords, programWords}
 use Rattle.tree.specs.Counted.{CountedOption, CountedItems, CountedExpr, CountedExprs, CountedStmt, CountedDefinition, CountedFunction, CountedAxiom, CountedProcedure, CountedProgram}
-use Rattle.prints.specs.declared.format.ExprFormatOption.the-variants.{MultipleLines}
-use Rattle.printing.specs.declared.program.Decl.{Decl}
-use Rattle.printing.specs.declared.program.Decl.the-variants.{Types, Taggers, Functions, Axioms, Procedures}
-use Rattle.prints.specs.Text.{_▹_}
-use Rattle.prints.specs.PrintUtil.{Indent, Init}
-use Rattle.prints.specs.Printer.{Expression}
-use Rattle.prints.specs.Statements.{Before, optional}
-use Rattle.prints.specs.Program.{TypeDecl, TaggerDecl, whenClauses, definition, FunctionDecl, AxiomDecl, body, Procedure, declarations, Program}
+use Rattle.layout.specs.declared.format.ExprFormatOption.the-variants.{MultipleLines}
+use Rattle.printing.specs.declared.program.DeclKind.{DeclKind}
+use Rattle.printing.specs.declared.program.DeclKind.the-variants.{Types, Taggers, Functions, Axioms, Procedures}
+use Rattle.layout.specs.Text.{_▹_}
+use Rattle.layout.specs.PrintUtil.{Indent, Init}
+use Rattle.layout.specs.Printer.{Expression}
+use Rattle.layout.specs.Statements.{Before, optional}
+use Rattle.layout.specs.Program.{TypeDecl, TaggerDecl, whenClauses, definition, FunctionDecl, AxiomDecl, body, Procedure, declarations, Program}
 use Rattle.printing.specs.Entries.{nameIn}
 use Rattle.printing.specs.Parts.{Part}
 use Rattle.printing.specs.StmtParts.{N, free, counted}
@@ -51,38 +51,38 @@ module _ (text : List ℕ) where
 
     -- ---- declarations, by their kind
 
-    abbrev pub DeclTree : Decl → Type 0
+    abbrev pub DeclTree : DeclKind → Type 0
     DeclTree Types = N text
     DeclTree Taggers = Tagger (N text)
     DeclTree Functions = Function (N text)
     DeclTree Axioms = Axiom (N text)
     DeclTree Procedures = Proc (N text)
 
-    abbrev pub declWords : (k : Decl) → DeclTree k → List ℕ → List ℕ
+    abbrev pub declWords : (k : DeclKind) → DeclTree k → List ℕ → List ℕ
     declWords Types = nameWords (λ n. n .span)
     declWords Taggers = taggerWords (λ n. n .span)
     declWords Functions = functionWords (λ n. n .span)
     declWords Axioms = axiomWords (λ n. n .span)
     declWords Procedures = procedureWords (λ n. n .span)
 
-    abbrev pub declPrint : (k : Decl) → DeclTree k → Before
+    abbrev pub declPrint : (k : DeclKind) → DeclTree k → Before
     declPrint Types = TypeDecl (nameIn text)
     declPrint Taggers = TaggerDecl (nameIn text)
     declPrint Functions = FunctionDecl (nameIn text) step
     declPrint Axioms = AxiomDecl (nameIn text) step
     declPrint Procedures = Procedure (nameIn text) step
 
-    abbrev pub DeclCounted : (k : Decl) → DeclTree k → List ℕ → Type 0
+    abbrev pub DeclCounted : (k : DeclKind) → DeclTree k → List ℕ → Type 0
     DeclCounted Types d rest = Unit {0}
     DeclCounted Taggers d rest = Unit {0}
     DeclCounted Functions d rest = CountedFunction (λ n. n .span) counts (length table) d rest
     DeclCounted Axioms d rest = CountedAxiom (λ n. n .span) counts (length table) d rest
     DeclCounted Procedures d rest = CountedProcedure (λ n. n .span) counts (length table) d rest
 
-    abbrev pub aDecl : Decl → Part
+    abbrev pub aDecl : DeclKind → Part
     aDecl k = counted text table counts step at step (DeclCounted k) (declWords k) (declPrint k)
 
-    abbrev pub declList : Decl → Part
+    abbrev pub declList : DeclKind → Part
     declList k =
         counted text table counts step at step (CountedItems (declWords k) (DeclCounted k)) (seqWords (declWords k))
         (λ l rest. declarations (declPrint k) l rest)

@@ -1,4 +1,4 @@
--- Print an expression or a program (document 01, "The entries"): refusals 6 to 8, and the output afterwards, once for whatever is printed.
+-- Print an expression or a program (REFERENCE, "The entries"): refusals 6 to 8, and the output afterwards, once for whatever is printed.
 use Prim.Native.Nat.{ℕ, _≤_}
 use mathlib.Core.Path.{_≡_, refl}
 use mathlib.Core.Logic.{_↔_}
@@ -10,23 +10,27 @@ use lib.Dec.{leb}
 use Rattle.lexing.specs.Answer.{pick}
 use Rattle.tree.specs.Limits.{mostText, mostWords}
 use Rattle.tree.specs.Ast.{Expr, Program as Tree}
-use Rattle.tree.specs.Resolve.{bytes}
+use Rattle.tree.specs.Resolve.{bytesOf}
 use Rattle.tree.specs.Words.{exprWords, programWords}
-use Rattle.tree.specs.Check.{NameIn, Refusal, expressionRefusal, programRefusal}
+use Rattle.tree.specs.Check.{NameIn, Refusal, expressionRefusal, programRefusal, oversized}
 use Rattle.tree.specs.Refused.{expression-unrefused, program-unrefused}
-use Rattle.prints.specs.declared.format.ExprFormatOption.{ExprFormatOption}
-use Rattle.prints.specs.declared.format.ExprFormatOption.the-variants.{SingleLine, MultipleLines}
+use Rattle.layout.specs.declared.format.ExprFormatOption.{ExprFormatOption}
+use Rattle.layout.specs.declared.format.ExprFormatOption.the-variants.{SingleLine, MultipleLines}
 use Rattle.printing.specs.declared.Printed.{Printed}
 use Rattle.printing.specs.declared.Printed.the-variants.{Written, Refused}
-use Rattle.prints.specs.PrintUtil.{startIndent, Init}
-use Rattle.prints.specs.Printer.{Expression}
-use Rattle.prints.specs.Program.{Program}
+use Rattle.layout.specs.PrintUtil.{startIndent, Init}
+use Rattle.layout.specs.Printer.{Expression}
+use Rattle.layout.specs.Program.{Program}
 
--- the bytes of a print (document 01, refusal 8)
+-- the most bytes of a print (REFERENCE, "Limits")
 abbrev pub mostPrint : ℕ
 mostPrint = 65536
 
--- the start indent (document 01, refusal 6)
+-- the number of a print's refusal: it is longer than the output, or than a print may be
+abbrev pub printTooLong : ℕ
+printTooLong = 8
+
+-- the greatest start indent (REFERENCE, "Limits")
 abbrev pub mostIndent : ℕ
 mostIndent = 255
 
@@ -43,7 +47,7 @@ outcomeOf (Refused number place) out = refusal number place out
 -- the print and then the output's old bytes, or refusal 8
 unfoldable pub stored : List ℕ → List ℕ → Outcome
 stored print out =
-    pick (leb (length print) (length out) && leb (length print) mostPrint) (written (length print) (print ++ drop (length print) out)) (refusal 8 0 out)
+    pick (leb (length print) (length out) && leb (length print) mostPrint) (written (length print) (print ++ drop (length print) out)) (refusal printTooLong 0 out)
 
 -- ---- what is printed
 
@@ -59,7 +63,7 @@ pub record Printable : Type 1 where
 
 -- a name as the part of the text that it occupies
 abbrev pub nameIn : (text : List ℕ) → NameIn (length text) → List ℕ
-nameIn text n = bytes text (n .span)
+nameIn text n = bytesOf text (n .span)
 
 -- the print of an expression in a format, and that of a program, without what follows
 unfoldable pub printOf : (step : ℕ) (text : List ℕ) → ExprFormatOption → Expr (NameIn (length text)) → List ℕ
@@ -106,7 +110,7 @@ module _ (P : Printable) where
   -- over a text; of the limits, that on words is the check's
   unfoldable pub printTable : (text words out : List ℕ) → Outcome
   printTable text words out =
-      pick (leb (length text) mostText && leb (P .indent) mostIndent) (printChecked words out (P .refused words) refl) (refusal 6 0 out)
+      pick (leb (length text) mostText && leb (P .indent) mostIndent) (printChecked words out (P .refused words) refl) (refusal oversized 0 out)
 
   -- the contract of a print: its answer r and the output afterwards
   abbrev pub Answered : (text words out : List ℕ) → Printed → (out′ : List ℕ) → Type 0
@@ -128,7 +132,7 @@ PrintAnswered text words format out r out′ = Answered (expressions 2 text form
 abbrev pub ProgramAnswered : (text words out : List ℕ) → Printed → (out′ : List ℕ) → Type 0
 ProgramAnswered text words out r out′ = Answered (programs 2 text) text words out r out′
 
--- ---- the cases of document 01
+-- ---- the cases of an answer (REFERENCE, "The refusals")
 
 -- the table holds the expression t over its text, whose names lie inside it
 abbrev pub Holds : (text words : List ℕ) → Expr (NameIn (length text)) → Type 0

@@ -11,22 +11,22 @@ use Rattle.tree.specs.Clash.{impossible}
 use Rattle.tree.specs.Limits.{mostText, mostWords}
 use Rattle.tree.specs.Ast.{Expr, Program}
 use Rattle.tree.specs.Kind.{expr, programFields}
-use Rattle.tree.specs.Check.{NameIn, Refusal, checkExpression, checkProgram, refusal as checkRefusal, expressionRefusal, programRefusal}
+use Rattle.tree.specs.Check.{NameIn, Refusal, checkExpression, checkProgram, refusal as checkRefusal, expressionRefusal, programRefusal, oversized, misfitting}
 use Rattle.tree.specs.Trees.{Trees, namesIn}
 use Rattle.tree.specs.Accepted.{unique}
 use Rattle.tree.specs.Refused.{expression-too-many, expression-misfit, program-too-many, program-misfit}
 use Rattle.tree.specs.declared.Checked.{Checked}
-use Rattle.prints.specs.declared.format.ExprFormatOption.{ExprFormatOption}
+use Rattle.layout.specs.declared.format.ExprFormatOption.{ExprFormatOption}
 use Rattle.printing.specs.Entries.{mostIndent, refusal, stored, Printable, expressions, programs, treeOf, printChecked, printTable, Holds, HoldsProgram}
 
 -- ---- the two kinds of table
 
--- a kind whose words determine the tree, and whose check refuses as document 01 says
+-- a kind whose words determine the tree, and whose check refuses by 6 and 7 as in REFERENCE, "The refusals"
 pub record Lawful (P : Printable) : Type 0 where
   pub same : (words : List ℕ) (t u : P .Tree) → P .words t ≡ words → P .words u ≡ words → t ≡ u
   pub found : (words : List ℕ) → (c : Checked) × (P .refused words ≡ checkRefusal c)
-  pub too-many : (words : List ℕ) → P .refused words ≡ some (record { number = 6; place = 0 }) → mostWords < length words
-  pub misfit : (words : List ℕ) (place : ℕ) → P .refused words ≡ some (record { number = 7; place = place }) → length words ≤ mostWords
+  pub too-many : (words : List ℕ) → P .refused words ≡ some (record { number = oversized; place = 0 }) → mostWords < length words
+  pub misfit : (words : List ℕ) (place : ℕ) → P .refused words ≡ some (record { number = misfitting; place = place }) → length words ≤ mostWords
 
 -- two trees with the same words
 pub same-tree : (text words : List ℕ) (t u : Expr (NameIn (length text))) → Holds text words t → Holds text words u → t ≡ u

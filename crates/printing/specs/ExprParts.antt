@@ -7,22 +7,22 @@ use mathlib.Core.List.{List, []}
 use lib.ListN.{length, drop}
 use lib.Dec.{eqb}
 use Rattle.lexing.specs.Answer.{pick}
-use Rattle.grammar.specs.Words.{bytes}
+use Rattle.lexing.specs.Bytes.{bytes}
 use Rattle.tree.specs.Ast.{Binding, Operator, Expr, OperatorExpr, FunctionCallExpr, LabeledExpr, LetExpr, QuantifierExpr, ClosureExpr, ArgumentCount}
 use Rattle.tree.specs.Ast.{Exprs, noExprs, _then_, Patterns, ClosureBindings, ClosureProperties}
 use Rattle.tree.specs.Words.{exprWords, exprsWords, patternsWords, closureBindingsWords, closurePropertiesWords}
 use Rattle.tree.specs.Limits.{mostWords}
 use Rattle.tree.specs.Check.{NameIn}
 use Rattle.tree.specs.Counted.{exprCount, CountedExpr, CountedExprs, CountedPatterns, CountedClosureBindings, CountedClosureProperties}
-use Rattle.prints.specs.declared.power.BindingPower.{BindingPower}
-use Rattle.prints.specs.declared.format.ExprFormatOption.{ExprFormatOption}
-use Rattle.prints.specs.declared.format.ExprFormatOption.the-variants.{SingleLine}
-use Rattle.prints.specs.PrintUtil.{Space, Deeper, startIndent, Init}
-use Rattle.prints.specs.Printer.{Operand, ExpressionList, conditional, unary, binary, listed, operatorForm, isIf, Expression, operands, patterns, closureBindings, triggers, properties}
-use Rattle.printing.specs.Entries.{nameIn}
-use Rattle.prints.specs.Text.{_▹_, _▸_}
+use Rattle.layout.specs.declared.power.BindingPower.{BindingPower}
+use Rattle.layout.specs.declared.format.ExprFormatOption.{ExprFormatOption}
+use Rattle.layout.specs.declared.format.ExprFormatOption.the-variants.{SingleLine}
+use Rattle.layout.specs.PrintUtil.{Space, Deeper, startIndent, Init}
+use Rattle.layout.specs.Printer.{Operand, ExpressionList, conditional, unary, binary, listed, operatorForm, isIf, Expression, operands, patterns, closureBindings, triggers, properties}
+use Rattle.printing.specs.Entries.{nameIn, mostIndent}
+use Rattle.layout.specs.Text.{_▹_, _▸_}
 use Rattle.printing.specs.Wrote.{Wrote}
-use Rattle.prints.specs.Text.{unless}
+use Rattle.layout.specs.Text.{unless}
 use Rattle.printing.specs.Parts.{Part}
 
 -- an operand of an operator
@@ -55,7 +55,7 @@ mostStep = 8
 pub record Ready (table : List ℕ) (step at indent : ℕ) : Type 0 where
   pub few : length table ≤ mostWords
   pub short : step ≤ mostStep
-  pub room : indent ≤ 255 + mostStep * at
+  pub room : indent ≤ mostIndent + mostStep * at
 
 module _ (text table counts : List ℕ) (step at : ℕ) where
   abbrev N : Type 0

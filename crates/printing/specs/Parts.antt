@@ -5,17 +5,17 @@ use mathlib.Core.Bool.{Bool}
 use mathlib.Core.Option.{Option}
 use mathlib.Core.List.{List, [], _∷_}
 use lib.ListN.{length, drop, getD}
-use Rattle.grammar.specs.Words.{bytes}
+use Rattle.lexing.specs.Bytes.{bytes}
 use Rattle.tree.specs.Ast.{Binding, Expr}
 use Rattle.tree.specs.Words.{boolWord, naturalWords, nameWords, optionWords, seqWords, bindingWords, exprWords}
 use Rattle.tree.specs.Check.{NameIn}
-use Rattle.prints.specs.declared.power.Side.the-variants.{Left}
-use Rattle.prints.specs.declared.power.BindingPower.{BindingPower}
-use Rattle.prints.specs.declared.format.ExprFormatOption.{ExprFormatOption}
-use Rattle.printing.specs.declared.parts.Step.{Step}
-use Rattle.prints.specs.Text.{_▹_, _▸_, decimal}
-use Rattle.prints.specs.PrintUtil.{EndlessOperator, Parenthesis}
-use Rattle.prints.specs.Printer.{boolText, oldText, quantifierText, IdTypeDecl, Bindings, parameters, Expression, isIf}
+use Rattle.layout.specs.declared.power.Side.the-variants.{Left}
+use Rattle.layout.specs.declared.power.BindingPower.{BindingPower}
+use Rattle.layout.specs.declared.format.ExprFormatOption.{ExprFormatOption}
+use Rattle.printing.specs.declared.parts.Advance.{Advance}
+use Rattle.layout.specs.Text.{_▹_, _▸_, decimal}
+use Rattle.layout.specs.PrintUtil.{EndlessOperator, Parenthesis}
+use Rattle.layout.specs.Printer.{boolText, oldText, quantifierText, IdTypeDecl, Bindings, parameters, Expression, isIf}
 use Rattle.printing.specs.Entries.{nameIn}
 use Rattle.printing.specs.Wrote.{Wrote}
 
@@ -27,12 +27,12 @@ pub record Part : Type 1 where
   pub print : Tree → List ℕ → List ℕ
 
 -- a print X was written, and what follows its words in the table is `rest`
-pub record Done (table : List ℕ) (X : List ℕ → List ℕ) (rest b : List ℕ) (p : ℕ) (b′ : List ℕ) (s : Step) : Type 0 where
+pub record Done (table : List ℕ) (X : List ℕ → List ℕ) (rest b : List ℕ) (p : ℕ) (b′ : List ℕ) (s : Advance) : Type 0 where
   pub after : drop (s .next) table ≡ rest
   pub wrote : Wrote X b p b′ (s .pos)
 
 -- the tree at a place of the table was printed
-pub record Prints (P : Part) (table : List ℕ) (at : ℕ) (b : List ℕ) (p : ℕ) (b′ : List ℕ) (s : Step) : Type 0 where
+pub record Prints (P : Part) (table : List ℕ) (at : ℕ) (b : List ℕ) (p : ℕ) (b′ : List ℕ) (s : Advance) : Type 0 where
   pub forward : at ≤ s .next
   pub prints : (t : P .Tree) (rest : List ℕ) → P .given t rest → drop at table ≡ P .words t rest → Done table (P .print t) rest b p b′ s
 

@@ -1,4 +1,4 @@
--- What a print answers, by document 01's cases: the refusals 6, 7 and 8, and the print of the table's tree.
+-- What a print answers, by cases: the refusals 6, 7 and 8 (REFERENCE, "The refusals"), and the print of the table's tree.
 use Prim.Native.Nat.{ℕ, _≤_}
 use native.Mathlib.Omega.{arith}
 use mathlib.Core.Path.{_≡_, refl, sym, ap, _∙_, subst}
@@ -10,22 +10,22 @@ use lib.ListN.{length, drop}
 use lib.Dec.{leb}
 use borrow.Author.Tests.{leb-true, le-leb}
 use Rattle.tree.specs.Clash.{impossible}
-use Rattle.grammar.specs.Laws.Looks.{pick-cases, both-true}
+use Rattle.grammar.specs.Proofs.Laws.Looks.{pick-cases, both-true}
 use Rattle.tree.specs.Limits.{mostText}
-use Rattle.tree.specs.Check.{Refusal, refusal as checkRefusal}
+use Rattle.tree.specs.Check.{Refusal, refusal as checkRefusal, oversized, misfitting}
 use Rattle.tree.specs.declared.Checked.{Checked}
 use Rattle.tree.specs.declared.Checked.the-variants.{Tree, Misfit, TooLong}
 use Rattle.printing.specs.declared.Printed.{Printed}
 use Rattle.printing.specs.declared.Printed.the-variants.{Written, Refused}
-use Rattle.printing.specs.Entries.{mostPrint, mostIndent, written, refusal, outcomeOf, stored, Printable, printTable, Answered, Within, Fits}
+use Rattle.printing.specs.Entries.{mostPrint, mostIndent, written, refusal, outcomeOf, stored, Printable, printTable, Answered, Within, Fits, printTooLong}
 use Rattle.printing.specs.EntryLaws.{Lawful, prints, refuses}
 
--- one of the four cases of document 01 holds of the answer r and of the output afterwards
+-- one of the four cases holds of the answer r and of the output afterwards
 pub data Answer (P : Printable) (text words out : List ℕ) (r : Printed) (out′ : List ℕ) : Type 0 where
-  over : (Within P text words → ⊥) → r ≡ Refused 6 0 → out′ ≡ out → Answer P text words out r out′
-  misfit : Within P text words → (place : ℕ) → P .refused words ≡ some (record { number = 7; place = place }) → r ≡ Refused 7 place → out′ ≡ out
+  over : (Within P text words → ⊥) → r ≡ Refused oversized 0 → out′ ≡ out → Answer P text words out r out′
+  misfit : Within P text words → (place : ℕ) → P .refused words ≡ some (record { number = misfitting; place = place }) → r ≡ Refused misfitting place → out′ ≡ out
       → Answer P text words out r out′
-  long : Within P text words → (t : P .Tree) → P .words t ≡ words → (Fits (P .print t) out → ⊥) → r ≡ Refused 8 0 → out′ ≡ out
+  long : Within P text words → (t : P .Tree) → P .words t ≡ words → (Fits (P .print t) out → ⊥) → r ≡ Refused printTooLong 0 → out′ ≡ out
       → Answer P text words out r out′
   printed : Within P text words → (t : P .Tree) → P .words t ≡ words → Fits (P .print t) out
       → r ≡ Written (length (P .print t)) → out′ ≡ P .print t ++ drop (length (P .print t)) out
@@ -86,9 +86,9 @@ module _ (P : Printable) (L : Lawful P) (text words out : List ℕ) (r : Printed
       (c .0) (c .1))
 
 -- a refusal has one place
-same-place : {q : Option Refusal} {p p′ : ℕ} → q ≡ some (record { number = 7; place = p }) → q ≡ some (record { number = 7; place = p′ }) → p ≡ p′
+same-place : {q : Option Refusal} {p p′ : ℕ} → q ≡ some (record { number = misfitting; place = p }) → q ≡ some (record { number = misfitting; place = p′ }) → p ≡ p′
 same-place {p = p} {p′ = p′} e f =
-    let h : _≡_ {A = Refusal} (record { number = 7; place = p }) (record { number = 7; place = p′ }) = cc in ap (λ (r : Refusal). r .place) h
+    let h : _≡_ {A = Refusal} (record { number = misfitting; place = p }) (record { number = misfitting; place = p′ }) = cc in ap (λ (r : Refusal). r .place) h
 
 -- two refusals have one number, and no refusal is a print
 one-number : {r : Printed} {m n p q : ℕ} → r ≡ Refused m p → r ≡ Refused n q → m ≡ n
@@ -111,7 +111,7 @@ module _ (P : Printable) (L : Lawful P) (text words out : List ℕ) (r : Printed
   answer = cases P L text words out r out′ a
 
   -- a table that holds a tree is no misfit
-  held : (t : T) → P .words t ≡ words → Within P text words → {place : ℕ} → P .refused words ≡ some (record { number = 7; place = place }) → ⊥
+  held : (t : T) → P .words t ≡ words → Within P text words → {place : ℕ} → P .refused words ≡ some (record { number = misfitting; place = place }) → ⊥
   held t h w m = let e = P .unrefused words .1 (w .words-fit, (t, h)) in impossible cc
 
   -- a print of one tree with the table's words fits where that of another does
@@ -141,7 +141,7 @@ module _ (P : Printable) (L : Lawful P) (text words out : List ℕ) (r : Printed
       ]
 
   -- refusal 6 exactly past the limits
-  pub refused-6 : (r ≡ Refused 6 0) ↔ (Within P text words → ⊥)
+  pub refused-6 : (r ≡ Refused oversized 0) ↔ (Within P text words → ⊥)
   refused-6 = (
     λ e w. elim answer [
       | over n f k ↦ n w
@@ -154,7 +154,7 @@ module _ (P : Printable) (L : Lawful P) (text words out : List ℕ) (r : Printed
 
   -- refusal 7 exactly where the check refuses by 7, at its place
   pub refused-7-place : (place : ℕ)
-      → (r ≡ Refused 7 place) ↔ (Within P text words × (P .refused words ≡ some (record { number = 7; place = place })))
+      → (r ≡ Refused misfitting place) ↔ (Within P text words × (P .refused words ≡ some (record { number = misfitting; place = place })))
   refused-7-place place = (
     λ e. elim answer [
       | over n f k ↦ let z : _≡_ {A = ℕ} 7 6 = one-number e f in absurd (omega arith)
@@ -164,14 +164,14 @@ module _ (P : Printable) (L : Lawful P) (text words out : List ℕ) (r : Printed
     ],
     λ h. elim answer [
       | over n f k ↦ absurd (n (h .0))
-      | misfit v at m f k ↦ f ∙ ap (Refused 7) (same-place m (h .1))
+      | misfit v at m f k ↦ f ∙ ap (Refused misfitting) (same-place m (h .1))
       | long v u i n f k ↦ absurd (held u i v (h .1))
       | printed v u i g f k ↦ absurd (held u i v (h .1))
     ],
   )
 
   -- and exactly where the table holds no tree
-  pub refused-7 : ((place : ℕ) × (r ≡ Refused 7 place)) ↔ (Within P text words × ((t : T) → P .words t ≡ words → ⊥))
+  pub refused-7 : ((place : ℕ) × (r ≡ Refused misfitting place)) ↔ (Within P text words × ((t : T) → P .words t ≡ words → ⊥))
   refused-7 = (
     λ e. let h = refused-7-place (e .0) .0 (e .1) in (h .0, λ t i. held t i (h .0) (h .1)),
     λ h. elim answer [
@@ -183,7 +183,7 @@ module _ (P : Printable) (L : Lawful P) (text words out : List ℕ) (r : Printed
   )
 
   -- refusal 8 exactly where the print does not fit
-  pub refused-8 : (r ≡ Refused 8 0) ↔ (Within P text words × ((t : T) × ((P .words t ≡ words) × (Fits (print t) out → ⊥))))
+  pub refused-8 : (r ≡ Refused printTooLong 0) ↔ (Within P text words × ((t : T) × ((P .words t ≡ words) × (Fits (print t) out → ⊥))))
   refused-8 = (
     λ e. elim answer [
       | over n f k ↦ let z : _≡_ {A = ℕ} 8 6 = one-number e f in absurd (omega arith)
@@ -200,7 +200,7 @@ module _ (P : Printable) (L : Lawful P) (text words out : List ℕ) (r : Printed
   )
 
   -- no other refusal, and the output stays
-  pub refusal-keeps : (number place : ℕ) → r ≡ Refused number place → ((r ≡ Refused 6 0) ⊎ (r ≡ Refused 7 place) ⊎ (r ≡ Refused 8 0)) × (out′ ≡ out)
+  pub refusal-keeps : (number place : ℕ) → r ≡ Refused number place → ((r ≡ Refused oversized 0) ⊎ (r ≡ Refused misfitting place) ⊎ (r ≡ Refused printTooLong 0)) × (out′ ≡ out)
   refusal-keeps number place e =
       elim answer [
         | over n f k ↦ (inl f, k)

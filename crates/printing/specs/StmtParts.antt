@@ -7,7 +7,7 @@ use mathlib.Core.List.{List, [], _∷_}
 use lib.ListN.{length, drop, getD}
 use lib.Dec.{eqb}
 use Rattle.lexing.specs.Answer.{pick}
-use Rattle.grammar.specs.Words.{bytes}
+use Rattle.lexing.specs.Bytes.{bytes}
 use Rattle.tree.specs.Ast.{Expr, CallArgument, FParameter, PParameter, Variable, Stmt, VarDecl, Block, AForall, Choose, If, IfCase, Loop, LabeledStmt, Stmts, Cases, AExpr, AExprs}
 use Rattle.tree.specs.Words.{nameWords, optionWords, seqWords, exprWords, variableWords, callArgumentWords, fParameterWords, pParameterWords}
 use Rattle.tree.specs.Words.{stmtWords, stmtsWords, casesWords, aExprWords, aExprsWords}
@@ -15,12 +15,12 @@ use Rattle.tree.specs.Counted.{Noted, stmtCount, CountedOption, CountedItems, C
 use Rattle.tree.specs.Check.{NameIn}
 use Rattle.printing.specs.declared.items.Item.{Item}
 use Rattle.printing.specs.declared.items.Item.the-variants.{Name, Argument, Formal, Parameter}
-use Rattle.prints.specs.Text.{_▹_, _▸_}
-use Rattle.prints.specs.PrintUtil.{Indent}
-use Rattle.prints.specs.Printer.{IdTypeDecl}
-use Rattle.prints.specs.Statements.{Before, Shown, optional, separated, mutability, inline, OptionalAutoInvariant, argument, shown, BlockAsStatementList, StmtAsBlock}
-use Rattle.prints.specs.Statements.{StatementList, choices, caseList, aexpr, PrintAExprs}
-use Rattle.prints.specs.Program.{formal, parameter}
+use Rattle.layout.specs.Text.{_▹_, _▸_}
+use Rattle.layout.specs.PrintUtil.{Indent}
+use Rattle.layout.specs.Printer.{IdTypeDecl}
+use Rattle.layout.specs.Statements.{Before, Shown, optional, separated, mutability, inline, OptionalAutoInvariant, argument, shown, BlockAsStatementList, StmtAsBlock}
+use Rattle.layout.specs.Statements.{StatementList, choices, caseList, aexpr, PrintAExprs}
+use Rattle.layout.specs.Program.{formal, parameter}
 use Rattle.printing.specs.Entries.{nameIn}
 use Rattle.printing.specs.ExprParts.{Ready}
 use Rattle.printing.specs.Parts.{Part}

@@ -13,8 +13,8 @@ use Rattle.tree.specs.Counted.{CountedExpr, CountedProgram}
 use Rattle.printing.specs.declared.Printed.{Printed}
 use Rattle.printing.specs.declared.entry.Root.{Root}
 use Rattle.printing.specs.declared.entry.Root.the-variants.{AnExpression, AProgram}
-use Rattle.prints.specs.PrintUtil.{Init}
-use Rattle.printing.specs.Entries.{Outcome, written, refusal, outcomeOf, stored, Printable, expressions, programs}
+use Rattle.layout.specs.PrintUtil.{Init}
+use Rattle.printing.specs.Entries.{Outcome, written, refusal, outcomeOf, stored, Printable, expressions, programs, printTooLong}
 use Rattle.printing.specs.Parts.{Part}
 use Rattle.printing.specs.ExprParts.{anExpr}
 use Rattle.printing.specs.DeclParts.{aProgram}
@@ -51,4 +51,4 @@ pub record Stores (P : Printable) (words out out′ : List ℕ) (r : Printed) : 
 
 -- the first n bytes of a buffer and then the output's old bytes, or refusal 8
 unfoldable pub delivered : List ℕ → ℕ → List ℕ → Outcome
-delivered buffer n out = pick (leb n (length buffer) && leb n (length out)) (written n (take n buffer ++ drop n out)) (refusal 8 0 out)
+delivered buffer n out = pick (leb n (length buffer) && leb n (length out)) (written n (take n buffer ++ drop n out)) (refusal printTooLong 0 out)

@@ -2,7 +2,7 @@
 use crate::items::after_name;
 use crate::items::optional_expr;
 use crate::items::optional_name;
-use crate::parts::Step;
+use crate::parts::Advance;
 use crate::parts::after;
 use crate::parts::put_name;
 use crate::parts::typed;
@@ -10,16 +10,22 @@ use crate::write::put;
 use crate::write::put_either;
 use crate::write::put_indent_unless;
 use crate::write::put_unless;
-use prints::deeper;
+use layout::deeper;
 use tree::get;
+use tree::word::BLOCK;
+use tree::word::FALSE;
+use tree::word::IF;
+use tree::word::IF_CASE;
+use tree::word::LOOP;
+use tree::word::NO_MORE;
 ghost use Prim.Native.Nat.{_-_};
 ghost use mathlib.Core.Path.{_≡_};
 ghost use mathlib.Core.List.{_++_};
 ghost use lib.ListN.{getD};
 ghost use Rattle.lexing.specs.Answer.{pick};
-ghost use Rattle.grammar.specs.Words.{bytes};
-ghost use Rattle.prints.specs.PrintUtil.{Indent, deeperBy};
-ghost use Rattle.prints.specs.Text.{unless};
+ghost use Rattle.lexing.specs.Bytes.{bytes};
+ghost use Rattle.layout.specs.PrintUtil.{Indent, deeperBy};
+ghost use Rattle.layout.specs.Text.{unless};
 ghost use Rattle.printing.specs.Wrote.{Wrote};
 ghost use Rattle.printing.specs.Parts.{Prints};
 ghost use Rattle.printing.specs.StmtParts.{variableHead, forHead, Tells};
@@ -33,16 +39,16 @@ pub(crate) fn variable(
     at: usize,
     out: &mut [u8],
     pos: usize,
-) -> Step
+) -> Advance
     ensures { λ r. ⌜ Prints (variableHead (now (text .entry)) (now (words .entry)) (now (counts .entry)) step at 0) (now (words .entry)) at (now (out .entry)) pos (now (out .exit)) r ⌝ }
 {
     let third = after_name(words, at);
-    let a = put_either(out, pos, get(words, third) == 0, b"val ", b"var ");
+    let a = put_either(out, pos, get(words, third) == FALSE, b"val ", b"var ");
     let s = put_name(text, words, at, out, a);
     let t = optional_name(text, words, after(words, s.next), b": ", out, s.pos);
     let u = optional_expr(text, words, counts, step, t.next, b" autoinv ", out, t.pos);
     let v = optional_expr(text, words, counts, step, u.next, b" := ", out, u.pos);
-    Step {
+    Advance {
         next: v.next,
         pos: put(out, v.pos, b"\n"),
     }
@@ -75,12 +81,12 @@ pub(crate) fn close_own(out: &mut [u8], pos: usize, followed: bool, indent: usiz
 }
 
 // What stands before the body of a `forall`.
-pub(crate) fn for_head(text: &[u8], words: &[u32], at: usize, out: &mut [u8], pos: usize) -> Step
+pub(crate) fn for_head(text: &[u8], words: &[u32], at: usize, out: &mut [u8], pos: usize) -> Advance
     ensures { λ r. ⌜ Prints (forHead (now (text .entry))) (now (words .entry)) at (now (out .entry)) pos (now (out .exit)) r ⌝ }
 {
     let a = put(out, pos, b"forall ");
     let s = typed(text, words, at, out, a);
-    Step {
+    Advance {
         next: s.next,
         pos: put(out, s.pos, b" "),
     }
@@ -99,8 +105,8 @@ pub(crate) fn no_cases(out: &mut [u8], pos: usize, skip: bool, indent: usize) ->
 pub(crate) fn is_empty_block(words: &[u32], at: usize) -> bool
     ensures { λ r. ⌜ Tells (now (words .entry)) at (λ s. s .isEmptyBlock) r ⌝ }
 {
-    if get(words, at) == 24 {
-        return get(words, after(words, at)) == 0;
+    if get(words, at) == BLOCK {
+        return get(words, after(words, at)) == NO_MORE;
     }
     false
 }
@@ -109,16 +115,16 @@ pub(crate) fn is_empty_block(words: &[u32], at: usize) -> bool
 pub(crate) fn is_conditional(words: &[u32], at: usize) -> bool
     ensures { λ r. ⌜ Tells (now (words .entry)) at (λ s. s .isIf) r ⌝ }
 {
-    if get(words, at) == 32 {
+    if get(words, at) == IF {
         return true;
     }
-    get(words, at) == 33
+    get(words, at) == IF_CASE
 }
 
 pub(crate) fn is_loop(words: &[u32], at: usize) -> bool
     ensures { λ r. ⌜ Tells (now (words .entry)) at (λ s. s .isLoop) r ⌝ }
 {
-    get(words, at) == 34
+    get(words, at) == LOOP
 }
 
 // How many items the sequence has that begins at a place.

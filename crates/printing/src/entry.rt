@@ -1,16 +1,18 @@
-// Print expression and print program (document 01, "The entries"): refusals 6 to 8, and the print before the output's old bytes, once for
+// Print expression and print program (REFERENCE, "The entries"): refusals 6 to 8, and the print before the output's old bytes, once for
 // whatever tree a table holds.
 use crate::Printed;
 use crate::expression::expr;
-use crate::parts::Step;
+use crate::parts::Advance;
 use crate::program::program;
 use crate::write::store;
-use prints::BindingPower;
-use prints::ExprFormatOption;
-use prints::INDENT_AMOUNT;
+use layout::BindingPower;
+use layout::ExprFormatOption;
+use layout::INDENT_AMOUNT;
 use tree::Checked;
+use tree::MISFITTING;
 use tree::MOST_TEXT;
 use tree::MOST_WORDS;
+use tree::OVERSIZED;
 use tree::count_expression;
 use tree::count_program;
 ghost use Prim.Native.Nat.{_≤_, min};
@@ -18,12 +20,18 @@ ghost use mathlib.Core.Path.{_≡_};
 ghost use lib.ListN.{length};
 ghost use Rattle.tree.specs.Limits.{mostText, mostWords};
 ghost use Rattle.tree.specs.Check.{refusal};
-ghost use Rattle.prints.specs.declared.format.ExprFormatOption.the-variants.{SingleLine, MultipleLines};
+ghost use Rattle.layout.specs.declared.format.ExprFormatOption.the-variants.{SingleLine, MultipleLines};
 ghost use Rattle.printing.specs.Entries.{mostPrint, mostIndent, outcomeOf, Answered, PrintAnswered, ProgramAnswered};
 ghost use Rattle.printing.specs.Parts.{Prints};
 ghost use Rattle.printing.specs.Stores.{rooted, rootCounts, rootPart, Numbered, Stores, delivered};
 
 const MOST_INDENT: usize = 255;
+
+// The number of a print's refusal: it is longer than the output, or than a print may be.
+const PRINT_TOO_LONG: u64 = 8;
+
+// The most bytes of a print.
+const MOST_PRINT: usize = 65536;
 
 // The tree that a table is to hold.
 pub enum Root {
@@ -49,7 +57,7 @@ pub fn print_expression_lines(text: &[u8], words: &[u32], indent: usize, out: &m
     ensures { λ r. ⌜ PrintAnswered (now (text .entry)) (now (words .entry)) (MultipleLines indent) (now (out .entry)) r (now (out .exit)) ⌝ }
 {
     if MOST_INDENT < indent {
-        return Printed::Refused(6, 0);
+        return Printed::Refused(OVERSIZED, 0);
     }
     print(
         text,
@@ -72,7 +80,7 @@ fn print(text: &[u8], words: &[u32], root: Root, out: &mut [u8]) -> Printed
     ensures { λ r. ⌜ Answered (rooted 2 (now (text .entry)) root) (now (text .entry)) (now (words .entry)) (now (out .entry)) r (now (out .exit)) ⌝ }
 {
     if MOST_TEXT < text.len() {
-        return Printed::Refused(6, 0);
+        return Printed::Refused(OVERSIZED, 0);
     }
     if words.len() <= 256 {
         let mut counts = [0u16; 256];
@@ -96,8 +104,8 @@ fn print_counted(
     let found = count_root(text, words, counts, root);
     match found {
         Checked::Tree => print_by(text, words, counts, root, out),
-        Checked::Misfit(place) => Printed::Refused(7, place),
-        Checked::TooLong => Printed::Refused(6, 0),
+        Checked::Misfit(place) => Printed::Refused(MISFITTING, place),
+        Checked::TooLong => Printed::Refused(OVERSIZED, 0),
     }
 }
 
@@ -120,7 +128,7 @@ fn print_by(text: &[u8], words: &[u32], counts: &[u16], root: Root, out: &mut [u
         let mut buffer = [0u8; 1024];
         return print_through(text, words, counts, root, &mut buffer, out);
     }
-    let mut buffer = [0u8; 65536];
+    let mut buffer = [0u8; MOST_PRINT];
     print_through(text, words, counts, root, &mut buffer, out)
 }
 
@@ -141,7 +149,7 @@ fn print_through(
 }
 
 // The print of a table's tree from a buffer's first byte on, by its root.
-fn print_root(text: &[u8], words: &[u32], counts: &[u16], root: Root, buffer: &mut [u8]) -> Step
+fn print_root(text: &[u8], words: &[u32], counts: &[u16], root: Root, buffer: &mut [u8]) -> Advance
     ensures { λ r. ⌜ Prints (rootPart (now (text .entry)) (now (words .entry)) (now (counts .entry)) 2 root) (now (words .entry)) 0 (now (buffer .entry)) 0 (now (buffer .exit)) r ⌝ }
 {
     match root {
@@ -167,10 +175,10 @@ fn deliver(buffer: &[u8], n: usize, out: &mut [u8]) -> Printed
     ensures { λ r. ⌜ outcomeOf r (now (out .exit)) ≡ delivered (now (buffer .entry)) n (now (out .entry)) ⌝ }
 {
     if buffer.len() < n {
-        return Printed::Refused(8, 0);
+        return Printed::Refused(PRINT_TOO_LONG, 0);
     }
     if out.len() < n {
-        return Printed::Refused(8, 0);
+        return Printed::Refused(PRINT_TOO_LONG, 0);
     }
     store(out, 0, &buffer[..n]);
     Printed::Written(n)

@@ -15,7 +15,7 @@ use crate::forms::operator_form;
 use crate::forms::put_sign;
 use crate::operator::binding_strength;
 use crate::operator::put_operator;
-use crate::parts::Step;
+use crate::parts::Advance;
 use crate::parts::after;
 use crate::parts::call_head;
 use crate::parts::closure_result;
@@ -27,10 +27,16 @@ use crate::write::endless_parenthesis;
 use crate::write::parenthesis;
 use crate::write::put;
 use crate::write::space;
-use prints::BindingPower;
-use prints::ExprFormatOption;
-use prints::Side;
+use layout::BindingPower;
+use layout::ExprFormatOption;
+use layout::Side;
 use tree::get;
+use tree::word::CLOSURE_EXPR;
+use tree::word::FUNCTION_CALL_EXPR;
+use tree::word::LABELED_EXPR;
+use tree::word::LET_EXPR;
+use tree::word::OPERATOR_EXPR;
+use tree::word::QUANTIFIER_EXPR;
 ghost use Prim.Native.Nat.{_<_};
 ghost use lib.ListN.{length};
 ghost use Rattle.printing.specs.Parts.{Prints};
@@ -47,16 +53,16 @@ pub(crate) fn expr(
     format: ExprFormatOption,
     out: &mut [u8],
     pos: usize,
-) -> Step
+) -> Advance
     ensures { λ r. ⌜ Prints (anExpr (now (text .entry)) (now (words .entry)) (now (counts .entry)) step at context format) (now (words .entry)) at (now (out .entry)) pos (now (out .exit)) r ⌝ }
 {
     match get(words, at) {
-        5 => oper(text, words, counts, step, at, context, format, out, pos),
-        6 => call(text, words, counts, step, at, out, pos),
-        7 => label(text, words, counts, step, at, context, format, out, pos),
-        8 => let_expr(text, words, counts, step, at, context, format, out, pos),
-        9 => quant(text, words, counts, step, at, context, format, out, pos),
-        10 => lift(text, words, counts, step, at, out, pos),
+        OPERATOR_EXPR => oper(text, words, counts, step, at, context, format, out, pos),
+        FUNCTION_CALL_EXPR => call(text, words, counts, step, at, out, pos),
+        LABELED_EXPR => label(text, words, counts, step, at, context, format, out, pos),
+        LET_EXPR => let_expr(text, words, counts, step, at, context, format, out, pos),
+        QUANTIFIER_EXPR => quant(text, words, counts, step, at, context, format, out, pos),
+        CLOSURE_EXPR => lift(text, words, counts, step, at, out, pos),
         _ => leaf(text, words, at, out, pos),
     }
 }
@@ -72,14 +78,14 @@ fn oper(
     format: ExprFormatOption,
     out: &mut [u8],
     pos: usize,
-) -> Step
+) -> Advance
     requires { ⌜ at < length (now words) ⌝ }
     ensures { λ r. ⌜ Prints (anOperatorExpr (now (text .entry)) (now (words .entry)) (now (counts .entry)) step at context format) (now (words .entry)) at (now (out .entry)) pos (now (out .exit)) r ⌝ }
 {
     let strength = binding_strength(get(words, at + 1));
     let a = parenthesis(strength, Side::Left, context, out, pos);
     let s = form(text, words, counts, step, at, context, format, out, a);
-    Step {
+    Advance {
         next: s.next,
         pos: parenthesis(strength, Side::Right, context, out, s.pos),
     }
@@ -96,7 +102,7 @@ fn form(
     format: ExprFormatOption,
     out: &mut [u8],
     pos: usize,
-) -> Step
+) -> Advance
     requires { ⌜ at < length (now words) ⌝ }
     ensures { λ r. ⌜ Prints (aForm (now (text .entry)) (now (words .entry)) (now (counts .entry)) step at context format) (now (words .entry)) at (now (out .entry)) pos (now (out .exit)) r ⌝ }
 {
@@ -117,7 +123,7 @@ fn unary(
     context: BindingPower,
     out: &mut [u8],
     pos: usize,
-) -> Step
+) -> Advance
     requires { ⌜ at < length (now words) ⌝ }
     ensures { λ r. ⌜ Prints (aUnary (now (text .entry)) (now (words .entry)) (now (counts .entry)) step at context) (now (words .entry)) at (now (out .entry)) pos (now (out .exit)) r ⌝ }
 {
@@ -135,7 +141,7 @@ fn unary(
         out,
         a,
     );
-    Step {
+    Advance {
         next: after(words, s.next),
         pos: s.pos,
     }
@@ -151,7 +157,7 @@ fn binary(
     format: ExprFormatOption,
     out: &mut [u8],
     pos: usize,
-) -> Step
+) -> Advance
     requires { ⌜ at < length (now words) ⌝ }
     ensures { λ r. ⌜ Prints (aBinary (now (text .entry)) (now (words .entry)) (now (counts .entry)) step at context format) (now (words .entry)) at (now (out .entry)) pos (now (out .exit)) r ⌝ }
 {
@@ -173,7 +179,7 @@ fn binary(
     let right = operand_power(words, op, Side::Right, context);
     let second = after(words, s.next);
     let t = expr(text, words, counts, step, second, right, broken, out, a);
-    Step {
+    Advance {
         next: after(words, t.next),
         pos: t.pos,
     }
@@ -190,7 +196,7 @@ fn cond(
     format: ExprFormatOption,
     out: &mut [u8],
     pos: usize,
-) -> Step
+) -> Advance
     requires { ⌜ at < length (now words) ⌝ }
     ensures { λ r. ⌜ Prints (aConditional (now (text .entry)) (now (words .entry)) (now (counts .entry)) step at context format) (now (words .entry)) at (now (out .entry)) pos (now (out .exit)) r ⌝ }
 {
@@ -234,7 +240,7 @@ fn cond(
         out,
         c,
     );
-    Step {
+    Advance {
         next: after(words, u.next),
         pos: u.pos,
     }
@@ -249,13 +255,13 @@ fn listed(
     at: usize,
     out: &mut [u8],
     pos: usize,
-) -> Step
+) -> Advance
     requires { ⌜ at < length (now words) ⌝ }
     ensures { λ r. ⌜ Prints (aListed (now (text .entry)) (now (words .entry)) (now (counts .entry)) step at) (now (words .entry)) at (now (out .entry)) pos (now (out .exit)) r ⌝ }
 {
     let a = listed_head(words, at + 1, out, pos);
     let s = exprs(text, words, counts, step, at + 2, true, out, a);
-    Step {
+    Advance {
         next: s.next,
         pos: put(out, s.pos, b")"),
     }
@@ -270,13 +276,13 @@ fn call(
     at: usize,
     out: &mut [u8],
     pos: usize,
-) -> Step
+) -> Advance
     requires { ⌜ at < length (now words) ⌝ }
     ensures { λ r. ⌜ Prints (aCall (now (text .entry)) (now (words .entry)) (now (counts .entry)) step at) (now (words .entry)) at (now (out .entry)) pos (now (out .exit)) r ⌝ }
 {
     let s = call_head(text, words, at + 1, out, pos);
     let t = exprs(text, words, counts, step, s.next, true, out, s.pos);
-    Step {
+    Advance {
         next: t.next,
         pos: put(out, t.pos, b")"),
     }
@@ -293,14 +299,14 @@ fn label(
     format: ExprFormatOption,
     out: &mut [u8],
     pos: usize,
-) -> Step
+) -> Advance
     requires { ⌜ at < length (now words) ⌝ }
     ensures { λ r. ⌜ Prints (aLabel (now (text .entry)) (now (words .entry)) (now (counts .entry)) step at context format) (now (words .entry)) at (now (out .entry)) pos (now (out .exit)) r ⌝ }
 {
     let s = label_head(text, words, at + 1, context, out, pos);
     let right = BindingPower::ENDLESS_OPERATOR.subexpression_power(Side::Right, context);
     let t = expr(text, words, counts, step, s.next, right, format, out, s.pos);
-    Step {
+    Advance {
         next: t.next,
         pos: endless_parenthesis(Side::Right, context, out, t.pos),
     }
@@ -317,7 +323,7 @@ fn let_expr(
     format: ExprFormatOption,
     out: &mut [u8],
     pos: usize,
-) -> Step
+) -> Advance
     requires { ⌜ at < length (now words) ⌝ }
     ensures { λ r. ⌜ Prints (aLet (now (text .entry)) (now (words .entry)) (now (counts .entry)) step at context format) (now (words .entry)) at (now (out .entry)) pos (now (out .exit)) r ⌝ }
 {
@@ -336,7 +342,7 @@ fn let_expr(
     let a = space(format, out, t.pos);
     let right = BindingPower::ENDLESS_OPERATOR.subexpression_power(Side::Right, context);
     let u = expr(text, words, counts, step, t.next, right, format, out, a);
-    Step {
+    Advance {
         next: u.next,
         pos: endless_parenthesis(Side::Right, context, out, u.pos),
     }
@@ -353,7 +359,7 @@ fn quant(
     format: ExprFormatOption,
     out: &mut [u8],
     pos: usize,
-) -> Step
+) -> Advance
     requires { ⌜ at < length (now words) ⌝ }
     ensures { λ r. ⌜ Prints (aQuantifier (now (text .entry)) (now (words .entry)) (now (counts .entry)) step at context format) (now (words .entry)) at (now (out .entry)) pos (now (out .exit)) r ⌝ }
 {
@@ -363,7 +369,7 @@ fn quant(
     let a = space(ind, out, t.pos);
     let right = BindingPower::ENDLESS_OPERATOR.subexpression_power(Side::Right, context);
     let u = expr(text, words, counts, step, t.next, right, ind, out, a);
-    Step {
+    Advance {
         next: u.next,
         pos: endless_parenthesis(Side::Right, context, out, u.pos),
     }
@@ -378,7 +384,7 @@ fn lift(
     at: usize,
     out: &mut [u8],
     pos: usize,
-) -> Step
+) -> Advance
     requires { ⌜ at < length (now words) ⌝ }
     ensures { λ r. ⌜ Prints (aClosure (now (text .entry)) (now (words .entry)) (now (counts .entry)) step at) (now (words .entry)) at (now (out .entry)) pos (now (out .exit)) r ⌝ }
 {
@@ -386,7 +392,7 @@ fn lift(
     let s = closures(text, words, counts, step, at + 1, true, out, a);
     let t = closure_result(text, words, s.next, out, s.pos);
     let u = properties(text, words, counts, step, t.next, true, out, t.pos);
-    Step {
+    Advance {
         next: u.next,
         pos: put(out, u.pos, b" }"),
     }

@@ -1,14 +1,18 @@
 // Optional parts, and lists of names, arguments and parameters. Each function prints the words at a place, and answers the place after
 // them and the place in the output.
 use crate::expression::expr;
-use crate::parts::Step;
+use crate::parts::Advance;
 use crate::parts::after;
 use crate::parts::put_name;
 use crate::write::put;
 use crate::write::put_unless;
-use prints::BindingPower;
-use prints::ExprFormatOption;
+use layout::BindingPower;
+use layout::ExprFormatOption;
 use tree::get;
+use tree::word::FALSE;
+use tree::word::IN_OUT;
+use tree::word::NO_MORE;
+use tree::word::OUT;
 ghost use mathlib.Core.List.{_++_};
 ghost use lib.ListN.{getD};
 ghost use Rattle.printing.specs.declared.items.Item.the-variants.{Argument, Parameter};
@@ -25,7 +29,7 @@ pub(crate) fn inline(
     at: usize,
     out: &mut [u8],
     pos: usize,
-) -> Step
+) -> Advance
     ensures { λ r. ⌜ Prints (oneLine (now (text .entry)) (now (words .entry)) (now (counts .entry)) step at 0) (now (words .entry)) at (now (out .entry)) pos (now (out .exit)) r ⌝ }
 {
     expr(
@@ -49,12 +53,12 @@ pub(crate) fn optional_name(
     prefix: &[u8],
     out: &mut [u8],
     pos: usize,
-) -> Step
+) -> Advance
     ensures { λ r. ⌜ Prints (optionalName (now (text .entry)) (now (prefix .entry))) (now (words .entry)) at (now (out .entry)) pos (now (out .exit)) r ⌝ }
 {
     let inside = after(words, at);
-    if get(words, at) == 0 {
-        return Step { next: inside, pos };
+    if get(words, at) == NO_MORE {
+        return Advance { next: inside, pos };
     }
     let a = put(out, pos, prefix);
     put_name(text, words, inside, out, a)
@@ -70,12 +74,12 @@ pub(crate) fn optional_expr(
     prefix: &[u8],
     out: &mut [u8],
     pos: usize,
-) -> Step
+) -> Advance
     ensures { λ r. ⌜ Prints (optionalExpr (now (text .entry)) (now (words .entry)) (now (counts .entry)) step at 0 (now (prefix .entry))) (now (words .entry)) at (now (out .entry)) pos (now (out .exit)) r ⌝ }
 {
     let inside = after(words, at);
-    if get(words, at) == 0 {
-        return Step { next: inside, pos };
+    if get(words, at) == NO_MORE {
+        return Advance { next: inside, pos };
     }
     let a = put(out, pos, prefix);
     inline(text, words, counts, step, inside, out, a)
@@ -86,8 +90,8 @@ pub(crate) fn put_mode(words: &[u32], at: usize, out: &mut [u8], pos: usize) -> 
     ensures { λ r. ⌜ Wrote (λ rest. modeBytes (getD (now (words .entry)) at 0) ++ rest) (now (out .entry)) pos (now (out .exit)) r ⌝ }
 {
     match get(words, at) {
-        2 => put(out, pos, b"inout "),
-        3 => put(out, pos, b"out "),
+        IN_OUT => put(out, pos, b"inout "),
+        OUT => put(out, pos, b"out "),
         _ => pos,
     }
 }
@@ -100,11 +104,11 @@ pub(crate) fn name_head(
     suffix: &[u8],
     out: &mut [u8],
     pos: usize,
-) -> Step
+) -> Advance
     ensures { λ r. ⌜ Prints (nameHead (now (text .entry)) (now (suffix .entry))) (now (words .entry)) at (now (out .entry)) pos (now (out .exit)) r ⌝ }
 {
     let s = put_name(text, words, at, out, pos);
-    Step {
+    Advance {
         next: s.next,
         pos: put(out, s.pos, suffix),
     }
@@ -131,12 +135,12 @@ pub(crate) fn separated(
     first: &[u8],
     out: &mut [u8],
     pos: usize,
-) -> Step
+) -> Advance
     ensures { λ r. ⌜ Prints (itemList (now (text .entry)) (now (words .entry)) (now (counts .entry)) step at 0 kind (now (first .entry))) (now (words .entry)) at (now (out .entry)) pos (now (out .exit)) r ⌝ }
 {
     let inside = after(words, at);
-    if get(words, at) == 0 {
-        return Step { next: inside, pos };
+    if get(words, at) == NO_MORE {
+        return Advance { next: inside, pos };
     }
     let a = put(out, pos, first);
     let s = one(text, words, counts, step, kind, inside, out, a);
@@ -152,7 +156,7 @@ fn one(
     at: usize,
     out: &mut [u8],
     pos: usize,
-) -> Step
+) -> Advance
     ensures { λ r. ⌜ Prints (anItem (now (text .entry)) (now (words .entry)) (now (counts .entry)) step at 0 kind) (now (words .entry)) at (now (out .entry)) pos (now (out .exit)) r ⌝ }
 {
     match kind {
@@ -171,7 +175,7 @@ fn argument(
     at: usize,
     out: &mut [u8],
     pos: usize,
-) -> Step
+) -> Advance
     ensures { λ r. ⌜ Prints (anItem (now (text .entry)) (now (words .entry)) (now (counts .entry)) step at 0 Argument) (now (words .entry)) at (now (out .entry)) pos (now (out .exit)) r ⌝ }
 {
     let a = put_mode(words, at, out, pos);
@@ -179,7 +183,7 @@ fn argument(
 }
 
 // A name and its type, with one word between them.
-fn typed_apart(text: &[u8], words: &[u32], at: usize, out: &mut [u8], pos: usize) -> Step
+fn typed_apart(text: &[u8], words: &[u32], at: usize, out: &mut [u8], pos: usize) -> Advance
     ensures { λ r. ⌜ Prints (typedApart (now (text .entry))) (now (words .entry)) at (now (out .entry)) pos (now (out .exit)) r ⌝ }
 {
     let s = name_head(text, words, at, b": ", out, pos);
@@ -194,11 +198,11 @@ pub(crate) fn after_name(words: &[u32], at: usize) -> usize
     after(words, second)
 }
 
-fn formal(text: &[u8], words: &[u32], at: usize, out: &mut [u8], pos: usize) -> Step
+fn formal(text: &[u8], words: &[u32], at: usize, out: &mut [u8], pos: usize) -> Advance
     ensures { λ r. ⌜ Prints (formalPart (now (text .entry))) (now (words .entry)) at (now (out .entry)) pos (now (out .exit)) r ⌝ }
 {
     let third = after_name(words, at);
-    let a = put_unless(out, pos, get(words, third) == 0, b"injective ");
+    let a = put_unless(out, pos, get(words, third) == FALSE, b"injective ");
     typed_apart(text, words, at, out, a)
 }
 
@@ -210,7 +214,7 @@ fn parameter(
     at: usize,
     out: &mut [u8],
     pos: usize,
-) -> Step
+) -> Advance
     ensures { λ r. ⌜ Prints (anItem (now (text .entry)) (now (words .entry)) (now (counts .entry)) step at 0 Parameter) (now (words .entry)) at (now (out .entry)) pos (now (out .exit)) r ⌝ }
 {
     let third = after_name(words, at);

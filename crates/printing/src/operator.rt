@@ -1,18 +1,18 @@
 // The operators of RawAst.dfy, by their words 1 to 16.
 use crate::write::put;
-use prints::BindingPower;
-use prints::TieBreaker;
+use layout::BindingPower;
+use layout::TieBreaker;
 use tree::get;
 use tree::name;
 ghost use Rattle.tree.specs.Ast.{ArgumentCount};
 ghost use mathlib.Core.Path.{_≡_};
 ghost use mathlib.Core.List.{_++_};
 ghost use Prim.Native.Nat.{_<_, _≤_};
-ghost use Rattle.grammar.specs.Words.{bytes as text};
+ghost use Rattle.lexing.specs.Bytes.{bytes as text};
 ghost use Rattle.printing.specs.Wrote.{Wrote};
 ghost use Rattle.printing.specs.OperatorWords.{operatorOf};
-ghost use Rattle.prints.specs.PrintUtil.{ToString, BindingStrength};
-ghost use Rattle.prints.specs.Printer.{breaksLine};
+ghost use Rattle.layout.specs.PrintUtil.{ToString, BindingStrength};
+ghost use Rattle.layout.specs.Printer.{breaksLine};
 
 pub(crate) fn argument_count(op: u32) -> usize
     ensures { λ r. ⌜ r ≡ ArgumentCount (operatorOf op) ⌝ }

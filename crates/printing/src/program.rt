@@ -6,7 +6,7 @@ use crate::items::inline;
 use crate::items::name_head;
 use crate::items::optional_name;
 use crate::items::separated;
-use crate::parts::Step;
+use crate::parts::Advance;
 use crate::parts::after;
 use crate::parts::call_head;
 use crate::parts::put_name;
@@ -14,14 +14,15 @@ use crate::statement::block;
 use crate::statement::list::aexprs;
 use crate::write::put;
 use crate::write::put_indent;
-use prints::BindingPower;
-use prints::ExprFormatOption;
+use layout::BindingPower;
+use layout::ExprFormatOption;
 use tree::get;
+use tree::word::NO_MORE;
 ghost use Rattle.printing.specs.Parts.{Prints};
-ghost use Rattle.printing.specs.declared.program.Decl.the-variants.{Functions, Axioms, Procedures};
+ghost use Rattle.printing.specs.declared.program.DeclKind.the-variants.{Functions, Axioms, Procedures};
 ghost use Rattle.printing.specs.DeclParts.{aProgram, declList, aDecl, aTypeDecl, aTaggerDecl, broken, whenList, optionalDefinition, optionalBody};
 
-pub enum Decl {
+pub enum DeclKind {
     Types,
     Taggers,
     Functions,
@@ -37,29 +38,47 @@ pub(crate) fn program(
     step: usize,
     out: &mut [u8],
     pos: usize,
-) -> Step
+) -> Advance
     ensures { λ r. ⌜ Prints (aProgram (now (text .entry)) (now (words .entry)) (now (counts .entry)) step) (now (words .entry)) 0 (now (out .entry)) pos (now (out .exit)) r ⌝ }
 {
     let a = put(out, pos, b"// B3 program\n");
-    let s = decls(text, words, counts, step, Decl::Types, 0, out, a);
-    let t = decls(text, words, counts, step, Decl::Taggers, s.next, out, s.pos);
+    let s = decls(text, words, counts, step, DeclKind::Types, 0, out, a);
+    let t = decls(
+        text,
+        words,
+        counts,
+        step,
+        DeclKind::Taggers,
+        s.next,
+        out,
+        s.pos,
+    );
     let u = decls(
         text,
         words,
         counts,
         step,
-        Decl::Functions,
+        DeclKind::Functions,
         t.next,
         out,
         t.pos,
     );
-    let v = decls(text, words, counts, step, Decl::Axioms, u.next, out, u.pos);
+    let v = decls(
+        text,
+        words,
+        counts,
+        step,
+        DeclKind::Axioms,
+        u.next,
+        out,
+        u.pos,
+    );
     decls(
         text,
         words,
         counts,
         step,
-        Decl::Procedures,
+        DeclKind::Procedures,
         v.next,
         out,
         v.pos,
@@ -72,16 +91,16 @@ fn decls(
     words: &[u32],
     counts: &[u16],
     step: usize,
-    kind: Decl,
+    kind: DeclKind,
     at: usize,
     out: &mut [u8],
     pos: usize,
-) -> Step
+) -> Advance
     ensures { λ r. ⌜ Prints (declList (now (text .entry)) (now (words .entry)) (now (counts .entry)) step at kind) (now (words .entry)) at (now (out .entry)) pos (now (out .exit)) r ⌝ }
 {
     let inside = after(words, at);
-    if get(words, at) == 0 {
-        return Step { next: inside, pos };
+    if get(words, at) == NO_MORE {
+        return Advance { next: inside, pos };
     }
     let a = put(out, pos, b"\n");
     let s = declaration(text, words, counts, step, kind, inside, out, a);
@@ -93,24 +112,24 @@ fn declaration(
     words: &[u32],
     counts: &[u16],
     step: usize,
-    kind: Decl,
+    kind: DeclKind,
     at: usize,
     out: &mut [u8],
     pos: usize,
-) -> Step
+) -> Advance
     ensures { λ r. ⌜ Prints (aDecl (now (text .entry)) (now (words .entry)) (now (counts .entry)) step at kind) (now (words .entry)) at (now (out .entry)) pos (now (out .exit)) r ⌝ }
 {
     match kind {
-        Decl::Types => type_decl(text, words, at, out, pos),
-        Decl::Taggers => tagger_decl(text, words, at, out, pos),
-        Decl::Functions => function_decl(text, words, counts, step, at, out, pos),
-        Decl::Axioms => axiom_decl(text, words, counts, step, at, out, pos),
-        Decl::Procedures => procedure(text, words, counts, step, at, out, pos),
+        DeclKind::Types => type_decl(text, words, at, out, pos),
+        DeclKind::Taggers => tagger_decl(text, words, at, out, pos),
+        DeclKind::Functions => function_decl(text, words, counts, step, at, out, pos),
+        DeclKind::Axioms => axiom_decl(text, words, counts, step, at, out, pos),
+        DeclKind::Procedures => procedure(text, words, counts, step, at, out, pos),
     }
 }
 
 // `TypeDecl`.
-fn type_decl(text: &[u8], words: &[u32], at: usize, out: &mut [u8], pos: usize) -> Step
+fn type_decl(text: &[u8], words: &[u32], at: usize, out: &mut [u8], pos: usize) -> Advance
     ensures { λ r. ⌜ Prints (aTypeDecl (now (text .entry))) (now (words .entry)) at (now (out .entry)) pos (now (out .exit)) r ⌝ }
 {
     let a = put(out, pos, b"type ");
@@ -118,7 +137,7 @@ fn type_decl(text: &[u8], words: &[u32], at: usize, out: &mut [u8], pos: usize) 
 }
 
 // `TaggerDecl`.
-fn tagger_decl(text: &[u8], words: &[u32], at: usize, out: &mut [u8], pos: usize) -> Step
+fn tagger_decl(text: &[u8], words: &[u32], at: usize, out: &mut [u8], pos: usize) -> Advance
     ensures { λ r. ⌜ Prints (aTaggerDecl (now (text .entry))) (now (words .entry)) at (now (out .entry)) pos (now (out .exit)) r ⌝ }
 {
     let a = put(out, pos, b"tagger ");
@@ -135,7 +154,7 @@ fn function_decl(
     at: usize,
     out: &mut [u8],
     pos: usize,
-) -> Step
+) -> Advance
     ensures { λ r. ⌜ Prints (aDecl (now (text .entry)) (now (words .entry)) (now (counts .entry)) step at Functions) (now (words .entry)) at (now (out .entry)) pos (now (out .exit)) r ⌝ }
 {
     let a = put(out, pos, b"function ");
@@ -167,7 +186,7 @@ fn broken_lines(
     at: usize,
     out: &mut [u8],
     pos: usize,
-) -> Step
+) -> Advance
     ensures { λ r. ⌜ Prints (broken (now (text .entry)) (now (words .entry)) (now (counts .entry)) step at) (now (words .entry)) at (now (out .entry)) pos (now (out .exit)) r ⌝ }
 {
     let a = put_indent(out, pos, step);
@@ -192,17 +211,17 @@ fn optional_definition(
     at: usize,
     out: &mut [u8],
     pos: usize,
-) -> Step
+) -> Advance
     ensures { λ r. ⌜ Prints (optionalDefinition (now (text .entry)) (now (words .entry)) (now (counts .entry)) step at) (now (words .entry)) at (now (out .entry)) pos (now (out .exit)) r ⌝ }
 {
     let inside = after(words, at);
-    if get(words, at) == 0 {
-        return Step { next: inside, pos };
+    if get(words, at) == NO_MORE {
+        return Advance { next: inside, pos };
     }
     let s = whens(text, words, counts, step, inside, out, pos);
     let a = put(out, s.pos, b"{\n");
     let t = broken_lines(text, words, counts, step, s.next, out, a);
-    Step {
+    Advance {
         next: t.next,
         pos: put(out, t.pos, b"\n}\n"),
     }
@@ -217,12 +236,12 @@ fn whens(
     at: usize,
     out: &mut [u8],
     pos: usize,
-) -> Step
+) -> Advance
     ensures { λ r. ⌜ Prints (whenList (now (text .entry)) (now (words .entry)) (now (counts .entry)) step at) (now (words .entry)) at (now (out .entry)) pos (now (out .exit)) r ⌝ }
 {
     let inside = after(words, at);
-    if get(words, at) == 0 {
-        return Step { next: inside, pos };
+    if get(words, at) == NO_MORE {
+        return Advance { next: inside, pos };
     }
     let a = put_indent(out, pos, step);
     let b = put(out, a, b"when ");
@@ -240,7 +259,7 @@ fn axiom_decl(
     at: usize,
     out: &mut [u8],
     pos: usize,
-) -> Step
+) -> Advance
     ensures { λ r. ⌜ Prints (aDecl (now (text .entry)) (now (words .entry)) (now (counts .entry)) step at Axioms) (now (words .entry)) at (now (out .entry)) pos (now (out .exit)) r ⌝ }
 {
     let a = put(out, pos, b"axiom");
@@ -257,7 +276,7 @@ fn axiom_decl(
     );
     let b = put(out, s.pos, b"\n");
     let t = broken_lines(text, words, counts, step, s.next, out, b);
-    Step {
+    Advance {
         next: t.next,
         pos: put(out, t.pos, b"\n"),
     }
@@ -272,7 +291,7 @@ fn procedure(
     at: usize,
     out: &mut [u8],
     pos: usize,
-) -> Step
+) -> Advance
     ensures { λ r. ⌜ Prints (aDecl (now (text .entry)) (now (words .entry)) (now (counts .entry)) step at Procedures) (now (words .entry)) at (now (out .entry)) pos (now (out .exit)) r ⌝ }
 {
     let a = put(out, pos, b"procedure ");
@@ -312,15 +331,15 @@ fn optional_body(
     at: usize,
     out: &mut [u8],
     pos: usize,
-) -> Step
+) -> Advance
     ensures { λ r. ⌜ Prints (optionalBody (now (text .entry)) (now (words .entry)) (now (counts .entry)) step at) (now (words .entry)) at (now (out .entry)) pos (now (out .exit)) r ⌝ }
 {
     let inside = after(words, at);
-    if get(words, at) == 0 {
-        return Step { next: inside, pos };
+    if get(words, at) == NO_MORE {
+        return Advance { next: inside, pos };
     }
     let s = block(text, words, counts, step, inside, 0, out, pos);
-    Step {
+    Advance {
         next: s.next,
         pos: put(out, s.pos, b"\n"),
     }

@@ -5,11 +5,20 @@ use crate::items::inline;
 use crate::items::name_head;
 use crate::items::optional_name;
 use crate::items::separated;
-use crate::parts::Step;
+use crate::parts::Advance;
 use crate::parts::after;
 use crate::parts::call_head;
 use crate::write::put;
 use tree::get;
+use tree::word::ASSERT;
+use tree::word::ASSIGN;
+use tree::word::ASSUME;
+use tree::word::CALL;
+use tree::word::CHECK;
+use tree::word::EXIT;
+use tree::word::REACH;
+use tree::word::REINIT;
+use tree::word::RETURN;
 ghost use Prim.Native.Nat.{ℕ};
 ghost use mathlib.Core.Bool.{Bool};
 ghost use mathlib.Core.List.{_++_};
@@ -27,16 +36,16 @@ pub(crate) fn simple(
     at: usize,
     out: &mut [u8],
     pos: usize,
-) -> Step
+) -> Advance
     ensures { λ r. ⌜ ((indent : ℕ) (followed : Bool) → Prints (simplePart (now (text .entry)) (now (words .entry)) (now (counts .entry)) step at indent followed) (now (words .entry)) at (now (out .entry)) pos (now (out .exit)) r) ⌝ }
 {
     let inside = after(words, at);
     match get(words, at) {
-        22 => assign(text, words, counts, step, inside, out, pos),
-        23 => reinit(text, words, counts, step, inside, out, pos),
-        25 => call(text, words, counts, step, inside, out, pos),
-        36 => exit(text, words, inside, out, pos),
-        37 => Step {
+        ASSIGN => assign(text, words, counts, step, inside, out, pos),
+        REINIT => reinit(text, words, counts, step, inside, out, pos),
+        CALL => call(text, words, counts, step, inside, out, pos),
+        EXIT => exit(text, words, inside, out, pos),
+        RETURN => Advance {
             next: inside,
             pos: put(out, pos, b"return\n"),
         },
@@ -52,12 +61,12 @@ fn assign(
     at: usize,
     out: &mut [u8],
     pos: usize,
-) -> Step
+) -> Advance
     ensures { λ r. ⌜ Prints (anAssign (now (text .entry)) (now (words .entry)) (now (counts .entry)) step at 0) (now (words .entry)) at (now (out .entry)) pos (now (out .exit)) r ⌝ }
 {
     let s = name_head(text, words, at, b" := ", out, pos);
     let t = inline(text, words, counts, step, s.next, out, s.pos);
-    Step {
+    Advance {
         next: t.next,
         pos: put(out, t.pos, b"\n"),
     }
@@ -71,12 +80,12 @@ fn reinit(
     at: usize,
     out: &mut [u8],
     pos: usize,
-) -> Step
+) -> Advance
     ensures { λ r. ⌜ Prints (aReinit (now (text .entry)) (now (words .entry)) (now (counts .entry)) step at 0) (now (words .entry)) at (now (out .entry)) pos (now (out .exit)) r ⌝ }
 {
     let a = put(out, pos, b"reinit ");
     let s = separated(text, words, counts, step, Item::Name, at, b"", out, a);
-    Step {
+    Advance {
         next: s.next,
         pos: put(out, s.pos, b"\n"),
     }
@@ -90,7 +99,7 @@ fn call(
     at: usize,
     out: &mut [u8],
     pos: usize,
-) -> Step
+) -> Advance
     ensures { λ r. ⌜ Prints (aCallStmt (now (text .entry)) (now (words .entry)) (now (counts .entry)) step at 0) (now (words .entry)) at (now (out .entry)) pos (now (out .exit)) r ⌝ }
 {
     let s = call_head(text, words, at, out, pos);
@@ -105,18 +114,18 @@ fn call(
         out,
         s.pos,
     );
-    Step {
+    Advance {
         next: t.next,
         pos: put(out, t.pos, b")\n"),
     }
 }
 
-fn exit(text: &[u8], words: &[u32], at: usize, out: &mut [u8], pos: usize) -> Step
+fn exit(text: &[u8], words: &[u32], at: usize, out: &mut [u8], pos: usize) -> Advance
     ensures { λ r. ⌜ Prints (anExit (now (text .entry))) (now (words .entry)) at (now (out .entry)) pos (now (out .exit)) r ⌝ }
 {
     let a = put(out, pos, b"exit");
     let s = optional_name(text, words, at, b" ", out, a);
-    Step {
+    Advance {
         next: s.next,
         pos: put(out, s.pos, b"\n"),
     }
@@ -127,10 +136,10 @@ fn put_keyword(words: &[u32], at: usize, out: &mut [u8], pos: usize) -> usize
     ensures { λ r. ⌜ Wrote (λ rest. keywordBytes (getD (now (words .entry)) at 0) ++ rest) (now (out .entry)) pos (now (out .exit)) r ⌝ }
 {
     match get(words, at) {
-        26 => put(out, pos, b"check "),
-        27 => put(out, pos, b"assume "),
-        28 => put(out, pos, b"reach "),
-        29 => put(out, pos, b"assert "),
+        CHECK => put(out, pos, b"check "),
+        ASSUME => put(out, pos, b"assume "),
+        REACH => put(out, pos, b"reach "),
+        ASSERT => put(out, pos, b"assert "),
         _ => put(out, pos, b"probe "),
     }
 }
@@ -144,12 +153,12 @@ fn expression_stmt(
     at: usize,
     out: &mut [u8],
     pos: usize,
-) -> Step
+) -> Advance
     ensures { λ r. ⌜ Prints (anExpressionStmt (now (text .entry)) (now (words .entry)) (now (counts .entry)) step at 0) (now (words .entry)) at (now (out .entry)) pos (now (out .exit)) r ⌝ }
 {
     let a = put_keyword(words, at, out, pos);
     let s = inline(text, words, counts, step, after(words, at), out, a);
-    Step {
+    Advance {
         next: s.next,
         pos: put(out, s.pos, b"\n"),
     }

@@ -13,7 +13,7 @@ use crate::around::open_own;
 use crate::around::variable;
 use crate::expression::expr;
 use crate::items::name_head;
-use crate::parts::Step;
+use crate::parts::Advance;
 use crate::parts::after;
 use crate::simple::simple;
 use crate::statement::list::aexprs;
@@ -25,10 +25,21 @@ use crate::write::put_either;
 use crate::write::put_indent;
 use crate::write::put_indent_unless;
 use crate::write::put_unless;
-use prints::BindingPower;
-use prints::ExprFormatOption;
-use prints::deeper;
+use layout::BindingPower;
+use layout::ExprFormatOption;
+use layout::deeper;
 use tree::get;
+use tree::word::A_ASSERTION;
+use tree::word::A_FORALL;
+use tree::word::BLOCK;
+use tree::word::CHOOSE;
+use tree::word::IF;
+use tree::word::IF_CASE;
+use tree::word::LABELED_STMT;
+use tree::word::LOOP;
+use tree::word::MORE;
+use tree::word::NO_MORE;
+use tree::word::VAR_DECL;
 ghost use Prim.Native.Nat.{_<_};
 ghost use lib.ListN.{length};
 ghost use Rattle.printing.specs.Parts.{Prints};
@@ -45,18 +56,18 @@ pub(crate) fn stmt(
     followed: bool,
     out: &mut [u8],
     pos: usize,
-) -> Step
+) -> Advance
     ensures { λ r. ⌜ Prints (aStmt (now (text .entry)) (now (words .entry)) (now (counts .entry)) step at indent followed) (now (words .entry)) at (now (out .entry)) pos (now (out .exit)) r ⌝ }
 {
     match get(words, at) {
-        21 => var(text, words, counts, step, at, indent, followed, out, pos),
-        24 => braces(text, words, counts, step, at, indent, out, pos),
-        30 => forall(text, words, counts, step, at, indent, out, pos),
-        31 => choose(text, words, counts, step, at, indent, out, pos),
-        32 => cond(text, words, counts, step, at, indent, out, pos),
-        33 => by_case(text, words, counts, step, at, indent, out, pos),
-        34 => again(text, words, counts, step, at, indent, out, pos),
-        35 => label(text, words, counts, step, at, indent, out, pos),
+        VAR_DECL => var(text, words, counts, step, at, indent, followed, out, pos),
+        BLOCK => braces(text, words, counts, step, at, indent, out, pos),
+        A_FORALL => forall(text, words, counts, step, at, indent, out, pos),
+        CHOOSE => choose(text, words, counts, step, at, indent, out, pos),
+        IF => cond(text, words, counts, step, at, indent, out, pos),
+        IF_CASE => by_case(text, words, counts, step, at, indent, out, pos),
+        LOOP => looped(text, words, counts, step, at, indent, out, pos),
+        LABELED_STMT => label(text, words, counts, step, at, indent, out, pos),
         _ => simple(text, words, counts, step, at, out, pos),
     }
 }
@@ -72,7 +83,7 @@ fn var(
     followed: bool,
     out: &mut [u8],
     pos: usize,
-) -> Step
+) -> Advance
     requires { ⌜ at < length (now words) ⌝ }
     ensures { λ r. ⌜ Prints (aVariable (now (text .entry)) (now (words .entry)) (now (counts .entry)) step at indent followed) (now (words .entry)) at (now (out .entry)) pos (now (out .exit)) r ⌝ }
 {
@@ -80,7 +91,7 @@ fn var(
     let a = open_own(out, pos, followed, own);
     let s = variable(text, words, counts, step, at + 1, out, a);
     let t = inner(text, words, counts, step, s.next, own, true, out, s.pos);
-    Step {
+    Advance {
         next: t.next,
         pos: close_own(out, t.pos, followed, indent),
     }
@@ -97,10 +108,10 @@ fn inner(
     followed: bool,
     out: &mut [u8],
     pos: usize,
-) -> Step
+) -> Advance
     ensures { λ r. ⌜ Prints (anInner (now (text .entry)) (now (words .entry)) (now (counts .entry)) step at indent followed) (now (words .entry)) at (now (out .entry)) pos (now (out .exit)) r ⌝ }
 {
-    if get(words, at) == 24 {
+    if get(words, at) == BLOCK {
         return list(text, words, counts, step, at + 1, indent, out, pos);
     }
     let a = put_indent(out, pos, indent);
@@ -117,7 +128,7 @@ pub(crate) fn block(
     indent: usize,
     out: &mut [u8],
     pos: usize,
-) -> Step
+) -> Advance
     ensures { λ r. ⌜ Prints (aBlock (now (text .entry)) (now (words .entry)) (now (counts .entry)) step at indent) (now (words .entry)) at (now (out .entry)) pos (now (out .exit)) r ⌝ }
 {
     let a = put(out, pos, b"{\n");
@@ -133,7 +144,7 @@ pub(crate) fn block(
         a,
     );
     let b = put_indent(out, s.pos, indent);
-    Step {
+    Advance {
         next: s.next,
         pos: put(out, b, b"}"),
     }
@@ -149,7 +160,7 @@ fn braces(
     indent: usize,
     out: &mut [u8],
     pos: usize,
-) -> Step
+) -> Advance
     requires { ⌜ at < length (now words) ⌝ }
     ensures { λ r. ⌜ Prints (aBraces (now (text .entry)) (now (words .entry)) (now (counts .entry)) step at indent) (now (words .entry)) at (now (out .entry)) pos (now (out .exit)) r ⌝ }
 {
@@ -165,7 +176,7 @@ fn braces(
         a,
     );
     let b = put_indent(out, s.pos, indent);
-    Step {
+    Advance {
         next: s.next,
         pos: put(out, b, b"}\n"),
     }
@@ -181,13 +192,13 @@ fn forall(
     indent: usize,
     out: &mut [u8],
     pos: usize,
-) -> Step
+) -> Advance
     requires { ⌜ at < length (now words) ⌝ }
     ensures { λ r. ⌜ Prints (aForall (now (text .entry)) (now (words .entry)) (now (counts .entry)) step at indent) (now (words .entry)) at (now (out .entry)) pos (now (out .exit)) r ⌝ }
 {
     let s = for_head(text, words, at + 1, out, pos);
     let t = block(text, words, counts, step, s.next, indent, out, s.pos);
-    Step {
+    Advance {
         next: t.next,
         pos: put(out, t.pos, b"\n"),
     }
@@ -203,12 +214,12 @@ fn choose(
     indent: usize,
     out: &mut [u8],
     pos: usize,
-) -> Step
+) -> Advance
     requires { ⌜ at < length (now words) ⌝ }
     ensures { λ r. ⌜ Prints (aChoose (now (text .entry)) (now (words .entry)) (now (counts .entry)) step at indent) (now (words .entry)) at (now (out .entry)) pos (now (out .exit)) r ⌝ }
 {
     let a = put(out, pos, b"choose ");
-    let b = put_unless(out, a, get(words, at + 1) == 1, b"{ }\n");
+    let b = put_unless(out, a, get(words, at + 1) == MORE, b"{ }\n");
     branches(text, words, counts, step, at + 1, indent, out, b)
 }
 
@@ -222,7 +233,7 @@ fn cond(
     indent: usize,
     out: &mut [u8],
     pos: usize,
-) -> Step
+) -> Advance
     requires { ⌜ at < length (now words) ⌝ }
     ensures { λ r. ⌜ Prints (anIf (now (text .entry)) (now (words .entry)) (now (counts .entry)) step at indent) (now (words .entry)) at (now (out .entry)) pos (now (out .exit)) r ⌝ }
 {
@@ -242,7 +253,7 @@ fn cond(
     let t = block(text, words, counts, step, s.next, indent, out, b);
     if is_empty_block(words, t.next) {
         let inside = after(words, t.next);
-        return Step {
+        return Advance {
             next: after(words, inside),
             pos: put(out, t.pos, b"\n"),
         };
@@ -263,14 +274,14 @@ fn onward(
     indent: usize,
     out: &mut [u8],
     pos: usize,
-) -> Step
+) -> Advance
     ensures { λ r. ⌜ Prints (anOnward (now (text .entry)) (now (words .entry)) (now (counts .entry)) step at indent stays) (now (words .entry)) at (now (out .entry)) pos (now (out .exit)) r ⌝ }
 {
     if stays {
         return stmt(text, words, counts, step, at, indent, false, out, pos);
     }
     let s = block(text, words, counts, step, at, indent, out, pos);
-    Step {
+    Advance {
         next: s.next,
         pos: put(out, s.pos, b"\n"),
     }
@@ -286,17 +297,17 @@ fn by_case(
     indent: usize,
     out: &mut [u8],
     pos: usize,
-) -> Step
+) -> Advance
     requires { ⌜ at < length (now words) ⌝ }
     ensures { λ r. ⌜ Prints (anIfCase (now (text .entry)) (now (words .entry)) (now (counts .entry)) step at indent) (now (words .entry)) at (now (out .entry)) pos (now (out .exit)) r ⌝ }
 {
     let a = put(out, pos, b"if ");
-    let b = no_cases(out, a, get(words, at + 1) == 1, indent);
+    let b = no_cases(out, a, get(words, at + 1) == MORE, indent);
     cases(text, words, counts, step, at + 1, indent, out, b)
 }
 
 // Loop.
-fn again(
+fn looped(
     text: &[u8],
     words: &[u32],
     counts: &[u16],
@@ -305,11 +316,11 @@ fn again(
     indent: usize,
     out: &mut [u8],
     pos: usize,
-) -> Step
+) -> Advance
     requires { ⌜ at < length (now words) ⌝ }
     ensures { λ r. ⌜ Prints (aLoop (now (text .entry)) (now (words .entry)) (now (counts .entry)) step at indent) (now (words .entry)) at (now (out .entry)) pos (now (out .exit)) r ⌝ }
 {
-    let bare = get(words, at + 1) == 0;
+    let bare = get(words, at + 1) == NO_MORE;
     let a = put(out, pos, b"loop");
     let b = put_either(out, a, bare, b" ", b"\n");
     let s = aexprs(
@@ -325,7 +336,7 @@ fn again(
     );
     let c = put_indent_unless(out, s.pos, bare, indent);
     let t = block(text, words, counts, step, s.next, indent, out, c);
-    Step {
+    Advance {
         next: t.next,
         pos: put(out, t.pos, b"\n"),
     }
@@ -341,7 +352,7 @@ fn label(
     indent: usize,
     out: &mut [u8],
     pos: usize,
-) -> Step
+) -> Advance
     requires { ⌜ at < length (now words) ⌝ }
     ensures { λ r. ⌜ Prints (aLabelled (now (text .entry)) (now (words .entry)) (now (counts .entry)) step at indent) (now (words .entry)) at (now (out .entry)) pos (now (out .exit)) r ⌝ }
 {
@@ -360,11 +371,11 @@ pub(crate) fn aexpr(
     indent: usize,
     out: &mut [u8],
     pos: usize,
-) -> Step
+) -> Advance
     ensures { λ r. ⌜ Prints (anAExpr (now (text .entry)) (now (words .entry)) (now (counts .entry)) step at indent) (now (words .entry)) at (now (out .entry)) pos (now (out .exit)) r ⌝ }
 {
     let inside = after(words, at);
-    if get(words, at) == 2 {
+    if get(words, at) == A_ASSERTION {
         return stmt(text, words, counts, step, inside, indent, false, out, pos);
     }
     let s = expr(
@@ -378,7 +389,7 @@ pub(crate) fn aexpr(
         out,
         pos,
     );
-    Step {
+    Advance {
         next: s.next,
         pos: put(out, s.pos, b"\n"),
     }

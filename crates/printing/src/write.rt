@@ -1,17 +1,17 @@
 // Writing into a buffer. A place past the buffer's end says that what was to be written did not fit, and stays so.
-use prints::BindingPower;
-use prints::ExprFormatOption;
-use prints::Side;
+use layout::BindingPower;
+use layout::ExprFormatOption;
+use layout::Side;
 ghost use mathlib.Core.Path.{_≡_};
 ghost use mathlib.Core.List.{_++_};
 ghost use Prim.Native.Nat.{_+_, _≤_};
 ghost use lib.ListN.{length, take, drop, replicate};
 ghost use Rattle.lexing.specs.Answer.{pick};
-ghost use Rattle.grammar.specs.Words.{bytes as text};
-ghost use Rattle.prints.specs.PrintUtil.{Indent, Space, EndlessOperator, Parenthesis};
-ghost use Rattle.prints.specs.Text.{decimal};
+ghost use Rattle.lexing.specs.Bytes.{bytes as text};
+ghost use Rattle.layout.specs.PrintUtil.{Indent, Space, EndlessOperator, Parenthesis};
+ghost use Rattle.layout.specs.Text.{decimal};
 ghost use Rattle.printing.specs.Wrote.{Wrote};
-ghost use Rattle.prints.specs.Text.{unless};
+ghost use Rattle.layout.specs.Text.{unless};
 
 // Stores bytes where they fit.
 pub(crate) fn store(out: &mut [u8], pos: usize, bytes: &[u8])

@@ -13,7 +13,7 @@ use Rattle.grammar.specs.Grammar.{Tree}
 use Rattle.grammar.specs.OperatorTrees.{OperatorTree, DerivesWithin}
 use Rattle.grammar.specs.Reading.{Outcome, words, refusal, treeWords, stored, outcome, readTree, readExpression}
 use Rattle.reading.specs.TreeRead.{Answered, Leaves}
-use Rattle.grammar.specs.Bridge.Limits.{read-derives, derives-gives, stored-inv, stored-fits}
+use Rattle.grammar.specs.Proofs.Bridge.Limits.{read-derives, derives-gives, stored-inv, stored-fits}
 use Rattle.reading.specs.declared.entry.Reading.{Reading}
 use Rattle.reading.specs.declared.entry.Reading.the-variants.{Words, Refused}
 

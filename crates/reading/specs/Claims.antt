@@ -7,7 +7,7 @@ use mathlib.Core.Path.{_≡_, sym}
 use lib.ListN.{length, take}
 use Rattle.grammar.specs.Grammar.{Tree}
 use Rattle.grammar.specs.OperatorTrees.{OperatorTree, DerivesWithin}
-use Rattle.grammar.specs.Bridge.Limits.{derives-operators}
+use Rattle.grammar.specs.Proofs.Bridge.Limits.{derives-operators}
 use Rattle.grammar.specs.Claims as grammar
 use Rattle.tree.specs.Check.{expressionRefusal, programRefusal}
 use Rattle.reading.specs.TreeRead.{Answered, ProgramAnswered, Leaves}

@@ -5,19 +5,20 @@ use mathlib.Core.Path.{_≡_}
 use mathlib.Core.List.{List, [], _∷_, _++_}
 use lib.ListN.{length, getD, drop, replicate}
 use lib.Dec.{eqb}
+use Rattle.tree.specs.Tags.{more, noMore, idExprTag, operatorExprTag}
 use Rattle.lexing.specs.Answer.{pick}
-use Rattle.rules.specs.Arena.{Run, Holds}
+use Rattle.parsing.specs.Arena.{Run, Holds, mostArena, oneNode, twoNode, threeNode, identNode, unaryNode, binaryNode, itemNode, pairNode, closedNode, headedNode}
 
 -- ---- frames
 
 -- the words of a node before its parts
 unfoldable pub nodeHead : ℕ → ℕ → ℕ → ℕ → Run
 nodeHead tag x y z r =
-    pick (eqb tag 1) (x ∷ r)
-    (pick (eqb tag 2) (x ∷ y ∷ r)
-    (pick (eqb tag 3) (x ∷ y ∷ z ∷ r)
-    (pick (eqb tag 4) (4 ∷ x ∷ y ∷ z ∷ r)
-    (pick (eqb tag 5) (5 ∷ x ∷ 1 ∷ r) (pick (eqb tag 6) (5 ∷ x ∷ 1 ∷ r) (pick (eqb tag 10) (x ∷ r) r))))))
+    pick (eqb tag oneNode) (x ∷ r)
+    (pick (eqb tag twoNode) (x ∷ y ∷ r)
+    (pick (eqb tag threeNode) (x ∷ y ∷ z ∷ r)
+    (pick (eqb tag identNode) (idExprTag ∷ x ∷ y ∷ z ∷ r)
+    (pick (eqb tag unaryNode) (operatorExprTag ∷ x ∷ more ∷ r) (pick (eqb tag binaryNode) (operatorExprTag ∷ x ∷ more ∷ r) (pick (eqb tag headedNode) (x ∷ r) r))))))
 
 -- a frame is 0, which stands for the word 0, or one of these: a node; 1 and the node; 1, the node and 0
 abbrev pub whole : ℕ → ℕ
@@ -32,11 +33,11 @@ last n = n * 4 + 3
 -- the frames of a node's parts, the first one on top
 unfoldable pub nodeParts : ℕ → ℕ → ℕ → List ℕ
 nodeParts tag y z =
-    pick (eqb tag 5) (whole y ∷ 0 ∷ [])
-    (pick (eqb tag 6) (whole y ∷ last z ∷ [])
-    (pick (eqb tag 7) (whole y ∷ next z ∷ [])
-    (pick (eqb tag 8) (whole y ∷ whole z ∷ [])
-    (pick (eqb tag 9) (whole y ∷ 0 ∷ []) (pick (eqb tag 10) (whole y ∷ []) [])))))
+    pick (eqb tag unaryNode) (whole y ∷ 0 ∷ [])
+    (pick (eqb tag binaryNode) (whole y ∷ last z ∷ [])
+    (pick (eqb tag itemNode) (whole y ∷ next z ∷ [])
+    (pick (eqb tag pairNode) (whole y ∷ whole z ∷ [])
+    (pick (eqb tag closedNode) (whole y ∷ 0 ∷ []) (pick (eqb tag headedNode) (whole y ∷ []) [])))))
 
 module _ (arena : List ℕ) (frame : ℕ) where
   abbrev pub field : ℕ → ℕ
@@ -45,8 +46,8 @@ module _ (arena : List ℕ) (frame : ℕ) where
   -- the words that a frame begins with
   unfoldable pub headOf : Run
   headOf r =
-      pick (eqb (frame % 4) 0) (0 ∷ r)
-      (pick (eqb (frame % 4) 1) (nodeHead (getD arena (frame / 4) 0) (field 1) (field 2) (field 3) r) (1 ∷ r))
+      pick (eqb (frame % 4) 0) (noMore ∷ r)
+      (pick (eqb (frame % 4) 1) (nodeHead (getD arena (frame / 4) 0) (field 1) (field 2) (field 3) r) (more ∷ r))
 
   -- the frames that take its place
   unfoldable pub partsOf : List ℕ
@@ -99,7 +100,7 @@ pub record Rooted (arena stack table : List ℕ) (root : ℕ) : Type 0 where
   pub holds : Holds arena root run
   pub below : root + 4 ≤ top
   pub inside : top ≤ length arena
-  pub small : length arena ≤ 400000
+  pub small : length arena ≤ mostArena
   pub room : top ≤ 4 * length stack
   pub clear : table ≡ replicate (length table) 0
 

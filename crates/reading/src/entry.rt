@@ -1,8 +1,10 @@
 // Read expression and read program.
 use crate::flat::flatten;
-use rules::Parsed;
-use rules::Whole;
-use rules::parse;
+use lexing::refusal::TEXT_TOO_LONG;
+use lexing::refusal::TREE_TOO_LARGE;
+use parsing::Parsed;
+use parsing::Whole;
+use parsing::parse;
 use tree::MOST_TEXT;
 use tree::MOST_WORDS;
 ghost use mathlib.Core.Path.{_≡_};
@@ -11,12 +13,12 @@ ghost use mathlib.Core.List.{[]};
 ghost use lib.ListN.{length, replicate};
 ghost use Rattle.tree.specs.Limits.{mostText};
 ghost use Rattle.grammar.specs.Reading.{stored};
-ghost use Rattle.rules.specs.Arena.{Run, Holds};
+ghost use Rattle.parsing.specs.Arena.{Run, Holds};
 ghost use Rattle.reading.specs.Entry.{Buffers, wholeOutcome, readOutcome};
 ghost use Rattle.reading.specs.Flat.{Rooted};
 ghost use Rattle.reading.specs.TreeRead.{outcomeOf, Answered, ProgramAnswered};
 
-// What reading answers: `outcomeOf` in specs/TreeRead.antt gives document 01's number and values of each case.
+// What reading answers: `outcomeOf` in specs/TreeRead.antt gives the number and values of each case (REFERENCE, "The entries").
 pub enum Reading {
     // How many words the tree has.
     Words(usize),
@@ -54,7 +56,7 @@ fn store(arena: &[u32], root: u32, stack: &mut [u32], table: &mut [u32]) -> Read
         return Reading::Words(n);
     }
     clear(table);
-    Reading::Refused(5, 0)
+    Reading::Refused(TREE_TOO_LARGE, 0)
 }
 
 // Reads a text over an arena of 44 words and eight for each byte, and a stack of eleven words and two for each byte.
@@ -120,7 +122,7 @@ fn read(text: &[u8], table: &mut [u32], whole: Whole) -> Reading
 {
     clear(table);
     if MOST_TEXT < text.len() {
-        return Reading::Refused(1, MOST_TEXT);
+        return Reading::Refused(TEXT_TOO_LONG, MOST_TEXT);
     }
     if text.len() <= 512 {
         return read_small(text, table, whole);

@@ -1,18 +1,22 @@
 // A node's words, written to a table by a walk with a stack of frames. The stack grows down from its end.
-use rules::BINARY;
-use rules::CLOSED;
-use rules::HEADED;
-use rules::IDENT;
-use rules::ITEM;
-use rules::ONE;
-use rules::PAIR;
-use rules::THREE;
-use rules::TWO;
-use rules::UNARY;
+use parsing::BINARY;
+use parsing::CLOSED;
+use parsing::HEADED;
+use parsing::IDENT;
+use parsing::ITEM;
+use parsing::ONE;
+use parsing::PAIR;
+use parsing::THREE;
+use parsing::TWO;
+use parsing::UNARY;
+use tree::word::ID_EXPR;
+use tree::word::MORE;
+use tree::word::NO_MORE;
+use tree::word::OPERATOR_EXPR;
 ghost use Prim.Native.Nat.{_+_, _*_, _/_, _≤_, _<_};
 ghost use mathlib.Core.List.{[], _∷_};
 ghost use lib.ListN.{length};
-ghost use Rattle.rules.specs.Arena.{Run, Holds};
+ghost use Rattle.parsing.specs.Arena.{Run, Holds};
 ghost use Rattle.reading.specs.Flat.{nodeHead, nodeParts, whole, headOf, partsOf, Fit, Replaced, Writes, Rooted, Flattened};
 
 // A frame is a node times four and one of these: the word 0, and no node; the node; 1 and the node; 1, the node and 0.
@@ -51,7 +55,7 @@ fn node_head(table: &mut [u32], out: usize, tag: u32, x: u32, y: u32, z: u32) ->
             emit(table, out, z)
         }
         IDENT => {
-            let out = emit(table, out, 4);
+            let out = emit(table, out, ID_EXPR);
             let out = emit(table, out, x);
             let out = emit(table, out, y);
             emit(table, out, z)
@@ -67,9 +71,9 @@ fn node_head(table: &mut [u32], out: usize, tag: u32, x: u32, y: u32, z: u32) ->
 fn operator(table: &mut [u32], out: usize, op: u32) -> usize
     ensures { λ r. ⌜ Writes (λ words. 5 ∷ op ∷ 1 ∷ words) (now (table .entry)) out (now (table .exit)) r ⌝ }
 {
-    let out = emit(table, out, 5);
+    let out = emit(table, out, OPERATOR_EXPR);
     let out = emit(table, out, op);
-    emit(table, out, 1)
+    emit(table, out, MORE)
 }
 
 // The words that a frame begins with.
@@ -79,10 +83,10 @@ fn head(arena: &[u32], frame: u32, table: &mut [u32], out: usize) -> usize
 {
     let kind = frame % 4;
     if kind == END {
-        return emit(table, out, 0);
+        return emit(table, out, NO_MORE);
     }
     if kind != WHOLE {
-        return emit(table, out, 1);
+        return emit(table, out, MORE);
     }
     let at = (frame / 4) as usize;
     let tag = arena[at];

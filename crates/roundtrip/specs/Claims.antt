@@ -15,10 +15,10 @@ use Rattle.grammar.specs.Claims as Grammar
 use Rattle.reading.specs.TreeRead.{Answered, Leaves}
 use Rattle.reading.specs.Claims as Reader
 use Rattle.reading.specs.declared.entry.Reading.{Reading}
-use Rattle.prints.specs.declared.format.ExprFormatOption.{ExprFormatOption}
+use Rattle.layout.specs.declared.format.ExprFormatOption.{ExprFormatOption}
 use Rattle.printing.specs.declared.Printed.{Printed}
 use Rattle.printing.specs.declared.Printed.the-variants.{Written}
-use Rattle.prints.specs.PrintUtil.{Init}
+use Rattle.layout.specs.PrintUtil.{Init}
 use Rattle.printing.specs.Entries.{PrintAnswered, ProgramAnswered, Holds}
 use Rattle.roundtrip.specs.Nesting.{nesting}
 use Rattle.roundtrip.specs.SmallNaturals.{Words32}

@@ -7,23 +7,23 @@ use native.Mathlib.Omega.{arith}
 use lib.Dec.{leb, eqb}
 use lib.ListN.{length, replicate, getD}
 use borrow.Author.Tests.{leb-true, eqb-true}
-use Rattle.lexing.specs.Bytes.{isSpace, isDigit, canStartIdentifierChar, identifierChar, oneOf, run}
+use Rattle.lexing.specs.Bytes.{isSpace, isDigit, canStartIdentifierChar, identifierChar, oneOf, run, bytes}
 use Rattle.lexing.specs.RunLaws.{run-all}
 use Rattle.lexing.specs.TokenLaws.{identifier-starts}
 use Rattle.lexing.specs.Tokens.{identifierLength}
 use Rattle.tree.specs.Ast.{Operator, IfThenElse, Equiv, LogicalImp, LogicalAnd, LogicalOr, Eq, Neq, Less, AtMost, Plus, Minus, Times, Div, Mod, ArgumentCount}
 use Rattle.tree.specs.Ast.{LogicalNot, UnaryMinus}
-use Rattle.grammar.specs.Words.{bytes, isIdentifier}
+use Rattle.grammar.specs.Words.{isIdentifier}
 use Rattle.grammar.specs.Tokens.{Token, name, nat, mark, sign, illegal, cut}
 use Rattle.grammar.specs.Tokens.{'!', '-', '*', '+', '==', '!=', '<', '<=', '&&', '||', '==>', '<==>'}
 use Rattle.tree.specs.Clash.{impossible}
-use Rattle.grammar.specs.Laws.Looks.{both-true}
-use Rattle.grammar.specs.Laws.Cut.{cut-space}
-use Rattle.grammar.specs.Laws.Pieces.{Ends, lengthens, cut-name, cut-nat, cut-sign}
-use Rattle.prints.specs.declared.format.ExprFormatOption.{ExprFormatOption}
-use Rattle.prints.specs.declared.format.ExprFormatOption.the-variants.{SingleLine, MultipleLines}
-use Rattle.prints.specs.Text.{_▹_, _▸_, decimal}
-use Rattle.prints.specs.PrintUtil.{Space, ToString}
+use Rattle.grammar.specs.Proofs.Laws.Looks.{both-true}
+use Rattle.grammar.specs.Proofs.Laws.Cut.{cut-space}
+use Rattle.grammar.specs.Proofs.Laws.Pieces.{Ends, lengthens, cut-name, cut-nat, cut-sign}
+use Rattle.layout.specs.declared.format.ExprFormatOption.{ExprFormatOption}
+use Rattle.layout.specs.declared.format.ExprFormatOption.the-variants.{SingleLine, MultipleLines}
+use Rattle.layout.specs.Text.{_▹_, _▸_, decimal}
+use Rattle.layout.specs.PrintUtil.{Space, ToString}
 use Rattle.roundtrip.specs.Operators.{tokenOf}
 use Rattle.roundtrip.specs.Decimal.{digits-written}
 

@@ -9,8 +9,8 @@ use lib.ListN.{length, length-append}
 use borrow.Author.Tests.{ltb-true, ltb-false, le-leb}
 use Rattle.lexing.specs.Bytes.{isDigit, run}
 use Rattle.lexing.specs.Tokens.{decimal}
-use Rattle.grammar.specs.Laws.Pieces.{run-append}
-use Rattle.prints.specs.Text.{digits}
+use Rattle.grammar.specs.Proofs.Laws.Pieces.{run-append}
+use Rattle.layout.specs.Text.{digits}
 
 decimal-append : (v : ℕ) (w u : List ℕ) → decimal v (w ++ u) ≡ decimal (decimal v w) u
 unfolding decimal

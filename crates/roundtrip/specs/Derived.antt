@@ -4,20 +4,20 @@ use mathlib.Core.Path.{_≡_, refl, sym, subst}
 use mathlib.Core.Bool.{Bool, true, false}
 use mathlib.Core.List.{List, [], _∷_, append-nil}
 use Rattle.lexing.specs.Answer.{pick}
-use Rattle.lexing.specs.Bytes.{isDigit, canStartIdentifierChar, identifierChar, run}
+use Rattle.lexing.specs.Bytes.{isDigit, canStartIdentifierChar, identifierChar, run, bytes}
 use Rattle.lexing.specs.Blanks.{W, blanksFrom}
 use Rattle.lexing.specs.Tokens.{identifierLength}
 use Rattle.tree.specs.Ast.{Operator, ArgumentCount}
 use Rattle.tree.specs.Ast.{BLiteral, ILiteral, IdExpr, OperatorExpr, FunctionCallExpr, Exprs, noExprs, _then_}
-use Rattle.grammar.specs.Words.{bytes, isIdentifier, isFaithfulName}
+use Rattle.grammar.specs.Words.{isIdentifier, isFaithfulName}
 use Rattle.grammar.specs.Tokens.{tokensAfter, cut}
 use Rattle.grammar.specs.Grammar.{Tree, Derives, falsehood, truth, variable}
 use Rattle.grammar.specs.OperatorTrees.{Operators, AllOperators, Faithful, notOnTheRight, fitsRight}
-use Rattle.prints.specs.declared.power.BindingPower.{BindingPower}
-use Rattle.prints.specs.declared.power.Side.the-variants.{Left, Right}
-use Rattle.prints.specs.declared.format.ExprFormatOption.{ExprFormatOption}
-use Rattle.prints.specs.PrintUtil.{Init, WinsOver, SubexpressionPower, BindingStrength}
-use Rattle.prints.specs.Printer.{Print, Operand, isIf, unary, binary, operatorForm, Expression, operands}
+use Rattle.layout.specs.declared.power.BindingPower.{BindingPower}
+use Rattle.layout.specs.declared.power.Side.the-variants.{Left, Right}
+use Rattle.layout.specs.declared.format.ExprFormatOption.{ExprFormatOption}
+use Rattle.layout.specs.PrintUtil.{Init, WinsOver, SubexpressionPower, BindingStrength}
+use Rattle.layout.specs.Printer.{Print, Operand, isIf, unary, binary, operatorForm, Expression, operands}
 use Rattle.roundtrip.specs.Operators.{levelOf, unary-operators}
 use Rattle.roundtrip.specs.Table.{levelIn, all-allowed, operand-print-fits}
 use Rattle.roundtrip.specs.FaithfulNames.{faithful-identifier, faithful-name}

@@ -2,10 +2,10 @@
 use mathlib.Core.Path.{_≡_, refl}
 use mathlib.Core.Bool.{false}
 use mathlib.Core.List.{[], _∷_, map}
-use Rattle.grammar.specs.Words.{bytes}
+use Rattle.lexing.specs.Bytes.{bytes}
 use Rattle.grammar.specs.Grammar.{Tree, single}
 use Rattle.tree.specs.Ast.{Operator, LogicalImp, Eq, Plus, Minus, UnaryMinus, IdExpr, OperatorExpr, FunctionCallExpr, noExprs, _then_}
-use Rattle.prints.specs.PrintUtil.{Init, WinsOver, SubexpressionPower}
+use Rattle.layout.specs.PrintUtil.{Init, WinsOver, SubexpressionPower}
 use Rattle.roundtrip.specs.Nesting.{nesting, nestings}
 
 unfoldable computed : Unit {0}

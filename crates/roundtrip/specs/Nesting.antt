@@ -6,9 +6,9 @@ use Rattle.lexing.specs.Answer.{pick}
 use Rattle.tree.specs.Ast.{BLiteral, ILiteral, CustomLiteral, IdExpr, OperatorExpr, FunctionCallExpr, LabeledExpr, LetExpr, QuantifierExpr}
 use Rattle.tree.specs.Ast.{ClosureExpr, Exprs, noExprs, _then_}
 use Rattle.grammar.specs.Grammar.{Tree}
-use Rattle.prints.specs.declared.power.BindingPower.{BindingPower}
-use Rattle.prints.specs.declared.power.Side.the-variants.{Left, Right}
-use Rattle.prints.specs.PrintUtil.{Init, WinsOver, SubexpressionPower, BindingStrength}
+use Rattle.layout.specs.declared.power.BindingPower.{BindingPower}
+use Rattle.layout.specs.declared.power.Side.the-variants.{Left, Right}
+use Rattle.layout.specs.PrintUtil.{Init, WinsOver, SubexpressionPower, BindingStrength}
 
 -- of the operands of a unary or binary operator, each in its context
 abbrev pub ofOperands : BindingPower → BindingPower → List (BindingPower → ℕ) → ℕ

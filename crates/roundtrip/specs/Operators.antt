@@ -8,8 +8,8 @@ use Rattle.tree.specs.Ast.{LogicalNot, UnaryMinus, OperatorExpr, noExprs, _then
 use Rattle.grammar.specs.Tokens.{Token, sign, illegal, '!', '-', '*', '+', '==', '!=', '<', '<=', '&&', '||', '==>', '<==>'}
 use Rattle.grammar.specs.Grammar.{Tree, Rule, single, word, signRole, wordRole, role, unary, binary, Left, Right, Once, prefixed}
 use Rattle.tree.specs.Clash.{impossible}
-use Rattle.prints.specs.declared.power.Side.{Side}
-use Rattle.prints.specs.declared.power.Side.the-variants.{Left as onLeft, Right as onRight}
+use Rattle.layout.specs.declared.power.Side.{Side}
+use Rattle.layout.specs.declared.power.Side.the-variants.{Left as onLeft, Right as onRight}
 use Rattle.roundtrip.specs.Levels.{Level, operand, prefixes, factor, term, juct, conjuncts, disjuncts, logical, implications, impExp, equiv, At}
 
 -- an operator's token

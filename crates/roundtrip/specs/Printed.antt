@@ -6,18 +6,18 @@ use mathlib.Core.Bool.{Bool, true, false}
 use mathlib.Core.List.{List, [], _∷_, _++_, append-assoc}
 use native.Mathlib.Omega.{arith}
 use Rattle.lexing.specs.Answer.{pick}
-use Rattle.lexing.specs.Bytes.{isSpace, canStartIdentifierChar, identifierChar, run}
+use Rattle.lexing.specs.Bytes.{isSpace, canStartIdentifierChar, identifierChar, run, bytes}
 use Rattle.lexing.specs.Tokens.{identifierLength}
 use Rattle.tree.specs.Ast.{ILiteral, IdExpr}
-use Rattle.grammar.specs.Words.{bytes, isIdentifier}
+use Rattle.grammar.specs.Words.{isIdentifier}
 use Rattle.grammar.specs.Tokens.{Token, name, nat, mark, lparen, rparen, cut}
 use Rattle.grammar.specs.Grammar.{Tree, Rule, word, Operand, natural, oldVariable, bracketed, Whole}
-use Rattle.grammar.specs.Laws.Cut.{cut-space}
-use Rattle.grammar.specs.Laws.Pieces.{Ends, lengthens, cut-name, cut-mark}
-use Rattle.prints.specs.declared.power.Side.the-variants.{Left, Right}
-use Rattle.prints.specs.declared.format.ExprFormatOption.{ExprFormatOption}
-use Rattle.prints.specs.Text.{_▹_, _▸_, decimal}
-use Rattle.prints.specs.PrintUtil.{parenthesis}
+use Rattle.grammar.specs.Proofs.Laws.Cut.{cut-space}
+use Rattle.grammar.specs.Proofs.Laws.Pieces.{Ends, lengthens, cut-name, cut-mark}
+use Rattle.layout.specs.declared.power.Side.the-variants.{Left, Right}
+use Rattle.layout.specs.declared.format.ExprFormatOption.{ExprFormatOption}
+use Rattle.layout.specs.Text.{_▹_, _▸_, decimal}
+use Rattle.layout.specs.PrintUtil.{parenthesis}
 use Rattle.roundtrip.specs.Levels.{Level, operand, At, fits-in, fits-whole}
 use Rattle.roundtrip.specs.Cutting.{name-starts, natural-starts, cut-natural}
 

@@ -4,17 +4,17 @@ use mathlib.Core.Path.{_≡_, refl, sym, ap, _∙_}
 use mathlib.Core.Bool.{true}
 use mathlib.Core.List.{List, [], _∷_, _++_, append-assoc, append-nil}
 use native.Mathlib.Omega.{arith}
-use Rattle.lexing.specs.Bytes.{isSpace, identifierChar}
+use Rattle.lexing.specs.Bytes.{isSpace, identifierChar, bytes}
 use Rattle.tree.specs.Ast.{FunctionCallExpr, Exprs, noExprs, _then_}
-use Rattle.grammar.specs.Words.{bytes, isName, isIdentifier}
+use Rattle.grammar.specs.Words.{isName, isIdentifier}
 use Rattle.grammar.specs.Tokens.{Token, name, mark, lparen, rparen, comma, cut}
 use Rattle.grammar.specs.Grammar.{Tree, Series, last, also, Items, empty, series, call, Whole}
-use Rattle.grammar.specs.Laws.Cut.{cut-space}
-use Rattle.grammar.specs.Laws.Pieces.{Ends, cut-name, cut-mark}
-use Rattle.prints.specs.declared.format.ExprFormatOption.the-variants.{SingleLine}
-use Rattle.prints.specs.Text.{_▹_, _▸_}
-use Rattle.prints.specs.PrintUtil.{Init}
-use Rattle.prints.specs.Printer.{Operand, ExpressionList}
+use Rattle.grammar.specs.Proofs.Laws.Cut.{cut-space}
+use Rattle.grammar.specs.Proofs.Laws.Pieces.{Ends, cut-name, cut-mark}
+use Rattle.layout.specs.declared.format.ExprFormatOption.the-variants.{SingleLine}
+use Rattle.layout.specs.Text.{_▹_, _▸_}
+use Rattle.layout.specs.PrintUtil.{Init}
+use Rattle.layout.specs.Printer.{Operand, ExpressionList}
 use Rattle.roundtrip.specs.Levels.{Level, operand}
 use Rattle.roundtrip.specs.Cutting.{name-starts}
 use Rattle.roundtrip.specs.Printed.{Printed, whole-printed}

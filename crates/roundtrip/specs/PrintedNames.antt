@@ -3,20 +3,20 @@ use Prim.Native.Nat.{ℕ}
 use mathlib.Core.Path.{_≡_, refl, ap, ap₂}
 use mathlib.Core.Option.{Option, none, some}
 use mathlib.Core.List.{List, [], _∷_, map}
-use Rattle.grammar.specs.Words.{bytes}
+use Rattle.lexing.specs.Bytes.{bytes}
 use Rattle.tree.specs.Ast.{Binding, binding}
 use Rattle.tree.specs.Ast.{Expr, BLiteral, ILiteral, CustomLiteral, IdExpr, OperatorExpr, FunctionCallExpr, LabeledExpr, LetExpr, QuantifierExpr, ClosureExpr}
 use Rattle.tree.specs.Ast.{Exprs, noExprs, _then_, Patterns, noPatterns, pattern}
 use Rattle.tree.specs.Ast.{ClosureBindings, noClosureBindings, closureBinding, ClosureProperties, noClosureProperties, closureProperty}
 use Rattle.tree.specs.Resolve.{mapOption, mapBinding, mapExpr, mapExprs, mapPatterns, mapClosureBindings, mapClosureProperties}
-use Rattle.prints.specs.declared.power.BindingPower.{BindingPower}
-use Rattle.prints.specs.declared.power.Side.the-variants.{Right}
-use Rattle.prints.specs.declared.format.ExprFormatOption.{ExprFormatOption}
-use Rattle.prints.specs.declared.format.ExprFormatOption.the-variants.{SingleLine}
-use Rattle.prints.specs.Text.{_▹_, _▸_}
-use Rattle.prints.specs.PrintUtil.{Space, More, Init, EndlessOperator, SubexpressionPower, BindingStrength}
-use Rattle.prints.specs.Printer.{isIf, ExpressionList, operatorForm, wrapped, quantifierText, IdTypeDecl, Bindings, parameters}
-use Rattle.prints.specs.Printer.{triggersEnd, Expression, operands, patterns, closureBindings, triggers, properties}
+use Rattle.layout.specs.declared.power.BindingPower.{BindingPower}
+use Rattle.layout.specs.declared.power.Side.the-variants.{Right}
+use Rattle.layout.specs.declared.format.ExprFormatOption.{ExprFormatOption}
+use Rattle.layout.specs.declared.format.ExprFormatOption.the-variants.{SingleLine}
+use Rattle.layout.specs.Text.{_▹_, _▸_}
+use Rattle.layout.specs.PrintUtil.{Space, More, Init, EndlessOperator, SubexpressionPower, BindingStrength}
+use Rattle.layout.specs.Printer.{isIf, ExpressionList, operatorForm, wrapped, quantifierText, IdTypeDecl, Bindings, parameters}
+use Rattle.layout.specs.Printer.{triggersEnd, Expression, operands, patterns, closureBindings, triggers, properties}
 
 module _ {N : Type 0} (name : N → List ℕ) (step : ℕ) where
   abbrev same : List ℕ → List ℕ

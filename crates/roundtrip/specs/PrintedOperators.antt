@@ -8,15 +8,15 @@ use Rattle.lexing.specs.Bytes.{isSpace, identifierChar}
 use Rattle.tree.specs.Ast.{Operator, OperatorExpr, noExprs, _then_, ArgumentCount}
 use Rattle.grammar.specs.Tokens.{Token, cut}
 use Rattle.grammar.specs.Grammar.{Tree, single}
-use Rattle.grammar.specs.Laws.Cut.{cut-space}
-use Rattle.grammar.specs.Laws.Pieces.{Ends, lengthens}
-use Rattle.prints.specs.declared.power.BindingPower.{BindingPower}
-use Rattle.prints.specs.declared.power.Side.the-variants.{Left, Right}
-use Rattle.prints.specs.declared.format.ExprFormatOption.{ExprFormatOption}
-use Rattle.prints.specs.declared.format.ExprFormatOption.the-variants.{SingleLine}
-use Rattle.prints.specs.Text.{_▸_}
-use Rattle.prints.specs.PrintUtil.{SubexpressionPower, ToString, BindingStrength}
-use Rattle.prints.specs.Printer.{Operand, unary, binary, breaksLine, rightOperand}
+use Rattle.grammar.specs.Proofs.Laws.Cut.{cut-space}
+use Rattle.grammar.specs.Proofs.Laws.Pieces.{Ends, lengthens}
+use Rattle.layout.specs.declared.power.BindingPower.{BindingPower}
+use Rattle.layout.specs.declared.power.Side.the-variants.{Left, Right}
+use Rattle.layout.specs.declared.format.ExprFormatOption.{ExprFormatOption}
+use Rattle.layout.specs.declared.format.ExprFormatOption.the-variants.{SingleLine}
+use Rattle.layout.specs.Text.{_▸_}
+use Rattle.layout.specs.PrintUtil.{SubexpressionPower, ToString, BindingStrength}
+use Rattle.layout.specs.Printer.{Operand, unary, binary, breaksLine, rightOperand}
 use Rattle.roundtrip.specs.Levels.{Level, fitsIn, fits-in}
 use Rattle.roundtrip.specs.Operators.{tokenOf, levelOf, place, join, prefix, unary-operators}
 use Rattle.roundtrip.specs.Cutting.{cut-blank, Follows, blank-follows, cut-operator}

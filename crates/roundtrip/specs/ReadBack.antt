@@ -19,9 +19,9 @@ use Rattle.reading.specs.TreeRead.{Answered, Leaves}
 use Rattle.reading.specs.Claims.{read-expression-exact}
 use Rattle.reading.specs.declared.entry.Reading.{Reading}
 use Rattle.printing.specs.declared.Printed.the-variants.{Written}
-use Rattle.prints.specs.declared.format.ExprFormatOption.{ExprFormatOption}
-use Rattle.prints.specs.PrintUtil.{Init}
-use Rattle.prints.specs.Printer.{Expression}
+use Rattle.layout.specs.declared.format.ExprFormatOption.{ExprFormatOption}
+use Rattle.layout.specs.PrintUtil.{Init}
+use Rattle.layout.specs.Printer.{Expression}
 use Rattle.printing.specs.Entries.{nameIn, expressions, printOf, PrintAnswered, Holds}
 use Rattle.printing.specs.EntryLaws.{same-tree, expression-laws}
 use Rattle.printing.specs.Claims.{tree-printed, written-tree}

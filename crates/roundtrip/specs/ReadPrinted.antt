@@ -7,7 +7,8 @@ use mathlib.Core.List.{List, []}
 use lib.ListN.{length, take}
 use lib.Dec.{leb, lit≤}
 use borrow.Author.Tests.{leb-true}
-use Rattle.lexing.specs.Answer.{Answer, refused, pick}
+use Rattle.tree.specs.Check.{oversized, misfitting}
+use Rattle.lexing.specs.Answer.{Answer, refused, pick, textTooLong}
 use Rattle.tree.specs.Clash.{impossible}
 use Rattle.tree.specs.Limits.{mostText}
 use Rattle.tree.specs.Words.{programWords}
@@ -21,15 +22,15 @@ use Rattle.printing.specs.Claims as Printer
 
 -- an answer that is no refusal by 6 and none by 7
 pub record Unrefused (r : Printed) : Type 0 where
-  pub within : r ≡ Refused 6 0 → ⊥
-  pub one-tree : (place : ℕ) → r ≡ Refused 7 place → ⊥
+  pub within : r ≡ Refused oversized 0 → ⊥
+  pub one-tree : (place : ℕ) → r ≡ Refused misfitting place → ⊥
 
 -- a text that was read is not too long
 pub read-fits : {A : Type 0} (wordsOf : A → List ℕ) (text : List ℕ) (a : Answer A) (n : ℕ) {k : ℕ} {l : List ℕ} → outcomeBy wordsOf n (unlessLong text a) ≡ words k l
     → length text ≤ mostText
 read-fits wordsOf text a n {k} {l} p = by-length (leb (length text) mostText) refl p
   where
-    by-length : (b : Bool) → leb (length text) mostText ≡ b → outcomeBy wordsOf n (pick b a (refused 1 mostText)) ≡ words k l → length text ≤ mostText
+    by-length : (b : Bool) → leb (length text) mostText ≡ b → outcomeBy wordsOf n (pick b a (refused textTooLong mostText)) ≡ words k l → length text ≤ mostText
     by-length true q p = leb-true (length text) mostText q
     by-length false q p = impossible cc
 

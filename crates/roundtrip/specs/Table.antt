@@ -13,12 +13,12 @@ use Rattle.tree.specs.Ast.{Exprs, BLiteral, ILiteral, CustomLiteral, IdExpr, Op
 use Rattle.tree.specs.Ast.{ClosureExpr}
 use Rattle.grammar.specs.Grammar.{Tree}
 use Rattle.grammar.specs.OperatorTrees.{notOnTheRight, isNoneOf, fitsRight}
-use Rattle.grammar.specs.Laws.Looks.{both-true}
-use Rattle.prints.specs.declared.power.BindingPower.{BindingPower}
-use Rattle.prints.specs.declared.power.Side.{Side}
-use Rattle.prints.specs.declared.power.Side.the-variants.{Left, Right}
+use Rattle.grammar.specs.Proofs.Laws.Looks.{both-true}
+use Rattle.layout.specs.declared.power.BindingPower.{BindingPower}
+use Rattle.layout.specs.declared.power.Side.{Side}
+use Rattle.layout.specs.declared.power.Side.the-variants.{Left, Right}
 use Rattle.printing.specs.OperatorWords.{operators}
-use Rattle.prints.specs.PrintUtil.{BreakTieInFavorOfOperator, pulls, wins, WinsOver, SubexpressionPower, BindingStrength}
+use Rattle.layout.specs.PrintUtil.{BreakTieInFavorOfOperator, pulls, wins, WinsOver, SubexpressionPower, BindingStrength}
 use Rattle.roundtrip.specs.Levels.{Level, operand, within, fitsIn, operand-fits}
 use Rattle.roundtrip.specs.Operators.{levelOf, place}
 

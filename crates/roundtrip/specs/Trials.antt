@@ -1,4 +1,4 @@
--- Document 01's trials that are proved: one list, one theorem. A row is a text, a table's length, and what reading an expression or a program
+-- Document 01's trials that are proved (REFERENCE, "Trials"). A row is a text, a table's length, and what reading an expression or a program
 -- answers and leaves in the table; or a text, a table's words, the output, and what printing on one line answers and leaves in the output.
 use mathlib.Core.Path.{_≡_, refl}
 use Prim.Native.Nat.{ℕ, _+_, _≤_}
@@ -11,12 +11,12 @@ use Rattle.tree.specs.Ast.{Expr, IdExpr, Operator, OperatorExpr, noExprs, _then
 use Rattle.tree.specs.Words.{exprWords}
 use Rattle.tree.specs.Check.{NameIn}
 use Rattle.tree.specs.Resolve.{part}
-use Rattle.grammar.specs.Words.{bytes}
+use Rattle.lexing.specs.Bytes.{bytes}
 use Rattle.grammar.specs.ProgramExamples.{computed as read-computed}
 use Rattle.grammar.specs.Reading.{words, refusal, readExpression, readProgram}
 use Rattle.grammar.specs.Reading as Reading
-use Rattle.prints.specs.declared.format.ExprFormatOption.the-variants.{SingleLine}
-use Rattle.prints.specs.Examples.{computed as print-computed}
+use Rattle.layout.specs.declared.format.ExprFormatOption.the-variants.{SingleLine}
+use Rattle.layout.specs.Examples.{computed as print-computed}
 use Rattle.printing.specs.Entries.{written, stored, expressions, printOf, printExpression}
 use Rattle.printing.specs.Entries as Printing
 use Rattle.printing.specs.EntryLaws as Entry

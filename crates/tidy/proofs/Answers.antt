@@ -8,7 +8,7 @@ use lib.ListN.{length, take, length-take}
 use Rattle.tree.specs.Limits.{mostText, mostWords}
 use Rattle.tree.specs.Check.{programRefusal}
 use Rattle.grammar.specs.Reading.{words, refusal, readProgram}
-use Rattle.grammar.specs.Refusals.Entries.{Refused, Held, program-refused, program-held}
+use Rattle.grammar.specs.Proofs.Refusals.Entries.{Refused, Held, program-refused, program-held}
 use Rattle.grammar.specs.Claims.{read-program-accepted, program-table-long}
 use Rattle.reading.specs.TreeRead.{ProgramAnswered}
 use Rattle.reading.specs.declared.entry.Reading.{Reading}

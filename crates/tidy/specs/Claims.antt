@@ -1,4 +1,4 @@
--- What is proved of tidy (document 01, "The entries"). `Tidied` is its contract: r is the answer, out the output before the call and out′ the
+-- What is proved of tidy (REFERENCE, "The entries"). `Tidied` is its contract: r is the answer, out the output before the call and out′ the
 -- output after it.
 use Prim.Native.Nat.{ℕ, _≤_, _<_}
 use mathlib.Core.Path.{sym, subst}

@@ -1,7 +1,7 @@
--- Document 01's trial of a refusal by tidy, by computation; its other trials are run.
+-- Document 01's trial of a refusal by tidy, by computation (REFERENCE, "Trials"); its other trials of tidy are run.
 use mathlib.Core.Path.{_≡_, refl}
 use lib.ListN.{replicate}
-use Rattle.grammar.specs.Words.{bytes}
+use Rattle.lexing.specs.Bytes.{bytes}
 use Rattle.grammar.specs.ProgramExamples.{computed}
 use Rattle.tidy.specs.Tidy.{tidied, refusalNumber}
 

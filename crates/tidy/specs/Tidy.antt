@@ -1,4 +1,4 @@
--- Tidy (document 01, "The entries"): a program is read with a table of 16,384 words and printed; the answer is one number.
+-- Tidy (REFERENCE, "The entries"): a program is read with a table of 16,384 words and printed; the answer is one number.
 use Prim.Native.Nat.{ℕ, _+_, _*_}
 use mathlib.Core.Path.{_≡_}
 use mathlib.Core.List.{List}

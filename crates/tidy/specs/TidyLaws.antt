@@ -12,7 +12,7 @@ use Rattle.tree.specs.Ast.{Program}
 use Rattle.tree.specs.Words.{programWords}
 use Rattle.tree.specs.Refused.{program-unrefused}
 use Rattle.tree.specs.Clash.{impossible}
-use Rattle.grammar.specs.Laws.Looks.{both-true}
+use Rattle.grammar.specs.Proofs.Laws.Looks.{both-true}
 use Rattle.tree.specs.Limits.{mostText, mostWords}
 use Rattle.tree.specs.Check.{NameIn, Refusal, programRefusal}
 use Rattle.grammar.specs.Reading.{Outcome, words, refusal, readProgram}

@@ -1,4 +1,4 @@
-// Tidy (document 01, "The entries"): a program is read and printed in one call, for a host in C (include/tidy.h).
+// Tidy (REFERENCE, "The entries"): a program is read and printed in one call, for a host in C (include/tidy.h).
 use printing::Printed;
 use printing::print_program;
 use reading::Reading;

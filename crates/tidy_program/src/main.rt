@@ -1,4 +1,4 @@
-// The tidy program (document 01, "The entries"): standard input is read as a program and its print goes to standard output; or one line, the
+// The tidy program (REFERENCE, "The entries"): standard input is read as a program and its print goes to standard output; or one line, the
 // word refused, the number, the word at, the place. Of an input longer than 32,768 bytes one byte more is read, which refuses it.
 use libc::STDIN_FILENO;
 use libc::STDOUT_FILENO;

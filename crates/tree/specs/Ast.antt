@@ -1,6 +1,6 @@
 -- The kinds of RawAst.dfy, with its constructor names and field order. The parameter N is the type of names: a span of the text (`Span`)
 -- in what is read and printed, the bytes themselves in the operator grammar. Every string of upstream, type names and literal texts too, is
--- a name. `resolveExpr` turns spans over a text into bytes: document 01's "trees are equal when names are equal as bytes" is equality after it.
+-- a name. `resolveExpr` turns spans over a text into bytes: equality of trees (REFERENCE, "The tree words") is equality after it.
 --
 -- A `seq` of a kind that holds itself is a type of its own here (`Exprs`, `Stmts`, ..), since antt takes no `List Expr` inside `Expr`.
 -- A datatype of one constructor is a record with upstream's field names, unless it is an item of such a `seq`. A constructor that upstream

@@ -1,4 +1,4 @@
--- The check of a table: its words, read from the first on, against a list of expected kinds. Refusals 6 and 7 of document 01.
+-- The check of a table: its words, read from the first on, against a list of expected kinds. Refusals 6 and 7 (REFERENCE, "The refusals").
 use Prim.Native.Nat.{ℕ, suc, _+_, _-_, _≤_}
 use mathlib.Core.Bool.{Bool, cond}
 use mathlib.Core.Option.{Option, none, some}
@@ -40,7 +40,15 @@ checkExpression words len = check (expr ∷ []) words len
 unfoldable pub checkProgram : List ℕ → ℕ → Checked
 checkProgram words len = check programFields words len
 
--- document 01's refusal number and place, of a check that refuses
+-- The numbers of a print's refusals. Text, words or start indent are past their limits:
+abbrev pub oversized : ℕ
+oversized = 6
+
+-- the words aren't one tree over the text:
+abbrev pub misfitting : ℕ
+misfitting = 7
+
+-- the number and place of a refusal, of a check that refuses
 pub record Refusal : Type 0 where
   pub number : ℕ
   pub place : ℕ
@@ -48,8 +56,8 @@ pub record Refusal : Type 0 where
 -- the refusal of an answer, none where it is one tree's words
 abbrev pub refusal : Checked → Option Refusal
 refusal Tree = none
-refusal (Misfit at) = some (record { number = 7; place = at })
-refusal TooLong = some (record { number = 6; place = 0 })
+refusal (Misfit at) = some (record { number = misfitting; place = at })
+refusal TooLong = some (record { number = oversized; place = 0 })
 
 -- the refusal of a table, none where it is one expression's, or one program's, over a text of that length
 unfoldable pub expressionRefusal : List ℕ → ℕ → Option Refusal

@@ -1,5 +1,5 @@
 -- What may be expected at a word of a table, and what a word that is expected says of the words after it: the kinds of its constructor's
--- fields (document 01, "The tree words"). Upstream's datatypes of one constructor are their fields alone, so they stand here only as the
+-- fields (REFERENCE, "The tree words"). Upstream's datatypes of one constructor are their fields alone, so they stand here only as the
 -- items of options and sequences.
 use Prim.Native.Nat.{ℕ, zero, suc, _-_, _^_}
 use mathlib.Core.Bool.{Bool, cond}

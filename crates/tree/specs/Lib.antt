@@ -2,6 +2,7 @@
 -- what the promises speak of
 pub mod Ast
 pub mod Resolve
+pub mod Tags
 pub mod Words
 pub mod Kind
 pub mod Limits

@@ -1,4 +1,4 @@
--- Document 01's limits, "Words and limits".
+-- The limits of a tree and of a text (REFERENCE, "Limits"); the others stand where they are used.
 use Prim.Native.Nat.{ℕ}
 
 -- the words of a table

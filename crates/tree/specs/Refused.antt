@@ -1,4 +1,4 @@
--- The check's answers in document 01's numbers, and which tables each refusal has.
+-- The check's answers as refusals (REFERENCE, "The refusals"), and which tables each refusal has.
 use Prim.Native.Nat.{ℕ, suc, _-_, _≤_, _<_}
 use native.Mathlib.Omega.{arith}
 use mathlib.Core.Path.{_≡_, refl, ap}

@@ -153,15 +153,15 @@ unfoldable pub part : List ℕ → ℕ → ℕ → List ℕ
 part text start len = take len (drop start text)
 
 -- the bytes of a name
-abbrev pub bytes : List ℕ → Span → List ℕ
-bytes text s = part text (s .start) (s .len)
+abbrev pub bytesOf : List ℕ → Span → List ℕ
+bytesOf text s = part text (s .start) (s .len)
 
 -- a tree over a text, with each name as its bytes
 abbrev pub resolveExpr : List ℕ → Expr Span → Expr (List ℕ)
-resolveExpr text = mapExpr (bytes text)
+resolveExpr text = mapExpr (bytesOf text)
 
 abbrev pub resolveStmt : List ℕ → Stmt Span → Stmt (List ℕ)
-resolveStmt text = mapStmt (bytes text)
+resolveStmt text = mapStmt (bytesOf text)
 
 abbrev pub resolveProgram : List ℕ → Program Span → Program (List ℕ)
-resolveProgram text = mapProgram (bytes text)
+resolveProgram text = mapProgram (bytesOf text)

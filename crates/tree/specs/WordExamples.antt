@@ -1,4 +1,4 @@
--- Closed examples, by computation: the words of each constructor's fields in the order of RawAst.dfy (document 01, "The tree words"), with a
+-- Closed examples, by computation: the words of each constructor's fields in the order of RawAst.dfy (REFERENCE, "The tree words"), with a
 -- different number in every place, and that tables of these words are accepted.
 use Prim.Native.Nat.{ℕ}
 use mathlib.Core.Path.{_≡_, refl}

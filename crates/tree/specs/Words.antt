@@ -1,9 +1,11 @@
--- Document 01, "The tree words": the words of each kind, in the order of the constructor's fields. Each function takes the words that follow,
+-- The words of each kind (REFERENCE, "The tree words"), in the order of the constructor's fields. Each function takes the words that follow,
 -- so `exprWords span e []` are e's words alone. `span` gives the start and the length of a name; it is `λ s. s` where the names are spans.
 use Prim.Native.Nat.{ℕ, _/_, _%_, _^_}
 use mathlib.Core.Bool.{Bool, true, false}
 use mathlib.Core.Option.{Option, none, some}
 use mathlib.Core.List.{List, [], _∷_}
+use Rattle.tree.specs.Tags.{more, noMore, bLiteralTag, iLiteralTag, customLiteralTag, idExprTag, operatorExprTag, functionCallExprTag, labeledExprTag, letExprTag, quantifierExprTag, closureExprTag}
+use Rattle.tree.specs.Tags.{varDeclTag, assignTag, reinitTag, blockTag, callTag, checkTag, assumeTag, reachTag, assertTag, aForallTag, chooseTag, ifTag, ifCaseTag, loopTag, labeledStmtTag, exitTag, returnTag, probeTag, aExprTag, aAssertionTag}
 use Rattle.tree.specs.Ast.{Span, ParameterMode, In, InOut, Out, Binding, binding, Variable, CallArgument}
 use Rattle.tree.specs.Ast.{Tagger, FParameter, FunctionDefinition, Function, Axiom, PParameter, Procedure, Program}
 use Rattle.tree.specs.Ast.{Operator, IfThenElse, Equiv, LogicalImp, LogicalAnd, LogicalOr, Eq, Neq, Less, AtMost, Plus, Minus, Times, Div, Mod, LogicalNot, UnaryMinus}
@@ -49,13 +51,13 @@ naturalWords n rest = n / 2 ^ 32 ∷ n % 2 ^ 32 ∷ rest
 
 -- Option: 0, or 1 and the content
 abbrev pub optionWords : {A : Type 0} → (A → List ℕ → List ℕ) → Option A → List ℕ → List ℕ
-optionWords words none rest = 0 ∷ rest
-optionWords words (some a) rest = 1 ∷ words a rest
+optionWords words none rest = noMore ∷ rest
+optionWords words (some a) rest = more ∷ words a rest
 
 -- Sequence: 1 before each item, 0 at the end
 abbrev pub seqWords : {A : Type 0} → (A → List ℕ → List ℕ) → List A → List ℕ → List ℕ
-seqWords words [] rest = 0 ∷ rest
-seqWords words (a ∷ l) rest = 1 ∷ words a (seqWords words l rest)
+seqWords words [] rest = noMore ∷ rest
+seqWords words (a ∷ l) rest = more ∷ words a (seqWords words l rest)
 
 module _ {N : Type 0} (span : N → Span) where
   -- String: start and length in the text
@@ -68,32 +70,32 @@ module _ {N : Type 0} (span : N → Span) where
   -- Expr begins with 1 to 10
   abbrev mutual
     pub exprWords : Expr N → List ℕ → List ℕ
-    exprWords (BLiteral b) rest = 1 ∷ boolWord b ∷ rest
-    exprWords (ILiteral n) rest = 2 ∷ naturalWords n rest
-    exprWords (CustomLiteral s t) rest = 3 ∷ nameWords s (nameWords t rest)
-    exprWords (IdExpr n o) rest = 4 ∷ nameWords n (boolWord o ∷ rest)
-    exprWords (OperatorExpr o es) rest = 5 ∷ operatorWord o ∷ exprsWords es rest
-    exprWords (FunctionCallExpr n es) rest = 6 ∷ nameWords n (exprsWords es rest)
-    exprWords (LabeledExpr n e) rest = 7 ∷ nameWords n (exprWords e rest)
-    exprWords (LetExpr n t r e) rest = 8 ∷ nameWords n (optionWords nameWords t (exprWords r (exprWords e rest)))
-    exprWords (QuantifierExpr u bs ps e) rest = 9 ∷ boolWord u ∷ seqWords bindingWords bs (patternsWords ps (exprWords e rest))
-    exprWords (ClosureExpr bs n t ps) rest = 10 ∷ closureBindingsWords bs (nameWords n (nameWords t (closurePropertiesWords ps rest)))
+    exprWords (BLiteral b) rest = bLiteralTag ∷ boolWord b ∷ rest
+    exprWords (ILiteral n) rest = iLiteralTag ∷ naturalWords n rest
+    exprWords (CustomLiteral s t) rest = customLiteralTag ∷ nameWords s (nameWords t rest)
+    exprWords (IdExpr n o) rest = idExprTag ∷ nameWords n (boolWord o ∷ rest)
+    exprWords (OperatorExpr o es) rest = operatorExprTag ∷ operatorWord o ∷ exprsWords es rest
+    exprWords (FunctionCallExpr n es) rest = functionCallExprTag ∷ nameWords n (exprsWords es rest)
+    exprWords (LabeledExpr n e) rest = labeledExprTag ∷ nameWords n (exprWords e rest)
+    exprWords (LetExpr n t r e) rest = letExprTag ∷ nameWords n (optionWords nameWords t (exprWords r (exprWords e rest)))
+    exprWords (QuantifierExpr u bs ps e) rest = quantifierExprTag ∷ boolWord u ∷ seqWords bindingWords bs (patternsWords ps (exprWords e rest))
+    exprWords (ClosureExpr bs n t ps) rest = closureExprTag ∷ closureBindingsWords bs (nameWords n (nameWords t (closurePropertiesWords ps rest)))
 
     pub exprsWords : Exprs N → List ℕ → List ℕ
-    exprsWords noExprs rest = 0 ∷ rest
-    exprsWords (_then_ e es) rest = 1 ∷ exprWords e (exprsWords es rest)
+    exprsWords noExprs rest = noMore ∷ rest
+    exprsWords (_then_ e es) rest = more ∷ exprWords e (exprsWords es rest)
 
     pub patternsWords : Patterns N → List ℕ → List ℕ
-    patternsWords noPatterns rest = 0 ∷ rest
-    patternsWords (pattern es ps) rest = 1 ∷ exprsWords es (patternsWords ps rest)
+    patternsWords noPatterns rest = noMore ∷ rest
+    patternsWords (pattern es ps) rest = more ∷ exprsWords es (patternsWords ps rest)
 
     pub closureBindingsWords : ClosureBindings N → List ℕ → List ℕ
-    closureBindingsWords noClosureBindings rest = 0 ∷ rest
-    closureBindingsWords (closureBinding n ps e bs) rest = 1 ∷ nameWords n (seqWords bindingWords ps (exprWords e (closureBindingsWords bs rest)))
+    closureBindingsWords noClosureBindings rest = noMore ∷ rest
+    closureBindingsWords (closureBinding n ps e bs) rest = more ∷ nameWords n (seqWords bindingWords ps (exprWords e (closureBindingsWords bs rest)))
 
     pub closurePropertiesWords : ClosureProperties N → List ℕ → List ℕ
-    closurePropertiesWords noClosureProperties rest = 0 ∷ rest
-    closurePropertiesWords (closureProperty ts e ps) rest = 1 ∷ patternsWords ts (exprWords e (closurePropertiesWords ps rest))
+    closurePropertiesWords noClosureProperties rest = noMore ∷ rest
+    closurePropertiesWords (closureProperty ts e ps) rest = more ∷ patternsWords ts (exprWords e (closurePropertiesWords ps rest))
 
   abbrev pub variableWords : Variable N → List ℕ → List ℕ
   variableWords v rest =
@@ -106,40 +108,40 @@ module _ {N : Type 0} (span : N → Span) where
   -- Stmt begins with 21 to 38; `AExpr` 1, `AAssertion` 2
   abbrev mutual
     pub stmtWords : Stmt N → List ℕ → List ℕ
-    stmtWords (VarDecl v i s) rest = 21 ∷ variableWords v (optionWords exprWords i (stmtWords s rest))
-    stmtWords (Assign n e) rest = 22 ∷ nameWords n (exprWords e rest)
-    stmtWords (Reinit ns) rest = 23 ∷ seqWords nameWords ns rest
-    stmtWords (Block ss) rest = 24 ∷ stmtsWords ss rest
-    stmtWords (Call n cs) rest = 25 ∷ nameWords n (seqWords callArgumentWords cs rest)
-    stmtWords (Check e) rest = 26 ∷ exprWords e rest
-    stmtWords (Assume e) rest = 27 ∷ exprWords e rest
-    stmtWords (Reach e) rest = 28 ∷ exprWords e rest
-    stmtWords (Assert e) rest = 29 ∷ exprWords e rest
-    stmtWords (AForall n t s) rest = 30 ∷ nameWords n (nameWords t (stmtWords s rest))
-    stmtWords (Choose ss) rest = 31 ∷ stmtsWords ss rest
-    stmtWords (If e s t) rest = 32 ∷ exprWords e (stmtWords s (stmtWords t rest))
-    stmtWords (IfCase cs) rest = 33 ∷ casesWords cs rest
-    stmtWords (Loop is s) rest = 34 ∷ aExprsWords is (stmtWords s rest)
-    stmtWords (LabeledStmt n s) rest = 35 ∷ nameWords n (stmtWords s rest)
-    stmtWords (Exit l) rest = 36 ∷ optionWords nameWords l rest
-    stmtWords Return rest = 37 ∷ rest
-    stmtWords (Probe e) rest = 38 ∷ exprWords e rest
+    stmtWords (VarDecl v i s) rest = varDeclTag ∷ variableWords v (optionWords exprWords i (stmtWords s rest))
+    stmtWords (Assign n e) rest = assignTag ∷ nameWords n (exprWords e rest)
+    stmtWords (Reinit ns) rest = reinitTag ∷ seqWords nameWords ns rest
+    stmtWords (Block ss) rest = blockTag ∷ stmtsWords ss rest
+    stmtWords (Call n cs) rest = callTag ∷ nameWords n (seqWords callArgumentWords cs rest)
+    stmtWords (Check e) rest = checkTag ∷ exprWords e rest
+    stmtWords (Assume e) rest = assumeTag ∷ exprWords e rest
+    stmtWords (Reach e) rest = reachTag ∷ exprWords e rest
+    stmtWords (Assert e) rest = assertTag ∷ exprWords e rest
+    stmtWords (AForall n t s) rest = aForallTag ∷ nameWords n (nameWords t (stmtWords s rest))
+    stmtWords (Choose ss) rest = chooseTag ∷ stmtsWords ss rest
+    stmtWords (If e s t) rest = ifTag ∷ exprWords e (stmtWords s (stmtWords t rest))
+    stmtWords (IfCase cs) rest = ifCaseTag ∷ casesWords cs rest
+    stmtWords (Loop is s) rest = loopTag ∷ aExprsWords is (stmtWords s rest)
+    stmtWords (LabeledStmt n s) rest = labeledStmtTag ∷ nameWords n (stmtWords s rest)
+    stmtWords (Exit l) rest = exitTag ∷ optionWords nameWords l rest
+    stmtWords Return rest = returnTag ∷ rest
+    stmtWords (Probe e) rest = probeTag ∷ exprWords e rest
 
     pub stmtsWords : Stmts N → List ℕ → List ℕ
-    stmtsWords noStmts rest = 0 ∷ rest
-    stmtsWords (stmts s ss) rest = 1 ∷ stmtWords s (stmtsWords ss rest)
+    stmtsWords noStmts rest = noMore ∷ rest
+    stmtsWords (stmts s ss) rest = more ∷ stmtWords s (stmtsWords ss rest)
 
     pub casesWords : Cases N → List ℕ → List ℕ
-    casesWords noCases rest = 0 ∷ rest
-    casesWords (case e s cs) rest = 1 ∷ exprWords e (stmtWords s (casesWords cs rest))
+    casesWords noCases rest = noMore ∷ rest
+    casesWords (case e s cs) rest = more ∷ exprWords e (stmtWords s (casesWords cs rest))
 
     pub aExprWords : AExpr N → List ℕ → List ℕ
-    aExprWords (aExpr e) rest = 1 ∷ exprWords e rest
-    aExprWords (AAssertion s) rest = 2 ∷ stmtWords s rest
+    aExprWords (aExpr e) rest = aExprTag ∷ exprWords e rest
+    aExprWords (AAssertion s) rest = aAssertionTag ∷ stmtWords s rest
 
     pub aExprsWords : AExprs N → List ℕ → List ℕ
-    aExprsWords noAExprs rest = 0 ∷ rest
-    aExprsWords (aExprs a es) rest = 1 ∷ aExprWords a (aExprsWords es rest)
+    aExprsWords noAExprs rest = noMore ∷ rest
+    aExprsWords (aExprs a es) rest = more ∷ aExprWords a (aExprsWords es rest)
 
   abbrev pub taggerWords : Tagger N → List ℕ → List ℕ
   taggerWords t rest = nameWords (t .name) (nameWords (t .typ) rest)

@@ -1,8 +1,9 @@
-// The tree words of B3 (document 01, "The tree words"): the check that a table's words are one tree over a text, and the small
+// The tree words of B3 (REFERENCE, "The tree words"): the check that a table's words are one tree over a text, and the small
 // functions by which checked words are read.
 mod frames;
 mod rows;
 mod walk;
+pub mod word;
 
 use rows::EXPR;
 use rows::PROGRAM;
@@ -19,6 +20,11 @@ ghost use Rattle.tree.specs.Tally.{counts as countsOf, expressionCounts,
 pub const MOST_WORDS: usize = 16384;
 
 pub const MOST_TEXT: usize = 32768;
+
+// The numbers of a print's refusals: text, words or start indent are past their limits; the words aren't one tree over the text.
+pub const OVERSIZED: u64 = 6;
+
+pub const MISFITTING: u64 = 7;
 
 // What the check of a table finds.
 pub enum Checked {

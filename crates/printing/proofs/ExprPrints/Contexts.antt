@@ -6,15 +6,15 @@ use mathlib.Core.Bool.{Bool, true, false}
 use mathlib.Core.List.{List, _∷_, _++_}
 use lib.ListN.{getD}
 use Rattle.lexing.specs.Answer.{pick}
-use Rattle.grammar.specs.Words.{bytes}
+use Rattle.lexing.specs.Bytes.{bytes}
 use Rattle.tree.specs.Ast.{Operator, Expr}
 use Rattle.tree.specs.Words.{operatorWord}
-use Rattle.prints.specs.declared.power.BindingPower.{BindingPower}
-use Rattle.prints.specs.declared.power.Side.{Side}
-use Rattle.prints.specs.declared.format.ExprFormatOption.{ExprFormatOption}
-use Rattle.prints.specs.declared.format.ExprFormatOption.the-variants.{SingleLine}
-use Rattle.prints.specs.PrintUtil.{Space, More, Deeper, startIndent, SubexpressionPower, BindingStrength}
-use Rattle.prints.specs.Printer.{breaksLine, isIf}
+use Rattle.layout.specs.declared.power.BindingPower.{BindingPower}
+use Rattle.layout.specs.declared.power.Side.{Side}
+use Rattle.layout.specs.declared.format.ExprFormatOption.{ExprFormatOption}
+use Rattle.layout.specs.declared.format.ExprFormatOption.the-variants.{SingleLine}
+use Rattle.layout.specs.PrintUtil.{Space, More, Deeper, startIndent, SubexpressionPower, BindingStrength}
+use Rattle.layout.specs.Printer.{breaksLine, isIf}
 use Rattle.printing.specs.OperatorWords.{operatorOf}
 use Rattle.printing.specs.Wrote.{Wrote}
 use Rattle.printing.specs.ExprParts.{Ready}

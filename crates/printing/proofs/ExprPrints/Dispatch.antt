@@ -15,11 +15,11 @@ use Rattle.tree.specs.Check.{NameIn}
 use Rattle.tree.specs.Counted.{exprCount, CountedExpr}
 use Rattle.tree.specs.Trees.{namesIn}
 use Rattle.tree.specs.Walk.{head-at, tree-at-word, word-range}
-use Rattle.printing.specs.declared.parts.Step.{Step}
-use Rattle.prints.specs.declared.power.BindingPower.{BindingPower}
-use Rattle.prints.specs.declared.format.ExprFormatOption.{ExprFormatOption}
-use Rattle.prints.specs.Printer.{conditional, unary, binary, listed, operatorForm, Expression, operands}
-use Rattle.prints.specs.PrintUtil.{startIndent}
+use Rattle.printing.specs.declared.parts.Advance.{Advance}
+use Rattle.layout.specs.declared.power.BindingPower.{BindingPower}
+use Rattle.layout.specs.declared.format.ExprFormatOption.{ExprFormatOption}
+use Rattle.layout.specs.Printer.{conditional, unary, binary, listed, operatorForm, Expression, operands}
+use Rattle.layout.specs.PrintUtil.{startIndent}
 use Rattle.printing.specs.Entries.{nameIn}
 use Rattle.printing.specs.OperatorWords.{operatorOf}
 use Rattle.printing.specs.Parts.{Part, Done, Prints, leaf}
@@ -34,7 +34,7 @@ plain q k = (record { few = k .0 .few; short = k .0 .short; room = omega arith }
 
 -- ---- an expression by its word
 
-module _ (text counts : List ℕ) (step : ℕ) {table : List ℕ} {at : ℕ} (context : BindingPower) (format : ExprFormatOption) {b : List ℕ} {p : ℕ} {b₁ : List ℕ} {s : Step} where
+module _ (text counts : List ℕ) (step : ℕ) {table : List ℕ} {at : ℕ} (context : BindingPower) (format : ExprFormatOption) {b : List ℕ} {p : ℕ} {b₁ : List ℕ} {s : Advance} where
   -- an expression is printed as the part that its word tells
   by-word : (P : Part) (make : P .Tree → Expr (NameIn (length text))) → ((a : P .Tree) (rest : List ℕ) → Ready table step at (startIndent format) × CountedExpr (λ n. n .span) counts (length table) (make a) rest → P .given a rest)
       → ((a : P .Tree) (rest : List ℕ) → P .words a rest ≡ exprWords (λ n. n .span) (make a) rest)
@@ -184,7 +184,7 @@ listed-form text step o (_then_ a (_then_ b noExprs)) h₁ h₂ h₃ = rw (ne-eq
 listed-form text step o (_then_ a (_then_ b (_then_ c noExprs))) h₁ h₂ h₃ = rw (ne-eqb (ArgumentCount o) 3 (λ e. h₃ (rw e)))
 listed-form text step o (_then_ a (_then_ b (_then_ c (_then_ d es)))) h₁ h₂ h₃ = refl
 
-module _ (text counts : List ℕ) (step : ℕ) {table : List ℕ} {at : ℕ} (context : BindingPower) (format : ExprFormatOption) {b : List ℕ} {p : ℕ} {b₁ : List ℕ} {s : Step} where
+module _ (text counts : List ℕ) (step : ℕ) {table : List ℕ} {at : ℕ} (context : BindingPower) (format : ExprFormatOption) {b : List ℕ} {p : ℕ} {b₁ : List ℕ} {s : Advance} where
   -- an alternative for a shape of operands
   by-form : (P : Part) (op : P .Tree → Operator) (es : P .Tree → Exprs (NameIn (length text)))
       → ((a : P .Tree) (rest : List ℕ) → Ready table step at (startIndent format) × CountedExpr (λ n. n .span) counts (length table) (OperatorExpr (op a) (es a)) rest

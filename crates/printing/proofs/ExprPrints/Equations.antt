@@ -6,17 +6,17 @@ use mathlib.Core.Option.{Option}
 use mathlib.Core.List.{List, [], _++_}
 use lib.ListN.{length}
 use Rattle.lexing.specs.Answer.{pick}
-use Rattle.grammar.specs.Words.{bytes}
+use Rattle.lexing.specs.Bytes.{bytes}
 use Rattle.tree.specs.Ast.{Binding, Operator, Expr, OperatorExpr, FunctionCallExpr, LabeledExpr, LetExpr, QuantifierExpr, ClosureExpr, Exprs, _then_, Patterns, pattern}
 use Rattle.tree.specs.Ast.{ClosureBindings, closureBinding, ClosureProperties, closureProperty}
 use Rattle.tree.specs.Check.{NameIn}
-use Rattle.prints.specs.declared.power.BindingPower.{BindingPower}
-use Rattle.prints.specs.declared.power.Side.the-variants.{Left, Right}
-use Rattle.prints.specs.declared.format.ExprFormatOption.{ExprFormatOption}
-use Rattle.prints.specs.declared.format.ExprFormatOption.the-variants.{SingleLine}
-use Rattle.prints.specs.PrintUtil.{Space, More, Init, EndlessOperator, SubexpressionPower, Parenthesis, ToString, BindingStrength}
-use Rattle.prints.specs.Printer.{quantifierText, IdTypeDecl, Bindings, parameters, triggersEnd, ExpressionList, Expression, operands, patterns, closureBindings, triggers, properties}
-use Rattle.prints.specs.Printer.{breaksLine, isIf, conditional, binary, operatorForm, elseBranch, rightOperand}
+use Rattle.layout.specs.declared.power.BindingPower.{BindingPower}
+use Rattle.layout.specs.declared.power.Side.the-variants.{Left, Right}
+use Rattle.layout.specs.declared.format.ExprFormatOption.{ExprFormatOption}
+use Rattle.layout.specs.declared.format.ExprFormatOption.the-variants.{SingleLine}
+use Rattle.layout.specs.PrintUtil.{Space, More, Init, EndlessOperator, SubexpressionPower, Parenthesis, ToString, BindingStrength}
+use Rattle.layout.specs.Printer.{quantifierText, IdTypeDecl, Bindings, parameters, triggersEnd, ExpressionList, Expression, operands, patterns, closureBindings, triggers, properties}
+use Rattle.layout.specs.Printer.{breaksLine, isIf, conditional, binary, operatorForm, elseBranch, rightOperand}
 use Rattle.printing.specs.ExprParts.{operand}
 use Rattle.printing.specs.Entries.{nameIn}
 

@@ -8,13 +8,13 @@ use Rattle.tree.specs.Ast.{Expr}
 use Rattle.tree.specs.Words.{exprWords}
 use Rattle.tree.specs.Check.{NameIn}
 use Rattle.tree.specs.Counted.{CountedExpr}
-use Rattle.printing.specs.declared.parts.Step.{Step}
-use Rattle.prints.specs.declared.power.BindingPower.{BindingPower}
-use Rattle.prints.specs.declared.format.ExprFormatOption.{ExprFormatOption}
-use Rattle.prints.specs.declared.format.ExprFormatOption.the-variants.{SingleLine, MultipleLines}
-use Rattle.prints.specs.PrintUtil.{More, Deeper, startIndent}
-use Rattle.prints.specs.Indents.{held-format}
-use Rattle.prints.specs.Printer.{Expression}
+use Rattle.printing.specs.declared.parts.Advance.{Advance}
+use Rattle.layout.specs.declared.power.BindingPower.{BindingPower}
+use Rattle.layout.specs.declared.format.ExprFormatOption.{ExprFormatOption}
+use Rattle.layout.specs.declared.format.ExprFormatOption.the-variants.{SingleLine, MultipleLines}
+use Rattle.layout.specs.PrintUtil.{More, Deeper, startIndent}
+use Rattle.layout.specs.Indents.{held-format}
+use Rattle.layout.specs.Printer.{Expression}
 use Rattle.printing.specs.Entries.{nameIn}
 use Rattle.printing.specs.ExprParts.{Ready, anExpr}
 use Rattle.printing.specs.Wrote.{Wrote}
@@ -84,14 +84,14 @@ pub same-print : {A : Type 0} (F : A → List ℕ → List ℕ) {a a₁ : A} {b 
 same-print {A} F {b = b} {p = p} {b₁ = b₁} {p₁ = p₁} e w = subst (λ (x : A). Wrote (F x) b p b₁ p₁) e w
 
 -- an expression's print in a context and a format that are equal
-pub in-terms : (txt : List ℕ) (step : ℕ) (e : Expr (NameIn (length txt))) {c d : BindingPower} {f g : ExprFormatOption} {table rest b : List ℕ} {p : ℕ} {b₁ : List ℕ} {s : Step} → c ≡ d → f ≡ g
+pub in-terms : (txt : List ℕ) (step : ℕ) (e : Expr (NameIn (length txt))) {c d : BindingPower} {f g : ExprFormatOption} {table rest b : List ℕ} {p : ℕ} {b₁ : List ℕ} {s : Advance} → c ≡ d → f ≡ g
     → Done table (λ r. Expression (nameIn txt) step e c f r) rest b p b₁ s → Done table (λ r. Expression (nameIn txt) step e d g r) rest b p b₁ s
 in-terms txt step e {d = d} {f = f} {table = table} {rest = rest} {b = b} {p = p} {b₁ = b₁} {s = s} h k x =
     subst (λ (v : ExprFormatOption). Done table (λ r. Expression (nameIn txt) step e d v r) rest b p b₁ s) k
     (subst (λ (v : BindingPower). Done table (λ r. Expression (nameIn txt) step e v f r) rest b p b₁ s) h x)
 
 -- an expression was printed, in a context and a format that the definition has in other terms
-abbrev pub expression : (l : Reached) (f : ExprFormatOption) {c : BindingPower} {b : List ℕ} {s : Step}
+abbrev pub expression : (l : Reached) (f : ExprFormatOption) {c : BindingPower} {b : List ℕ} {s : Advance}
     → Prints (anExpr (l .origin .known .text) (l .origin .table) (l .origin .known .counts) (l .origin .known .step) (l .next) c f) (l .origin .table) (l .next) (l .buffer) (l .pos) b s
     → (of : Begun (l .origin) → Expr (NameIn (length (l .origin .known .text)))) (ws : Begun (l .origin) → List ℕ)
     → ((x : Begun (l .origin)) → Ready (l .origin .table) (l .origin .known .step) (l .next) (startIndent f) × CountedExpr (λ n. n .span) (l .origin .known .counts) (length (l .origin .table)) (of x) (ws x))

@@ -5,13 +5,13 @@ use mathlib.Core.Bool.{Bool}
 use mathlib.Core.List.{List}
 use lib.ListN.{drop, getD}
 use lib.Dec.{eqb}
-use Rattle.grammar.specs.Words.{bytes}
+use Rattle.lexing.specs.Bytes.{bytes}
 use Rattle.tree.specs.Ast.{Binding, Expr, Exprs, noExprs, _then_, Patterns, noPatterns, pattern}
 use Rattle.tree.specs.Ast.{ClosureBindings, noClosureBindings, closureBinding, ClosureProperties, noClosureProperties, closureProperty}
 use Rattle.tree.specs.Words.{patternsWords}
-use Rattle.prints.specs.declared.format.ExprFormatOption.{ExprFormatOption}
-use Rattle.prints.specs.Printer.{ExpressionList, triggersEnd, operands, patterns, closureBindings, triggers, properties}
-use Rattle.prints.specs.Text.{unless}
+use Rattle.layout.specs.declared.format.ExprFormatOption.{ExprFormatOption}
+use Rattle.layout.specs.Printer.{ExpressionList, triggersEnd, operands, patterns, closureBindings, triggers, properties}
+use Rattle.layout.specs.Text.{unless}
 use Rattle.printing.specs.Parts.{Part}
 use Rattle.printing.specs.ExprParts.{expressionList, patternList, triggerList, closureList, propertyList}
 use Rattle.printing.proofs.PartPrints.Joins.{word-at}

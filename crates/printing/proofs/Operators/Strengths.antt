@@ -3,11 +3,11 @@ use Prim.Native.Nat.{ℕ}
 use mathlib.Core.Path.{_≡_}
 use mathlib.Core.Bool.{Bool, true, false}
 use mathlib.Core.List.{List, [], _∷_, _++_}
-use Rattle.prints.specs.declared.power.Side.{Side}
-use Rattle.prints.specs.declared.power.BindingPower.{BindingPower}
-use Rattle.prints.specs.declared.format.ExprFormatOption.{ExprFormatOption}
-use Rattle.prints.specs.declared.format.ExprFormatOption.the-variants.{SingleLine, MultipleLines}
-use Rattle.prints.specs.PrintUtil.{Space, WinsOver, parenthesis, Parenthesis}
+use Rattle.layout.specs.declared.power.Side.{Side}
+use Rattle.layout.specs.declared.power.BindingPower.{BindingPower}
+use Rattle.layout.specs.declared.format.ExprFormatOption.{ExprFormatOption}
+use Rattle.layout.specs.declared.format.ExprFormatOption.the-variants.{SingleLine, MultipleLines}
+use Rattle.layout.specs.PrintUtil.{Space, WinsOver, parenthesis, Parenthesis}
 use Rattle.printing.specs.Wrote.{Wrote}
 use Rattle.printing.proofs.Writing.Bytes.{none}
 

@@ -6,7 +6,7 @@ use mathlib.Core.List.{List, _∷_, _++_}
 use lib.ListN.{length, drop, getD}
 use borrow.Author.Tests.{eq-eqb, ne-eqb}
 use Rattle.lexing.specs.Answer.{pick}
-use Rattle.grammar.specs.Words.{bytes}
+use Rattle.lexing.specs.Bytes.{bytes}
 use Rattle.tree.specs.Ast.{Operator, Exprs, OperatorExpr, ArgumentCount}
 use Rattle.tree.specs.Words.{operatorWord, exprWords, exprsWords}
 use Rattle.tree.specs.Kind.{ofExpr}
@@ -14,12 +14,12 @@ use Rattle.tree.specs.Check.{NameIn}
 use Rattle.tree.specs.Trees.{namesIn}
 use Rattle.tree.specs.Counted.{exprCount, CountedExpr}
 use Rattle.tree.specs.CountLaws.{noted-at}
-use Rattle.prints.specs.declared.power.BindingPower.{BindingPower}
-use Rattle.prints.specs.declared.power.Side.{Side}
-use Rattle.prints.specs.declared.format.ExprFormatOption.{ExprFormatOption}
-use Rattle.prints.specs.declared.format.ExprFormatOption.the-variants.{SingleLine}
-use Rattle.prints.specs.PrintUtil.{Space, Deeper, SubexpressionPower, ToString, BindingStrength}
-use Rattle.prints.specs.Printer.{breaksLine, isIf}
+use Rattle.layout.specs.declared.power.BindingPower.{BindingPower}
+use Rattle.layout.specs.declared.power.Side.{Side}
+use Rattle.layout.specs.declared.format.ExprFormatOption.{ExprFormatOption}
+use Rattle.layout.specs.declared.format.ExprFormatOption.the-variants.{SingleLine}
+use Rattle.layout.specs.PrintUtil.{Space, Deeper, SubexpressionPower, ToString, BindingStrength}
+use Rattle.layout.specs.Printer.{breaksLine, isIf}
 use Rattle.printing.specs.OperatorWords.{operatorOf}
 use Rattle.printing.specs.Wrote.{Wrote}
 use Rattle.printing.specs.Parts.{Next, IsIf}

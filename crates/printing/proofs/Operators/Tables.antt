@@ -7,14 +7,14 @@ use mathlib.Core.List.{List, [], _∷_, _++_}
 use lib.ListN.{getD, List·getD-eq-default}
 use lib.Dec.{leb, ltb}
 use borrow.Author.Tests.{leb-true, leb-false, le-ltb}
-use Rattle.grammar.specs.Words.{bytes}
+use Rattle.lexing.specs.Bytes.{bytes}
 use Rattle.tree.specs.Ast.{Operator, IfThenElse, Equiv, LogicalImp, LogicalAnd, LogicalOr, Eq, Neq, Less, AtMost, Plus, Minus, Times, Div, Mod, LogicalNot, UnaryMinus, ArgumentCount}
 use Rattle.tree.specs.Resolve.{part}
 use Rattle.tree.specs.Words.{operatorWord}
-use Rattle.prints.specs.declared.power.TieBreaker.the-variants.{OperatorWins, ContextWins}
+use Rattle.layout.specs.declared.power.TieBreaker.the-variants.{OperatorWins, ContextWins}
 use Rattle.printing.specs.OperatorWords.{operators, operatorOf}
-use Rattle.prints.specs.PrintUtil.{power, ToString, BindingStrength}
-use Rattle.prints.specs.Printer.{breaksLine}
+use Rattle.layout.specs.PrintUtil.{power, ToString, BindingStrength}
+use Rattle.layout.specs.Printer.{breaksLine}
 use Rattle.printing.specs.Wrote.{Wrote}
 
 -- an operator's word gives the operator

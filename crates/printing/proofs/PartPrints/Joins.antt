@@ -7,7 +7,7 @@ use mathlib.Core.List.{List, [], _∷_}
 use lib.ListN.{length, drop, getD}
 use Rattle.tree.specs.Words.{boolWord}
 use Rattle.tree.specs.Walk.{head-at}
-use Rattle.printing.specs.declared.parts.Step.{Step}
+use Rattle.printing.specs.declared.parts.Advance.{Advance}
 use Rattle.printing.specs.Wrote.{Wrote}
 use Rattle.printing.specs.Parts.{Done, Next}
 use Rattle.printing.proofs.Writing.Bytes.{then}
@@ -16,20 +16,20 @@ use Rattle.printing.proofs.Writing.Bytes.{then}
 
 module _ {table : List ℕ} {X Y : List ℕ → List ℕ} {b b₁ b₂ : List ℕ} {p : ℕ} where
   -- bytes, and then a print
-  pub text-then : {p₁ : ℕ} {rest : List ℕ} {s : Step} → Wrote X b p b₁ p₁ → Done table Y rest b₁ p₁ b₂ s → Done table (λ r. X (Y r)) rest b p b₂ s
+  pub text-then : {p₁ : ℕ} {rest : List ℕ} {s : Advance} → Wrote X b p b₁ p₁ → Done table Y rest b₁ p₁ b₂ s → Done table (λ r. X (Y r)) rest b p b₂ s
   text-then w d = record { after = d .after; wrote = then w (d .wrote) }
 
   -- a print, and then bytes
-  pub then-text : {p₁ : ℕ} {rest : List ℕ} {s : Step} → Done table X rest b p b₁ s → Wrote Y b₁ (s .pos) b₂ p₁
+  pub then-text : {p₁ : ℕ} {rest : List ℕ} {s : Advance} → Done table X rest b p b₁ s → Wrote Y b₁ (s .pos) b₂ p₁
       → Done table (λ r. X (Y r)) rest b p b₂ (record { next = s .next; pos = p₁ })
   then-text d w = record { after = d .after; wrote = then (d .wrote) w }
 
   -- a print, and then a print
-  pub done-then : {mid rest : List ℕ} {s t : Step} → Done table X mid b p b₁ s → Done table Y rest b₁ (s .pos) b₂ t → Done table (λ r. X (Y r)) rest b p b₂ t
+  pub done-then : {mid rest : List ℕ} {s t : Advance} → Done table X mid b p b₁ s → Done table Y rest b₁ (s .pos) b₂ t → Done table (λ r. X (Y r)) rest b p b₂ t
   done-then d e = record { after = e .after; wrote = then (d .wrote) (e .wrote) }
 
 -- the same print, at another place of the table
-pub moved : {table : List ℕ} {X : List ℕ → List ℕ} {mid rest b : List ℕ} {p : ℕ} {b′ : List ℕ} {s : Step} (next : ℕ) → Done table X mid b p b′ s
+pub moved : {table : List ℕ} {X : List ℕ → List ℕ} {mid rest b : List ℕ} {p : ℕ} {b′ : List ℕ} {s : Advance} (next : ℕ) → Done table X mid b p b′ s
     → drop next table ≡ rest → Done table X rest b p b′ (record { next = next; pos = s .pos })
 moved next d e = record { after = e; wrote = d .wrote }
 

@@ -7,19 +7,19 @@ use mathlib.Core.Bool.{Bool, true, false}
 use mathlib.Core.List.{List, _∷_, _++_}
 use lib.ListN.{length, drop, getD}
 use lib.Dec.{eqb}
-use Rattle.grammar.specs.Words.{bytes}
+use Rattle.lexing.specs.Bytes.{bytes}
 use Rattle.tree.specs.Ast.{Span, Expr, BLiteral, ILiteral, CustomLiteral, IdExpr, OperatorExpr, FunctionCallExpr, LabeledExpr, LetExpr, QuantifierExpr, ClosureExpr}
 use Rattle.tree.specs.Words.{boolWord, operatorWord, exprWords, exprsWords}
 use Rattle.tree.specs.Check.{NameIn}
 use Rattle.tree.specs.Kind.{expr}
 use Rattle.tree.specs.Trees.{namesIn}
 use Rattle.tree.specs.Walk.{natural-at, tree-at-word, word-range}
-use Rattle.printing.specs.declared.parts.Step.{Step}
-use Rattle.prints.specs.declared.power.BindingPower.{BindingPower}
-use Rattle.prints.specs.declared.format.ExprFormatOption.{ExprFormatOption}
-use Rattle.prints.specs.Text.{decimal}
-use Rattle.prints.specs.Text.{unless}
-use Rattle.prints.specs.Printer.{boolText, oldText, Expression, isIf}
+use Rattle.printing.specs.declared.parts.Advance.{Advance}
+use Rattle.layout.specs.declared.power.BindingPower.{BindingPower}
+use Rattle.layout.specs.declared.format.ExprFormatOption.{ExprFormatOption}
+use Rattle.layout.specs.Text.{decimal}
+use Rattle.layout.specs.Text.{unless}
+use Rattle.layout.specs.Printer.{boolText, oldText, Expression, isIf}
 use Rattle.printing.specs.Entries.{nameIn}
 use Rattle.printing.specs.Wrote.{Wrote}
 use Rattle.printing.specs.Parts.{Part, Done, Prints, Next, IsIf, aName, aBool, aNatural, customLiteral, identifier, leaf}
@@ -56,7 +56,7 @@ old true g e = rw e
 old false g e = rw e
 
 -- a name after its `old`
-pub identifier-prints : (text : List ℕ) {table : List ℕ} {at : ℕ} {b : List ℕ} {p : ℕ} {b₁ : List ℕ} {second third next g p₁ : ℕ} {b₂ : List ℕ} {s₂ : Step}
+pub identifier-prints : (text : List ℕ) {table : List ℕ} {at : ℕ} {b : List ℕ} {p : ℕ} {b₁ : List ℕ} {second third next g p₁ : ℕ} {b₂ : List ℕ} {s₂ : Advance}
     → Next table at second → Next table second third → g ≡ getD table third 0
     → Wrote (λ r. unless (eqb g 0) (bytes "old ") ++ r) b p b₁ p₁ → Prints (aName text) table at b₁ p₁ b₂ s₂ → Next table (s₂ .next) next
     → Prints (identifier text) table at b p b₂ (record { next = next; pos = s₂ .pos })
@@ -95,7 +95,7 @@ module _ (text table : List ℕ) (at : ℕ) where
   pub leaf-arm : (P : Part) (w : ℕ) (make : P .Tree → E) → ((a : P .Tree) (rest : List ℕ) → P .given a rest) → Opens make
       → ((a : P .Tree) (rest : List ℕ) → exprWords (λ n. n .span) (make a) rest ≡ w ∷ P .words a rest)
       → ((a : P .Tree) (step : ℕ) (c : BindingPower) (f : ExprFormatOption) → P .print a ≡ (λ r. Expression (nameIn text) step (make a) c f r))
-      → {b : List ℕ} {p : ℕ} {b₁ : List ℕ} {inner : ℕ} {s : Step} → Next table at inner → Prints P table inner b p b₁ s → Prints (leaf text table at) table at b p b₁ s
+      → {b : List ℕ} {p : ℕ} {b₁ : List ℕ} {inner : ℕ} {s : Advance} → Next table at inner → Prints P table inner b p b₁ s → Prints (leaf text table at) table at b p b₁ s
   leaf-arm P w make k opens ws xs {b} {p} {b₁} {inner} {s} n x =
       record {
         forward = le-trans (n .forward) (x .forward);
@@ -114,7 +114,7 @@ module _ (text table : List ℕ) (at : ℕ) where
         prints = λ t rest k d. let r = word-range (namesIn (length text)) table at expr (t .1) rest d in absurd (omega arith);
       }
 
-module _ (text : List ℕ) {table : List ℕ} {at g : ℕ} (e : g ≡ getD table at 0) {b : List ℕ} {p : ℕ} {b₁ : List ℕ} {inner : ℕ} {s : Step} (n : Next table at inner) where
+module _ (text : List ℕ) {table : List ℕ} {at g : ℕ} (e : g ≡ getD table at 0) {b : List ℕ} {p : ℕ} {b₁ : List ℕ} {inner : ℕ} {s : Advance} (n : Next table at inner) where
   -- word 1
   pub leaf-bool : g ≡ 1 → Prints aBool table inner b p b₁ s → Prints (leaf text table at) table at b p b₁ s
   unfolding Expression

@@ -6,14 +6,14 @@ use mathlib.Core.Bool.{Bool}
 use mathlib.Core.Option.{Option, none, some}
 use mathlib.Core.List.{List, [], _∷_, _++_}
 use lib.ListN.{length, drop, getD}
-use Rattle.grammar.specs.Words.{bytes}
+use Rattle.lexing.specs.Bytes.{bytes}
 use Rattle.tree.specs.Clash.{impossible}
 use Rattle.tree.specs.Ast.{Binding, binding}
 use Rattle.tree.specs.Words.{boolWord, nameWords, optionWords, seqWords, bindingWords}
 use Rattle.tree.specs.Resolve.{part}
 use Rattle.tree.specs.Check.{NameIn}
-use Rattle.printing.specs.declared.parts.Step.{Step}
-use Rattle.prints.specs.Printer.{quantifierText, IdTypeDecl, Bindings, parameters}
+use Rattle.printing.specs.declared.parts.Advance.{Advance}
+use Rattle.layout.specs.Printer.{quantifierText, IdTypeDecl, Bindings, parameters}
 use Rattle.printing.specs.Entries.{nameIn}
 use Rattle.printing.specs.Wrote.{Wrote}
 use Rattle.printing.specs.Parts.{Done, Prints, Next, aName, typedName, idType, bindings, quantified, closureParameters}
@@ -40,7 +40,7 @@ module _ (text : List ℕ) {table : List ℕ} {at : ℕ} {b : List ℕ} {p : ℕ
       }
 
   -- a name and its type
-  pub typed-prints : {b₁ : List ℕ} {s : Step} {b₂ : List ℕ} {p₂ : ℕ} {b₃ : List ℕ} {s₃ : Step} → Prints (aName text) table at b p b₁ s → Wrote (λ r. bytes ": " ++ r) b₁ (s .pos) b₂ p₂
+  pub typed-prints : {b₁ : List ℕ} {s : Advance} {b₂ : List ℕ} {p₂ : ℕ} {b₃ : List ℕ} {s₃ : Advance} → Prints (aName text) table at b p b₁ s → Wrote (λ r. bytes ": " ++ r) b₁ (s .pos) b₂ p₂
       → Prints (aName text) table (s .next) b₂ p₂ b₃ s₃ → Prints (typedName text) table at b p b₃ s₃
   typed-prints x y z =
       record {
@@ -51,7 +51,7 @@ module _ (text : List ℕ) {table : List ℕ} {at : ℕ} {b : List ℕ} {p : ℕ
       }
 
   -- an optional type that is not there, and one that is
-  pub untyped : {b₁ : List ℕ} {s : Step} {inner g : ℕ} → Prints (aName text) table at b p b₁ s → Next table (s .next) inner → g ≡ getD table (s .next) 0 → g ≡ 0
+  pub untyped : {b₁ : List ℕ} {s : Advance} {inner g : ℕ} → Prints (aName text) table at b p b₁ s → Next table (s .next) inner → g ≡ getD table (s .next) 0 → g ≡ 0
       → Prints (idType text) table at b p b₁ (record { next = inner; pos = s .pos })
   untyped {b₁} {s} {inner} {g} x n e z =
       record {
@@ -65,7 +65,7 @@ module _ (text : List ℕ) {table : List ℕ} {at : ℕ} {b : List ℕ} {p : ℕ
       by-type m (some t) rest u = impossible (sym z ∙ word-at table (s .next) e (u .after))
 
   -- an optional type that is there
-  pub is-typed : {b₁ : List ℕ} {s : Step} {inner g : ℕ} {b₂ : List ℕ} {p₂ : ℕ} {b₃ : List ℕ} {s₃ : Step} → Prints (aName text) table at b p b₁ s → Next table (s .next) inner
+  pub is-typed : {b₁ : List ℕ} {s : Advance} {inner g : ℕ} {b₂ : List ℕ} {p₂ : ℕ} {b₃ : List ℕ} {s₃ : Advance} → Prints (aName text) table at b p b₁ s → Next table (s .next) inner
       → g ≡ getD table (s .next) 0 → (g ≡ 0 → ⊥) → Wrote (λ r. bytes ": " ++ r) b₁ (s .pos) b₂ p₂ → Prints (aName text) table inner b₂ p₂ b₃ s₃
       → Prints (idType text) table at b p b₃ s₃
   is-typed {b₁} {s} {inner} {g} {b₂} {p₂} {b₃} {s₃} x n e z w y =
@@ -93,7 +93,7 @@ module _ (text : List ℕ) {table : List ℕ} {at : ℕ} {b : List ℕ} {p : ℕ
       by-bindings (binding m t ∷ bs) rest d = impossible (sym z ∙ word-at table at e d)
 
   -- a binding and the others
-  pub binds-more : (prefix : List ℕ) {b₁ : List ℕ} {inner g p₁ : ℕ} {b₂ : List ℕ} {s₂ : Step} {b₃ : List ℕ} {s₃ : Step} → Next table at inner → g ≡ getD table at 0 → (g ≡ 0 → ⊥)
+  pub binds-more : (prefix : List ℕ) {b₁ : List ℕ} {inner g p₁ : ℕ} {b₂ : List ℕ} {s₂ : Advance} {b₃ : List ℕ} {s₃ : Advance} → Next table at inner → g ≡ getD table at 0 → (g ≡ 0 → ⊥)
       → Wrote (λ r. prefix ++ r) b p b₁ p₁ → Prints (typedName text) table inner b₁ p₁ b₂ s₂ → Prints (bindings text (bytes ", ")) table (s₂ .next) b₂ (s₂ .pos) b₃ s₃
       → Prints (bindings text prefix) table at b p b₃ s₃
   unfolding Bindings
@@ -109,7 +109,7 @@ module _ (text : List ℕ) {table : List ℕ} {at : ℕ} {b : List ℕ} {p : ℕ
           text-then w (done-then u (y .prints bs rest tt (u .after)))
 
   -- a quantifier's word, by its Bool
-  pub quantified-prints : (v : Bool) {b₁ : List ℕ} {inner g : ℕ} {s : Step} → Next table at inner → g ≡ getD table at 0 → Tells v g
+  pub quantified-prints : (v : Bool) {b₁ : List ℕ} {inner g : ℕ} {s : Advance} → Next table at inner → g ≡ getD table at 0 → Tells v g
       → Prints (bindings text (bytes (quantifierText v))) table inner b p b₁ s → Prints (quantified text) table at b p b₁ s
   quantified-prints v {b₁} {inner} {g} {s} n e h x =
       record {
@@ -132,7 +132,7 @@ module _ (text : List ℕ) {table : List ℕ} {at : ℕ} {b : List ℕ} {p : ℕ
       by-bindings (binding m t ∷ bs) rest d = impossible (sym z ∙ word-at table at e d)
 
   -- parameters stand in brackets
-  pub some-parameters : {b₁ : List ℕ} {g p₁ : ℕ} {b₂ : List ℕ} {s₂ : Step} {b₃ : List ℕ} {p₃ : ℕ} → g ≡ getD table at 0 → (g ≡ 0 → ⊥) → Wrote (λ r. bytes "(" ++ r) b p b₁ p₁
+  pub some-parameters : {b₁ : List ℕ} {g p₁ : ℕ} {b₂ : List ℕ} {s₂ : Advance} {b₃ : List ℕ} {p₃ : ℕ} → g ≡ getD table at 0 → (g ≡ 0 → ⊥) → Wrote (λ r. bytes "(" ++ r) b p b₁ p₁
       → Prints (bindings text []) table at b₁ p₁ b₂ s₂ → Wrote (λ r. bytes ")" ++ r) b₂ (s₂ .pos) b₃ p₃
       → Prints (closureParameters text) table at b p b₃ (record { next = s₂ .next; pos = p₃ })
   some-parameters {b₁} {g} {p₁} {b₂} {s₂} {b₃} {p₃} e z w x y = record { forward = x .forward; prints = λ t rest _ d. by-bindings t rest d (x .prints t rest tt d) }

@@ -6,15 +6,15 @@ use mathlib.Core.Path.{_≡_, refl, sym, _∙_, subst}
 use mathlib.Core.Bool.{Bool}
 use mathlib.Core.List.{List, [], _∷_, _++_}
 use lib.ListN.{length, drop, getD}
-use Rattle.grammar.specs.Words.{bytes}
+use Rattle.lexing.specs.Bytes.{bytes}
 use Rattle.tree.specs.Ast.{Stmt, VarDecl, Assign, Reinit, Block, Call, Check, Assume, Reach, Assert, AForall, Choose, If, IfCase, Loop, LabeledStmt, Exit, Return, Probe}
 use Rattle.tree.specs.Words.{stmtWords}
 use Rattle.tree.specs.Kind.{stmt}
 use Rattle.tree.specs.Check.{NameIn}
 use Rattle.tree.specs.Trees.{namesIn}
 use Rattle.tree.specs.Walk.{tree-at-word}
-use Rattle.printing.specs.declared.parts.Step.{Step}
-use Rattle.prints.specs.Statements.{shown}
+use Rattle.printing.specs.declared.parts.Advance.{Advance}
+use Rattle.layout.specs.Statements.{shown}
 use Rattle.printing.specs.Entries.{nameIn}
 use Rattle.printing.specs.ExprParts.{Ready}
 use Rattle.printing.specs.Wrote.{Wrote}
@@ -32,7 +32,7 @@ Opens S P make table at = (t : S .Tree) (rest : List ℕ) → drop at table ≡ 
 
 module _ (S P : Part) (make : P .Tree → S .Tree) (table : List ℕ) (at : ℕ) (opens : Opens S P make table at)
     (given : (a : P .Tree) (rest : List ℕ) → S .given (make a) rest → P .given a rest) (same : (a : P .Tree) → P .print a ≡ S .print (make a))
-    {b : List ℕ} {p : ℕ} {b₁ : List ℕ} {s : Step} where
+    {b : List ℕ} {p : ℕ} {b₁ : List ℕ} {s : Advance} where
   -- what holds of a tree as it is made holds of it
   pub as-made : (t : S .Tree) (rest : List ℕ) → S .given t rest → drop at table ≡ S .words t rest
       → ((a : P .Tree) → P .given a rest → drop at table ≡ S .words (make a) rest → Done table (P .print a) rest b p b₁ s) → Done table (S .print t) rest b p b₁ s
@@ -64,7 +64,7 @@ text-alone {at = at} w = record { forward = le-refl at; prints = λ t rest g d. 
 module _ (text table counts : List ℕ) (step at : ℕ) {g : ℕ} (e : g ≡ getD table at 0) (indent : ℕ) (followed : Bool) {b : List ℕ} {p : ℕ} {b₁ : List ℕ} where
   module _ {inner : ℕ} (n : Next table at inner) where
     -- word 22
-    pub is-assign : {s : Step} → g ≡ 22 → Prints (anAssign text table counts step inner 0) table inner b p b₁ s → Prints (simplePart text table counts step at indent followed) table at b p b₁ s
+    pub is-assign : {s : Advance} → g ≡ 22 → Prints (anAssign text table counts step inner 0) table inner b p b₁ s → Prints (simplePart text table counts step at indent followed) table at b p b₁ s
     unfolding shown
     is-assign w x =
         after-word (simplePart text table counts step at indent followed) (anAssign text table counts step inner 0) (λ a. Assign (a .0) (a .1)) table at
@@ -72,7 +72,7 @@ module _ (text table counts : List ℕ) (step at : ℕ) {g : ℕ} (e : g ≡ get
         (λ a rest k. (on (n .forward) (k .1), k .2)) (λ a. refl) 22 (λ a rest. refl) n x
 
     -- word 23
-    pub is-reinit : {s : Step} → g ≡ 23 → Prints (aReinit text table counts step inner 0) table inner b p b₁ s → Prints (simplePart text table counts step at indent followed) table at b p b₁ s
+    pub is-reinit : {s : Advance} → g ≡ 23 → Prints (aReinit text table counts step inner 0) table inner b p b₁ s → Prints (simplePart text table counts step at indent followed) table at b p b₁ s
     unfolding shown
     is-reinit w x =
         after-word (simplePart text table counts step at indent followed) (aReinit text table counts step inner 0) (λ a. Reinit a) table at
@@ -80,7 +80,7 @@ module _ (text table counts : List ℕ) (step at : ℕ) {g : ℕ} (e : g ≡ get
         (λ a rest k. (on (n .forward) (k .1), tt)) (λ a. refl) 23 (λ a rest. refl) n x
 
     -- word 25
-    pub is-call : {s : Step} → g ≡ 25 → Prints (aCallStmt text table counts step inner 0) table inner b p b₁ s → Prints (simplePart text table counts step at indent followed) table at b p b₁ s
+    pub is-call : {s : Advance} → g ≡ 25 → Prints (aCallStmt text table counts step inner 0) table inner b p b₁ s → Prints (simplePart text table counts step at indent followed) table at b p b₁ s
     unfolding shown
     is-call w x =
         after-word (simplePart text table counts step at indent followed) (aCallStmt text table counts step inner 0) (λ a. Call (a .0) (a .1)) table at
@@ -88,7 +88,7 @@ module _ (text table counts : List ℕ) (step at : ℕ) {g : ℕ} (e : g ≡ get
         (λ a rest k. (on (n .forward) (k .1), k .2 .1)) (λ a. refl) 25 (λ a rest. refl) n x
 
     -- word 36
-    pub is-exit : {s : Step} → g ≡ 36 → Prints (anExit text) table inner b p b₁ s → Prints (simplePart text table counts step at indent followed) table at b p b₁ s
+    pub is-exit : {s : Advance} → g ≡ 36 → Prints (anExit text) table inner b p b₁ s → Prints (simplePart text table counts step at indent followed) table at b p b₁ s
     unfolding shown
     is-exit w x =
         after-word (simplePart text table counts step at indent followed) (anExit text) (λ a. Exit a) table at
@@ -104,7 +104,7 @@ module _ (text table counts : List ℕ) (step at : ℕ) {g : ℕ} (e : g ≡ get
         (λ a rest k. tt) (λ a. refl) 37 (λ a rest. refl) n (text-alone x)
 
   -- another word
-  pub is-expression : {s : Step} → (g ≡ 22 → ⊥) → (g ≡ 23 → ⊥) → (g ≡ 25 → ⊥) → (g ≡ 36 → ⊥) → (g ≡ 37 → ⊥) → Prints (anExpressionStmt text table counts step at 0) table at b p b₁ s
+  pub is-expression : {s : Advance} → (g ≡ 22 → ⊥) → (g ≡ 23 → ⊥) → (g ≡ 25 → ⊥) → (g ≡ 36 → ⊥) → (g ≡ 37 → ⊥) → Prints (anExpressionStmt text table counts step at 0) table at b p b₁ s
       → Prints (simplePart text table counts step at indent followed) table at b p b₁ s
   unfolding shown
   is-expression {s} h₂ h₃ h₅ h₆ h₇ x = record { forward = x .forward; prints = λ t rest k d. by-form t rest (k .0) (k .1) (k .2) d }

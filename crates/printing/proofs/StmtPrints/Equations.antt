@@ -8,14 +8,14 @@ use mathlib.Core.List.{List, [], _∷_, _++_}
 use lib.ListN.{length, drop, getD}
 use lib.Dec.{eqb}
 use Rattle.lexing.specs.Answer.{pick}
-use Rattle.grammar.specs.Words.{bytes}
+use Rattle.lexing.specs.Bytes.{bytes}
 use Rattle.tree.specs.Ast.{Expr, Variable, Stmt, VarDecl, Block, AForall, Choose, If, IfCase, Loop, LabeledStmt}
 use Rattle.tree.specs.Ast.{Stmts, noStmts, stmts, Cases, noCases, case, AExpr, AExprs, noAExprs, aExprs}
-use Rattle.prints.specs.Text.{unless, _▹_, _▸_}
-use Rattle.prints.specs.PrintUtil.{Indent}
-use Rattle.prints.specs.Printer.{IdTypeDecl}
-use Rattle.prints.specs.Statements.{Before, Shown, isNoStmts, isNoCases, isNoAExprs, optional, mutability, inline, OptionalAutoInvariant, BlockAsStatementList, StmtAsBlock}
-use Rattle.prints.specs.Statements.{elseStatement, labelled, shown, StatementList, choices, caseList, aexpr, PrintAExprs}
+use Rattle.layout.specs.Text.{unless, _▹_, _▸_}
+use Rattle.layout.specs.PrintUtil.{Indent}
+use Rattle.layout.specs.Printer.{IdTypeDecl}
+use Rattle.layout.specs.Statements.{Before, Shown, isNoStmts, isNoCases, isNoAExprs, optional, mutability, inline, OptionalAutoInvariant, BlockAsStatementList, StmtAsBlock}
+use Rattle.layout.specs.Statements.{elseStatement, labelled, shown, StatementList, choices, caseList, aexpr, PrintAExprs}
 use Rattle.printing.specs.Entries.{nameIn}
 use Rattle.printing.specs.StmtParts.{N}
 

@@ -9,9 +9,9 @@ use Rattle.tree.specs.Words.{aExprWords, stmtsWords}
 use Rattle.tree.specs.Kind.{stmt, aexpr as anAexpr}
 use Rattle.tree.specs.Trees.{namesIn}
 use Rattle.tree.specs.Walk.{tree-at-word}
-use Rattle.printing.specs.declared.parts.Step.{Step}
-use Rattle.prints.specs.Text.{_▸_}
-use Rattle.prints.specs.Statements.{inline, shown, aexpr}
+use Rattle.printing.specs.declared.parts.Advance.{Advance}
+use Rattle.layout.specs.Text.{_▸_}
+use Rattle.layout.specs.Statements.{inline, shown, aexpr}
 use Rattle.printing.specs.Entries.{nameIn}
 use Rattle.printing.specs.Parts.{Part, Prints, Next}
 use Rattle.printing.specs.StmtParts.{Simple, N, aStmt, simplePart, aVariable, aBraces, aForall, aChoose, anIf, anIfCase, aLoop, aLabelled, anInner, statementList, lastStatements, anAExpr}
@@ -30,7 +30,7 @@ pub plain-print : (text : List ℕ) (step : ℕ) (e : Expr (N text)) (indent : �
 unfolding aexpr
 plain-print text step e indent = refl
 
-module _ (text table counts : List ℕ) (step at indent : ℕ) {b : List ℕ} {p : ℕ} {b₁ : List ℕ} {s : Step} where
+module _ (text table counts : List ℕ) (step at indent : ℕ) {b : List ℕ} {p : ℕ} {b₁ : List ℕ} {s : Advance} where
   -- a list by its number of statements
   pub by-count : {left : ℕ} → left ≡ getD counts at 0 → Prints (lastStatements text table counts step at indent left) table at b p b₁ s
       → Prints (statementList text table counts step at indent) table at b p b₁ s

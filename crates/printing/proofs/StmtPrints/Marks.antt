@@ -8,14 +8,14 @@ use lib.ListN.{length, drop, getD}
 use lib.Dec.{eqb}
 use borrow.Author.Tests.{ne-eqb}
 use Rattle.lexing.specs.Answer.{pick}
-use Rattle.grammar.specs.Words.{bytes}
+use Rattle.lexing.specs.Bytes.{bytes}
 use Rattle.tree.specs.Clash.{impossible}
 use Rattle.tree.specs.Ast.{Expr, Stmt, VarDecl, Assign, Reinit, Block, Call, Check, Assume, Reach, Assert, AForall, Choose, If, IfCase, Loop, LabeledStmt, Exit, Return, Probe, Stmts, noStmts, stmts, Cases, noCases, case, AExpr, aExpr, AAssertion, AExprs, noAExprs, aExprs}
 use Rattle.tree.specs.Words.{stmtWords, stmtsWords, casesWords, aExprWords, aExprsWords, exprWords}
 use Rattle.tree.specs.Counted.{stmtCount}
 use Rattle.tree.specs.Walk.{head-at}
-use Rattle.prints.specs.Text.{unless}
-use Rattle.prints.specs.Statements.{isNoStmts, isNoCases, isNoAExprs, shown, StatementList, choices, caseList, PrintAExprs}
+use Rattle.layout.specs.Text.{unless}
+use Rattle.layout.specs.Statements.{isNoStmts, isNoCases, isNoAExprs, shown, StatementList, choices, caseList, PrintAExprs}
 use Rattle.printing.specs.Entries.{nameIn}
 use Rattle.printing.specs.Parts.{Part}
 use Rattle.printing.specs.StmtParts.{N, lastStatements, branchList, caseSequence, aExprList}

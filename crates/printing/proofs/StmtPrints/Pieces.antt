@@ -8,16 +8,16 @@ use mathlib.Core.List.{List, [], _∷_, _++_}
 use lib.ListN.{drop, getD}
 use lib.Dec.{eqb}
 use Rattle.lexing.specs.Answer.{pick}
-use Rattle.grammar.specs.Words.{bytes}
+use Rattle.lexing.specs.Bytes.{bytes}
 use Rattle.tree.specs.Ast.{ParameterMode, In, InOut, Out}
 use Rattle.tree.specs.Words.{boolWord, modeWord}
-use Rattle.printing.specs.declared.parts.Step.{Step}
+use Rattle.printing.specs.declared.parts.Advance.{Advance}
 use Rattle.printing.specs.declared.items.Item.{Item}
-use Rattle.prints.specs.Text.{unless, _▹_, _▸_}
+use Rattle.layout.specs.Text.{unless, _▹_, _▸_}
 use Rattle.printing.specs.Wrote.{Wrote}
-use Rattle.prints.specs.Printer.{IdTypeDecl}
-use Rattle.prints.specs.Statements.{optional, modeText, mutability}
-use Rattle.prints.specs.Program.{injectiveText}
+use Rattle.layout.specs.Printer.{IdTypeDecl}
+use Rattle.layout.specs.Statements.{optional, modeText, mutability}
+use Rattle.layout.specs.Program.{injectiveText}
 use Rattle.printing.specs.Entries.{nameIn}
 use Rattle.printing.specs.Parts.{Prints, Next}
 use Rattle.printing.specs.StmtParts.{modeBytes, NextName, N, named, anItem}
@@ -57,6 +57,6 @@ id-type text prefix n none Z = refl
 id-type text prefix n (some t) Z = refl
 
 -- an item of a kind
-pub of-kind : (text table counts : List ℕ) (step at : ℕ) {k kind : Item} {b : List ℕ} {p : ℕ} {b₁ : List ℕ} {s : Step} → kind ≡ k → Prints (anItem text table counts step at 0 k) table at b p b₁ s
+pub of-kind : (text table counts : List ℕ) (step at : ℕ) {k kind : Item} {b : List ℕ} {p : ℕ} {b₁ : List ℕ} {s : Advance} → kind ≡ k → Prints (anItem text table counts step at 0 k) table at b p b₁ s
     → Prints (anItem text table counts step at 0 kind) table at b p b₁ s
 of-kind text table counts step at {b = b} {p = p} {b₁ = b₁} {s = s} e x = subst (λ (i : Item). Prints (anItem text table counts step at 0 i) table at b p b₁ s) (sym e) x

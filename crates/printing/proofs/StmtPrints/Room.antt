@@ -13,10 +13,10 @@ use Rattle.tree.specs.Check.{NameIn}
 use Rattle.tree.specs.Trees.{namesIn}
 use Rattle.tree.specs.Walk.{tree-at}
 use Rattle.tree.specs.Counted.{CountedItems}
-use Rattle.printing.specs.declared.parts.Step.{Step}
-use Rattle.prints.specs.declared.format.ExprFormatOption.the-variants.{SingleLine}
-use Rattle.prints.specs.PrintUtil.{deeperBy, Init}
-use Rattle.prints.specs.Indents.{held}
+use Rattle.printing.specs.declared.parts.Advance.{Advance}
+use Rattle.layout.specs.declared.format.ExprFormatOption.the-variants.{SingleLine}
+use Rattle.layout.specs.PrintUtil.{deeperBy, Init}
+use Rattle.layout.specs.Indents.{held}
 use Rattle.printing.specs.ExprParts.{Ready, anExpr}
 use Rattle.printing.specs.Parts.{Part, Prints, Next}
 use Rattle.printing.specs.StmtParts.{oneLine}
@@ -44,12 +44,12 @@ deeper-small step i e = omega arith
 
 -- a part that asks for more than another
 pub asks-more : (P : Part) (G : P .Tree → List ℕ → Type 0) → ((t : P .Tree) (rest : List ℕ) → G t rest → P .given t rest)
-    → {table : List ℕ} {at : ℕ} {b : List ℕ} {p : ℕ} {b₁ : List ℕ} {s : Step} → Prints P table at b p b₁ s
+    → {table : List ℕ} {at : ℕ} {b : List ℕ} {p : ℕ} {b₁ : List ℕ} {s : Advance} → Prints P table at b p b₁ s
     → Prints (record { Tree = P .Tree; given = G; words = P .words; print = P .print }) table at b p b₁ s
 asks-more P G g x = record { forward = x .forward; prints = λ t rest k d. x .prints t rest (g t rest k) d }
 
 -- an expression on one line, by its function
-pub one-line : (text table counts : List ℕ) (step at : ℕ) {b : List ℕ} {p : ℕ} {b₁ : List ℕ} {s : Step} → Prints (anExpr text table counts step at Init SingleLine) table at b p b₁ s
+pub one-line : (text table counts : List ℕ) (step at : ℕ) {b : List ℕ} {p : ℕ} {b₁ : List ℕ} {s : Advance} → Prints (anExpr text table counts step at Init SingleLine) table at b p b₁ s
     → Prints (oneLine text table counts step at 0) table at b p b₁ s
 one-line text table counts step at x =
     asks-more (anExpr text table counts step at Init SingleLine) (oneLine text table counts step at 0 .given) (λ t rest k. k) x

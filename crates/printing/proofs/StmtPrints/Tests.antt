@@ -14,7 +14,7 @@ use Rattle.tree.specs.Kind.{stmt}
 use Rattle.tree.specs.Check.{NameIn}
 use Rattle.tree.specs.Trees.{namesIn}
 use Rattle.tree.specs.Walk.{tree-at-word}
-use Rattle.prints.specs.Statements.{Shown, isNoStmts, shown}
+use Rattle.layout.specs.Statements.{Shown, isNoStmts, shown}
 use Rattle.printing.specs.Entries.{nameIn}
 use Rattle.printing.specs.Parts.{Next}
 use Rattle.printing.specs.StmtParts.{Tells}

@@ -6,7 +6,7 @@ use mathlib.Core.Bool.{Bool, true, false}
 use mathlib.Core.List.{List, [], _∷_, _++_}
 use lib.Dec.{ltb}
 use borrow.Author.Tests.{lt-ltb, le-ltb, ltb-false}
-use Rattle.prints.specs.Text.{digits, decimal}
+use Rattle.layout.specs.Text.{digits, decimal}
 use Rattle.printing.specs.Wrote.{Wrote}
 use Rattle.printing.proofs.Writing.Bytes.{then}
 

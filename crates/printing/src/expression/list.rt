@@ -2,15 +2,16 @@
 // the output.
 use crate::expression::expr;
 use crate::forms::pattern_head;
-use crate::parts::Step;
+use crate::parts::Advance;
 use crate::parts::after;
 use crate::parts::closure_head;
 use crate::write::put;
 use crate::write::put_separator;
 use crate::write::put_unless;
-use prints::BindingPower;
-use prints::ExprFormatOption;
+use layout::BindingPower;
+use layout::ExprFormatOption;
 use tree::get;
+use tree::word::NO_MORE;
 ghost use Rattle.printing.specs.Parts.{Prints};
 ghost use Rattle.printing.specs.ExprParts.{expressionList, patternList, triggerList, closureList, propertyList};
 
@@ -24,12 +25,12 @@ pub(crate) fn exprs(
     first: bool,
     out: &mut [u8],
     pos: usize,
-) -> Step
+) -> Advance
     ensures { λ r. ⌜ Prints (expressionList (now (text .entry)) (now (words .entry)) (now (counts .entry)) step at first) (now (words .entry)) at (now (out .entry)) pos (now (out .exit)) r ⌝ }
 {
     let inner = after(words, at);
-    if get(words, at) == 0 {
-        return Step { next: inner, pos };
+    if get(words, at) == NO_MORE {
+        return Advance { next: inner, pos };
     }
     let a = put_separator(out, pos, first);
     let s = expr(
@@ -56,12 +57,12 @@ pub(crate) fn patterns(
     ind: ExprFormatOption,
     out: &mut [u8],
     pos: usize,
-) -> Step
+) -> Advance
     ensures { λ r. ⌜ Prints (patternList (now (text .entry)) (now (words .entry)) (now (counts .entry)) step at ind) (now (words .entry)) at (now (out .entry)) pos (now (out .exit)) r ⌝ }
 {
     let inner = after(words, at);
-    if get(words, at) == 0 {
-        return Step { next: inner, pos };
+    if get(words, at) == NO_MORE {
+        return Advance { next: inner, pos };
     }
     let a = pattern_head(ind, out, pos);
     let s = exprs(text, words, counts, step, inner, true, out, a);
@@ -77,12 +78,12 @@ pub(crate) fn triggers(
     at: usize,
     out: &mut [u8],
     pos: usize,
-) -> Step
+) -> Advance
     ensures { λ r. ⌜ Prints (triggerList (now (text .entry)) (now (words .entry)) (now (counts .entry)) step at) (now (words .entry)) at (now (out .entry)) pos (now (out .exit)) r ⌝ }
 {
     let inner = after(words, at);
-    if get(words, at) == 0 {
-        return Step { next: inner, pos };
+    if get(words, at) == NO_MORE {
+        return Advance { next: inner, pos };
     }
     let a = put(out, pos, b"trigger ");
     let s = exprs(text, words, counts, step, inner, true, out, a);
@@ -100,12 +101,12 @@ pub(crate) fn closures(
     first: bool,
     out: &mut [u8],
     pos: usize,
-) -> Step
+) -> Advance
     ensures { λ r. ⌜ Prints (closureList (now (text .entry)) (now (words .entry)) (now (counts .entry)) step at first) (now (words .entry)) at (now (out .entry)) pos (now (out .exit)) r ⌝ }
 {
     let inner = after(words, at);
-    if get(words, at) == 0 {
-        return Step { next: inner, pos };
+    if get(words, at) == NO_MORE {
+        return Advance { next: inner, pos };
     }
     let s = closure_head(text, words, inner, first, out, pos);
     let t = expr(
@@ -132,16 +133,16 @@ pub(crate) fn properties(
     first: bool,
     out: &mut [u8],
     pos: usize,
-) -> Step
+) -> Advance
     ensures { λ r. ⌜ Prints (propertyList (now (text .entry)) (now (words .entry)) (now (counts .entry)) step at first) (now (words .entry)) at (now (out .entry)) pos (now (out .exit)) r ⌝ }
 {
     let inner = after(words, at);
-    if get(words, at) == 0 {
-        return Step { next: inner, pos };
+    if get(words, at) == NO_MORE {
+        return Advance { next: inner, pos };
     }
     let a = put_separator(out, pos, first);
     let s = triggers(text, words, counts, step, inner, out, a);
-    let b = put_unless(out, s.pos, get(words, inner) == 0, b":: ");
+    let b = put_unless(out, s.pos, get(words, inner) == NO_MORE, b":: ");
     let t = expr(
         text,
         words,

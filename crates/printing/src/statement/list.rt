@@ -3,7 +3,7 @@
 use crate::around::count_at;
 use crate::around::fewer;
 use crate::expression::expr;
-use crate::parts::Step;
+use crate::parts::Advance;
 use crate::parts::after;
 use crate::statement::aexpr;
 use crate::statement::block;
@@ -11,9 +11,10 @@ use crate::statement::stmt;
 use crate::write::put;
 use crate::write::put_either;
 use crate::write::put_indent;
-use prints::BindingPower;
-use prints::ExprFormatOption;
+use layout::BindingPower;
+use layout::ExprFormatOption;
 use tree::get;
+use tree::word::NO_MORE;
 ghost use Rattle.printing.specs.Parts.{Prints};
 ghost use Rattle.printing.specs.StmtParts.{statementList, lastStatements, branchList, caseSequence, aExprList};
 
@@ -27,7 +28,7 @@ pub(crate) fn list(
     indent: usize,
     out: &mut [u8],
     pos: usize,
-) -> Step
+) -> Advance
     ensures { λ r. ⌜ Prints (statementList (now (text .entry)) (now (words .entry)) (now (counts .entry)) step at indent) (now (words .entry)) at (now (out .entry)) pos (now (out .exit)) r ⌝ }
 {
     stmts(
@@ -54,12 +55,12 @@ fn stmts(
     indent: usize,
     out: &mut [u8],
     pos: usize,
-) -> Step
+) -> Advance
     ensures { λ r. ⌜ Prints (lastStatements (now (text .entry)) (now (words .entry)) (now (counts .entry)) step at indent left) (now (words .entry)) at (now (out .entry)) pos (now (out .exit)) r ⌝ }
 {
     let inside = after(words, at);
-    if get(words, at) == 0 {
-        return Step { next: inside, pos };
+    if get(words, at) == NO_MORE {
+        return Advance { next: inside, pos };
     }
     let a = put_indent(out, pos, indent);
     let s = stmt(text, words, counts, step, inside, indent, left == 1, out, a);
@@ -86,15 +87,15 @@ pub(crate) fn branches(
     indent: usize,
     out: &mut [u8],
     pos: usize,
-) -> Step
+) -> Advance
     ensures { λ r. ⌜ Prints (branchList (now (text .entry)) (now (words .entry)) (now (counts .entry)) step at indent) (now (words .entry)) at (now (out .entry)) pos (now (out .exit)) r ⌝ }
 {
     let inside = after(words, at);
-    if get(words, at) == 0 {
-        return Step { next: inside, pos };
+    if get(words, at) == NO_MORE {
+        return Advance { next: inside, pos };
     }
     let s = block(text, words, counts, step, inside, indent, out, pos);
-    let a = put_either(out, s.pos, get(words, s.next) == 0, b"\n", b" or ");
+    let a = put_either(out, s.pos, get(words, s.next) == NO_MORE, b"\n", b" or ");
     branches(text, words, counts, step, s.next, indent, out, a)
 }
 
@@ -108,12 +109,12 @@ pub(crate) fn cases(
     indent: usize,
     out: &mut [u8],
     pos: usize,
-) -> Step
+) -> Advance
     ensures { λ r. ⌜ Prints (caseSequence (now (text .entry)) (now (words .entry)) (now (counts .entry)) step at indent) (now (words .entry)) at (now (out .entry)) pos (now (out .exit)) r ⌝ }
 {
     let inside = after(words, at);
-    if get(words, at) == 0 {
-        return Step { next: inside, pos };
+    if get(words, at) == NO_MORE {
+        return Advance { next: inside, pos };
     }
     let a = put(out, pos, b"case ");
     let s = expr(
@@ -129,7 +130,7 @@ pub(crate) fn cases(
     );
     let b = put(out, s.pos, b" ");
     let t = block(text, words, counts, step, s.next, indent, out, b);
-    let c = put_either(out, t.pos, get(words, t.next) == 0, b"\n", b" ");
+    let c = put_either(out, t.pos, get(words, t.next) == NO_MORE, b"\n", b" ");
     cases(text, words, counts, step, t.next, indent, out, c)
 }
 
@@ -144,12 +145,12 @@ pub(crate) fn aexprs(
     indent: usize,
     out: &mut [u8],
     pos: usize,
-) -> Step
+) -> Advance
     ensures { λ r. ⌜ Prints (aExprList (now (text .entry)) (now (words .entry)) (now (counts .entry)) step at indent (now (prefix .entry))) (now (words .entry)) at (now (out .entry)) pos (now (out .exit)) r ⌝ }
 {
     let inside = after(words, at);
-    if get(words, at) == 0 {
-        return Step { next: inside, pos };
+    if get(words, at) == NO_MORE {
+        return Advance { next: inside, pos };
     }
     let a = put_indent(out, pos, indent);
     let b = put(out, a, prefix);

@@ -12,13 +12,13 @@ use Rattle.tree.specs.Limits.{mostText, mostWords}
 use Rattle.tree.specs.Words.{programWords}
 use Rattle.grammar.specs.Steps.{after, mapped}
 use Rattle.grammar.specs.Reading.{Outcome, words, refusal, stored, outcomeBy, treeWords, parseText, parseProgram, readTree, readTreeOfProgram, readExpression, readProgram}
-use Rattle.rules.specs.Arena.{Run, Holds}
-use Rattle.rules.specs.Code.{same}
-use Rattle.rules.specs.Parse.{arenaWords, wholeRun, parsed, Planted, Parses}
-use Rattle.rules.specs.declared.entry.Whole.{Whole}
-use Rattle.rules.specs.declared.entry.Whole.the-variants.{Expression, Program}
-use Rattle.rules.specs.declared.entry.Parsed.{Parsed}
-use Rattle.rules.specs.declared.entry.Parsed.the-variants.{Tree, Refused as ParsedRefused}
+use Rattle.parsing.specs.Arena.{Run, Holds}
+use Rattle.parsing.specs.Code.{same}
+use Rattle.parsing.specs.Parse.{arenaWords, wholeRun, parsed, Planted, Parses}
+use Rattle.parsing.specs.declared.entry.Whole.{Whole}
+use Rattle.parsing.specs.declared.entry.Whole.the-variants.{Expression, Program}
+use Rattle.parsing.specs.declared.entry.Parsed.{Parsed}
+use Rattle.parsing.specs.declared.entry.Parsed.the-variants.{Tree, Refused as ParsedRefused}
 use Rattle.reading.specs.TreeRead.{outcomeOf}
 use Rattle.reading.specs.Entry.{Buffers, wholeOutcome, readOutcome}
 use Rattle.reading.specs.Flat.{Rooted, Flattened}

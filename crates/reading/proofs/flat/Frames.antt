@@ -7,7 +7,7 @@ use mathlib.Core.List.{List, [], _∷_, _++_}
 use lib.ListN.{length, getD, drop, set, length-set}
 use lib.Seq.{drop-cons, drop-set-lt, getD-set-same}
 use lib.Pow.{pow-pos, pow-lt, add-lt-pow}
-use Rattle.rules.specs.Arena.{Run, Node, Holds, empty, one, two, three, ident, unary, binary, item, pair, closed, headed}
+use Rattle.parsing.specs.Arena.{Run, Node, Holds, empty, one, two, three, ident, unary, binary, item, pair, closed, headed, mostArena}
 use Rattle.reading.specs.Flat.{nodeHead, nodeParts, whole, next, last, headOf, partsOf, Small, Replaced}
 
 -- ---- frames in the place of another
@@ -67,7 +67,7 @@ few (push fr h p) = omega (arith, frame-below fr, few p)
 pub top-below : {arena : List ℕ} {top l w : ℕ} {fs : List ℕ} {g : Run} → Pending arena top l (w ∷ fs) g → w / 4 + 4 ≤ top
 top-below (push fr h p) = omega (arith, frame-below fr, few p)
 
-pub small : {arena : List ℕ} {top l : ℕ} (ps fs : List ℕ) {g : Run} → top ≤ 400000 → Pending arena top l (ps ++ fs) g → Small ps
+pub small : {arena : List ℕ} {top l : ℕ} (ps fs : List ℕ) {g : Run} → top ≤ mostArena → Pending arena top l (ps ++ fs) g → Small ps
 small [] fs h p = tt
 small (w ∷ ps) fs h (push fr k p) = (omega (arith, frame-below fr, few p), small ps fs h p)
 

@@ -4,7 +4,7 @@ use native.Mathlib.Omega.{arith}
 use mathlib.Core.Path.{_≡_, refl, sym, ap, _∙_}
 use mathlib.Core.List.{List, [], _∷_, append-nil}
 use lib.ListN.{length, getD, drop, set, replicate, length-append, length-drop, length-set, drop-of-length-le}
-use Rattle.rules.specs.Arena.{Run, Holds}
+use Rattle.parsing.specs.Arena.{Run, Holds, mostArena}
 use Rattle.reading.specs.Flat.{whole, headOf, partsOf, Fit, Replaced, Written, Writes, Rooted, Flattened}
 use Rattle.reading.proofs.flat.Words.{fill-none}
 use Rattle.reading.proofs.flat.Frames.{rest, drop-set, alone, Pending, nothing, push, few, top-below, small, weight, Stepped, step}
@@ -58,7 +58,7 @@ module _ {arena : List ℕ} {top : ℕ} {total stack table : List ℕ} {sp out :
       }
 
   -- the frame and its parts keep the bounds of the arena and of the stack
-  pub walking-fits : top ≤ 400000 → top ≤ 4 * length stack → Fit (partsOf arena (getD stack sp 0)) stack sp
+  pub walking-fits : top ≤ mostArena → top ≤ 4 * length stack → Fit (partsOf arena (getD stack sp 0)) stack sp
   walking-fits k r =
       record {
         inside = h;
@@ -89,7 +89,7 @@ module _ {arena stack table : List ℕ} {root : ℕ} (q : Rooted arena stack tab
   pub rooted-stack : 0 < length stack
   rooted-stack = omega (arith, q .below, q .room)
 
-  pub rooted-small : root < 400000
+  pub rooted-small : root < mostArena
   rooted-small = omega (arith, q .below, q .inside, q .small)
 
   abbrev begun : List ℕ

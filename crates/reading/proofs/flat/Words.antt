@@ -5,7 +5,7 @@ use mathlib.Core.Path.{_≡_, refl, sym, ap, _∙_}
 use mathlib.Core.List.{List, [], _∷_, _++_}
 use lib.ListN.{length, set, replicate, length-append, length-set}
 use lib.Seq.{append-snoc}
-use Rattle.rules.specs.Arena.{Run}
+use Rattle.parsing.specs.Arena.{Run}
 use Rattle.reading.specs.Flat.{fill, Writes}
 
 pub length-fill : (n : ℕ) (ws : List ℕ) → length (fill n ws) ≡ n

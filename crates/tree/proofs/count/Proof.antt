@@ -25,26 +25,8 @@ walked ks words len before h e = (e .0 ∙ sym (simp (le-leb (length words) most
 unwalked : (ks : List Kind) (words : List ℕ) (len : ℕ) (before : List ℕ) → mostWords < length words → (TooLong ≡ check ks words len) × (before ≡ counts ks words len before)
 unwalked ks words len before h = (sym (simp (lt-leb (length words) mostWords h)), sym (simp (lt-leb (length words) mostWords h)))
 
-slice-aggregate-walk : tie.Need-slice-aggregate-walk
-slice-aggregate-walk c = search needs
-
-walk-requires : tie.Need-walk-requires
-walk-requires c κs = search needs
-
-same-length : tie.Need-same-length
-same-length c = search needs
-
 returns : tie.Need-returns
 returns c = walked _ _ _ _ (omega arith) (c .before .before .before .walk .ensures)
-
-slice-aggregate-walk-2 : tie.Need-slice-aggregate-walk-2
-slice-aggregate-walk-2 c = search needs
-
-walk-requires-2 : tie.Need-walk-requires-2
-walk-requires-2 c κs = search needs
-
-same-length-2 : tie.Need-same-length-2
-same-length-2 c = search needs
 
 returns-2 : tie.Need-returns-2
 returns-2 c = walked _ _ _ _ (omega arith) (c .before .before .before .walk2 .ensures)
@@ -56,12 +38,12 @@ pub count-spec : {M : Type 1} → statement M
 count-spec =
     tie.close
     (tie.spec
-    slice-aggregate-walk
-    walk-requires
-    same-length
+    (λ c. search needs)
+    (λ c κs. search needs)
+    (λ c. search needs)
     returns
-    slice-aggregate-walk-2
-    walk-requires-2
-    same-length-2
+    (λ c. search needs)
+    (λ c κs. search needs)
+    (λ c. search needs)
     returns-2
     returns-3)

@@ -7,15 +7,9 @@ use borrow.Author.Needs.{needs}
 use Rattle.tree.proofs.count_program.Statement.{statement}
 use Rattle.tree.proofs.count_program.Tie as tie
 
-count-requires : tie.Need-count-requires
-count-requires c κs = search needs
-
-same-length : tie.Need-same-length
-same-length c = search needs
-
 returns : tie.Need-returns
 unfolding checkProgram programRefusal programCounts kindsOf digits kindOf
 returns c = (ap refusal (c .before .before .count .ensures .0), c .before .before .count .ensures .1)
 
 pub count-program-spec : {M : Type 1} → statement M
-count-program-spec = tie.close (tie.spec count-requires same-length returns)
+count-program-spec = tie.close (tie.spec (λ c κs. search needs) (λ c. search needs) returns)

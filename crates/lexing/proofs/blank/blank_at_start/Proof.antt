@@ -13,32 +13,8 @@ use Rattle.lexing.proofs.blank.blank_at_start.Tie as tie
 returns : tie.Need-returns
 returns c = blank-empty _ (search needs)
 
-shared-slice-read-is-space : tie.Need-shared-slice-read-is-space
-shared-slice-read-is-space c = search needs
-
-is-space-requires : tie.Need-is-space-requires
-is-space-requires c κs = search needs
-
 returns-2 : tie.Need-returns-2
 returns-2 c = blank-space _ (search needs) (sym (c .before .is-space .ensures) ∙ c .if2 .taken)
-
-slice-aggregate-starts-with : tie.Need-slice-aggregate-starts-with
-slice-aggregate-starts-with c = search needs
-
-starts-with-requires : tie.Need-starts-with-requires
-starts-with-requires c κs = search needs
-
-sub-run-length : tie.Need-sub-run-length
-sub-run-length c = search needs
-
-part-run-length-start : tie.Need-part-run-length-start
-part-run-length-start c = search needs
-
-part-run-length-end : tie.Need-part-run-length-end
-part-run-length-end c = search needs
-
-run-length-requires : tie.Need-run-length-requires
-run-length-requires c κs = search needs
 
 add-t15 : tie.Need-add-t15
 add-t15 c =
@@ -50,12 +26,6 @@ returns-3 c =
     let p = sym (c .before .before .before .before .before .before .is-space .ensures) ∙ c .before .before .before .before .before .if2 .left in
     let q = sym (c .before .before .before .starts-with .ensures) ∙ c .before .before .if3 .taken in
     blank-line _ (search needs) p q _ (c .run-length .ensures)
-
-slice-aggregate-starts-with-2 : tie.Need-slice-aggregate-starts-with-2
-slice-aggregate-starts-with-2 c = search needs
-
-starts-with-requires-2 : tie.Need-starts-with-requires-2
-starts-with-requires-2 c κs = search needs
 
 position-after-end-of-long-comment-requires : tie.Need-position-after-end-of-long-comment-requires
 position-after-end-of-long-comment-requires c κs = (startsWith-inside (47 ∷ 42 ∷ []) _ (sym (c .before .starts-with2 .ensures) ∙ c .if4 .taken), search needs)
@@ -79,19 +49,19 @@ blank-at-start-spec =
     tie.close
     (tie.spec
     returns
-    shared-slice-read-is-space
-    is-space-requires
+    (λ c. search needs)
+    (λ c κs. search needs)
     returns-2
-    slice-aggregate-starts-with
-    starts-with-requires
-    sub-run-length
-    part-run-length-start
-    part-run-length-end
-    run-length-requires
+    (λ c. search needs)
+    (λ c κs. search needs)
+    (λ c. search needs)
+    (λ c. search needs)
+    (λ c. search needs)
+    (λ c κs. search needs)
     add-t15
     returns-3
-    slice-aggregate-starts-with-2
-    starts-with-requires-2
+    (λ c. search needs)
+    (λ c κs. search needs)
     position-after-end-of-long-comment-requires
     returns-4
     returns-5)

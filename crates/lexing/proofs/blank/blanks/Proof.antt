@@ -17,21 +17,6 @@ abbrev μ-loop : tie.MeasureT-loop
 loop-holds : tie.Need-loop-holds Inv-loop μ-loop
 loop-holds c = reached-start _
 
-sub-blank-at-start : tie.Need-sub-blank-at-start Inv-loop μ-loop
-sub-blank-at-start c = search needs
-
-part-blank-at-start-start : tie.Need-part-blank-at-start-start Inv-loop μ-loop
-part-blank-at-start-start c = search needs
-
-part-blank-at-start-end : tie.Need-part-blank-at-start-end Inv-loop μ-loop
-part-blank-at-start-end c = search needs
-
-blank-at-start-requires : tie.Need-blank-at-start-requires Inv-loop μ-loop
-blank-at-start-requires c κs = search needs
-
-enum-known-n : tie.Need-enum-known-n Inv-loop μ-loop
-enum-known-n c = search needs
-
 returns : tie.Need-returns Inv-loop μ-loop
 returns c =
     let o = c .before .before .before .before .before .before .loop .inv in
@@ -54,9 +39,6 @@ loop-again c =
     let o = c .before .before .before .before .before .before .loop .inv in
     reached-more _ o (c .before .before .before .before .blank-at-start .ensures) (c .before .before .n .given .1) (c .if1 .left)
 
-enum-known-n-2 : tie.Need-enum-known-n-2 Inv-loop μ-loop
-enum-known-n-2 c = search needs
-
 add-t11 : tie.Need-add-t11 Inv-loop μ-loop
 add-t11 c = omega (arith, reached-inside _ (c .before .before .before .before .before .loop .inv) (c .before .before .before .blank-at-start .ensures) (c .before .n2 .given .1))
 
@@ -70,15 +52,15 @@ blanks-spec =
     Inv-loop
     μ-loop
     loop-holds
-    sub-blank-at-start
-    part-blank-at-start-start
-    part-blank-at-start-end
-    blank-at-start-requires
-    enum-known-n
+    (λ c. search needs)
+    (λ c. search needs)
+    (λ c. search needs)
+    (λ c κs. search needs)
+    (λ c. search needs)
     returns
     add-at
     loop-less
     loop-again
-    enum-known-n-2
+    (λ c. search needs)
     add-t11
     returns-2)

@@ -17,34 +17,10 @@ abbrev μ-loop : tie.MeasureT-loop
 loop-holds : tie.Need-loop-holds Inv-loop μ-loop
 loop-holds c = open-start _
 
-add-loop : tie.Need-add-loop Inv-loop μ-loop
-add-loop c = search needs
-
-shared-slice-read-mark-at : tie.Need-shared-slice-read-mark-at Inv-loop μ-loop
-shared-slice-read-mark-at c = search needs
-
-add-mark-at : tie.Need-add-mark-at Inv-loop μ-loop
-add-mark-at c = search needs
-
-shared-slice-read-mark-at-2 : tie.Need-shared-slice-read-mark-at-2 Inv-loop μ-loop
-shared-slice-read-mark-at-2 c = search needs
-
-mark-at-requires : tie.Need-mark-at-requires Inv-loop μ-loop
-mark-at-requires c κs = search needs
-
-enum-told : tie.Need-enum-told Inv-loop μ-loop
-enum-told c = search needs
-
-add-i : tie.Need-add-i Inv-loop μ-loop
-add-i c = search needs
-
 returns : tie.Need-returns Inv-loop μ-loop
 returns c =
     let o = c .before .before .before .before .before .before .before .loop .inv in
     open-close _ o (search needs) (c .before .before .before .mark-at .ensures) (c .before .enum-told .given .1) (c .if1 .taken)
-
-sub-depth : tie.Need-sub-depth Inv-loop μ-loop
-sub-depth c = search needs
 
 loop-less : tie.Need-loop-less Inv-loop μ-loop
 loop-less c = omega arith
@@ -54,26 +30,11 @@ loop-again c =
     let o = c .before .before .before .before .before .before .before .loop .inv in
     open-inner _ o (search needs) (c .before .before .before .mark-at .ensures) (c .before .enum-told .given .1) (c .if1 .left)
 
-enum-told-2 : tie.Need-enum-told-2 Inv-loop μ-loop
-enum-told-2 c = search needs
-
-add-i-2 : tie.Need-add-i-2 Inv-loop μ-loop
-add-i-2 c = search needs
-
-add-depth : tie.Need-add-depth Inv-loop μ-loop
-add-depth c = search needs
-
 loop-less-2 : tie.Need-loop-less-2 Inv-loop μ-loop
 loop-less-2 c = omega arith
 
 loop-again-2 : tie.Need-loop-again-2 Inv-loop μ-loop
 loop-again-2 c = open-more _ (c .before .before .before .before .before .before .loop .inv) (search needs) (c .before .before .mark-at .ensures) (c .enum-told2 .given .1)
-
-enum-told-3 : tie.Need-enum-told-3 Inv-loop μ-loop
-enum-told-3 c = search needs
-
-add-i-3 : tie.Need-add-i-3 Inv-loop μ-loop
-add-i-3 c = search needs
 
 loop-less-3 : tie.Need-loop-less-3 Inv-loop μ-loop
 loop-less-3 c = omega arith
@@ -91,24 +52,24 @@ long-comment-spec =
     Inv-loop
     μ-loop
     loop-holds
-    add-loop
-    shared-slice-read-mark-at
-    add-mark-at
-    shared-slice-read-mark-at-2
-    mark-at-requires
-    enum-told
-    add-i
+    (λ c. search needs)
+    (λ c. search needs)
+    (λ c. search needs)
+    (λ c. search needs)
+    (λ c κs. search needs)
+    (λ c. search needs)
+    (λ c. search needs)
     returns
-    sub-depth
+    (λ c. search needs)
     loop-less
     loop-again
-    enum-told-2
-    add-i-2
-    add-depth
+    (λ c. search needs)
+    (λ c. search needs)
+    (λ c. search needs)
     loop-less-2
     loop-again-2
-    enum-told-3
-    add-i-3
+    (λ c. search needs)
+    (λ c. search needs)
     loop-less-3
     loop-again-3
     returns-2)

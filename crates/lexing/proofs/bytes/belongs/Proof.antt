@@ -4,27 +4,6 @@ use Rattle.lexing.specs.Bytes.{notNewline}
 use Rattle.lexing.proofs.bytes.belongs.Statement.{statement}
 use Rattle.lexing.proofs.bytes.belongs.Tie as tie
 
-enum-told : tie.Need-enum-told
-enum-told c = search needs
-
-is-digit-requires : tie.Need-is-digit-requires
-is-digit-requires c κs = search needs
-
-enum-told-2 : tie.Need-enum-told-2
-enum-told-2 c = search needs
-
-identifier-char-requires : tie.Need-identifier-char-requires
-identifier-char-requires c κs = search needs
-
-enum-told-3 : tie.Need-enum-told-3
-enum-told-3 c = search needs
-
-custom-literal-char-requires : tie.Need-custom-literal-char-requires
-custom-literal-char-requires c κs = search needs
-
-enum-told-4 : tie.Need-enum-told-4
-enum-told-4 c = search needs
-
 returns : tie.Need-returns
 returns c = rw (c .before .enum-told .given .1) (c .is-digit .ensures)
 
@@ -42,13 +21,13 @@ pub belongs-spec : {M : Type 1} → statement M
 belongs-spec =
     tie.close
     (tie.spec
-    enum-told
-    is-digit-requires
-    enum-told-2
-    identifier-char-requires
-    enum-told-3
-    custom-literal-char-requires
-    enum-told-4
+    (λ c. search needs)
+    (λ c κs. search needs)
+    (λ c. search needs)
+    (λ c κs. search needs)
+    (λ c. search needs)
+    (λ c κs. search needs)
+    (λ c. search needs)
     returns
     returns-2
     returns-3

@@ -5,15 +5,9 @@ use Rattle.lexing.specs.Bytes.{canStartIdentifierChar}
 use Rattle.lexing.proofs.bytes.can_start_identifier_char.Statement.{statement}
 use Rattle.lexing.proofs.bytes.can_start_identifier_char.Tie as tie
 
-in-range-requires : tie.Need-in-range-requires
-in-range-requires c κs = search needs
-
 returns : tie.Need-returns
 unfolding canStartIdentifierChar
 returns c = simp (sym (c .before .in-range .ensures) ∙ c .if1 .taken)
-
-in-range-requires-2 : tie.Need-in-range-requires-2
-in-range-requires-2 c κs = search needs
 
 returns-2 : tie.Need-returns-2
 unfolding canStartIdentifierChar
@@ -25,4 +19,4 @@ returns-3 c = simp (sym (c .before .before .before .in-range .ensures) ∙ c .be
 
 pub can-start-identifier-char-spec : {M : Type 1} → statement M
 can-start-identifier-char-spec =
-    tie.close (tie.spec in-range-requires returns in-range-requires-2 returns-2 returns-3)
+    tie.close (tie.spec (λ c κs. search needs) returns (λ c κs. search needs) returns-2 returns-3)

@@ -5,18 +5,9 @@ use Rattle.lexing.specs.Bytes.{customLiteralChar}
 use Rattle.lexing.proofs.bytes.custom_literal_char.Statement.{statement}
 use Rattle.lexing.proofs.bytes.custom_literal_char.Tie as tie
 
-identifier-char-requires : tie.Need-identifier-char-requires
-identifier-char-requires c κs = search needs
-
 returns : tie.Need-returns
 unfolding customLiteralChar
 returns c = simp (sym (c .before .identifier-char .ensures) ∙ c .if1 .taken)
-
-slice-aggregate-one-of : tie.Need-slice-aggregate-one-of
-slice-aggregate-one-of c = search needs
-
-one-of-requires : tie.Need-one-of-requires
-one-of-requires c κs = search needs
 
 returns-2 : tie.Need-returns-2
 unfolding customLiteralChar
@@ -25,4 +16,4 @@ returns-2 c = simp (sym (c .before .before .before .identifier-char .ensures) �
 pub custom-literal-char-spec : {M : Type 1} → statement M
 custom-literal-char-spec =
     tie.close
-    (tie.spec identifier-char-requires returns slice-aggregate-one-of one-of-requires returns-2)
+    (tie.spec (λ c κs. search needs) returns (λ c. search needs) (λ c κs. search needs) returns-2)

@@ -4,12 +4,9 @@ use Rattle.lexing.specs.Bytes.{isDigit}
 use Rattle.lexing.proofs.bytes.is_digit.Statement.{statement}
 use Rattle.lexing.proofs.bytes.is_digit.Tie as tie
 
-in-range-requires : tie.Need-in-range-requires
-in-range-requires c κs = search needs
-
 returns : tie.Need-returns
 unfolding isDigit
 returns c = c .in-range .ensures
 
 pub is-digit-spec : {M : Type 1} → statement M
-is-digit-spec = tie.close (tie.spec in-range-requires returns)
+is-digit-spec = tie.close (tie.spec (λ c κs. search needs) returns)

@@ -20,17 +20,8 @@ abbrev μ-loop : tie.MeasureT-loop
 loop-holds : tie.Need-loop-holds Inv-loop μ-loop
 loop-holds c = ran-start _ _
 
-shared-slice-read-belongs : tie.Need-shared-slice-read-belongs Inv-loop μ-loop
-shared-slice-read-belongs c = search needs
-
-belongs-requires : tie.Need-belongs-requires Inv-loop μ-loop
-belongs-requires c κs = search needs
-
 returns : tie.Need-returns Inv-loop μ-loop
 returns c = ran-stop (c .before .before .before .before .loop .inv) (search needs) (sym (c .before .belongs .ensures) ∙ not-true _ (c .if1 .taken))
-
-add-i : tie.Need-add-i Inv-loop μ-loop
-add-i c = search needs
 
 loop-less : tie.Need-loop-less Inv-loop μ-loop
 loop-less c = omega arith
@@ -48,10 +39,10 @@ run-length-spec =
     Inv-loop
     μ-loop
     loop-holds
-    shared-slice-read-belongs
-    belongs-requires
+    (λ c. search needs)
+    (λ c κs. search needs)
     returns
-    add-i
+    (λ c. search needs)
     loop-less
     loop-again
     returns-2)

@@ -5,9 +5,6 @@ use Rattle.lexing.proofs.Loops.{sameBytes-starts, sameBytes-lengths}
 use Rattle.lexing.proofs.bytes.same_bytes.Statement.{statement}
 use Rattle.lexing.proofs.bytes.same_bytes.Tie as tie
 
-starts-with-requires : tie.Need-starts-with-requires
-starts-with-requires c κs = search needs
-
 returns : tie.Need-returns
 returns c = c .starts-with .ensures ∙ sameBytes-starts _ _ (c .before .if1 .taken)
 
@@ -15,4 +12,4 @@ returns-2 : tie.Need-returns-2
 returns-2 c = sym (sameBytes-lengths _ _ (c .if1 .left))
 
 pub same-bytes-spec : {M : Type 1} → statement M
-same-bytes-spec = tie.close (tie.spec starts-with-requires returns returns-2)
+same-bytes-spec = tie.close (tie.spec (λ c κs. search needs) returns returns-2)

@@ -10,24 +10,6 @@ use Rattle.lexing.proofs.token.identifier_length.Tie as tie
 returns : tie.Need-returns
 returns c = identifier-empty _ (c .if1 .taken)
 
-shared-slice-read-can-start-identifier-char : tie.Need-shared-slice-read-can-start-identifier-char
-shared-slice-read-can-start-identifier-char c = search needs
-
-can-start-identifier-char-requires : tie.Need-can-start-identifier-char-requires
-can-start-identifier-char-requires c κs = search needs
-
-sub-run-length : tie.Need-sub-run-length
-sub-run-length c = search needs
-
-part-run-length-start : tie.Need-part-run-length-start
-part-run-length-start c = search needs
-
-part-run-length-end : tie.Need-part-run-length-end
-part-run-length-end c = search needs
-
-run-length-requires : tie.Need-run-length-requires
-run-length-requires c κs = search needs
-
 add-result : tie.Need-add-result
 add-result c =
     let s = c .before .before .before .before .before .before .before .args .text .now in
@@ -44,12 +26,12 @@ identifier-length-spec =
     tie.close
     (tie.spec
     returns
-    shared-slice-read-can-start-identifier-char
-    can-start-identifier-char-requires
-    sub-run-length
-    part-run-length-start
-    part-run-length-end
-    run-length-requires
+    (λ c. search needs)
+    (λ c κs. search needs)
+    (λ c. search needs)
+    (λ c. search needs)
+    (λ c. search needs)
+    (λ c κs. search needs)
     add-result
     returns-2
     returns-3)

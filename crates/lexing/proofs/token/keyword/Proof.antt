@@ -8,17 +8,8 @@ use Rattle.lexing.proofs.Returns.{keyword-found, keyword-missing}
 use Rattle.lexing.proofs.token.keyword.Statement.{statement}
 use Rattle.lexing.proofs.token.keyword.Tie as tie
 
-identifier-length-requires : tie.Need-identifier-length-requires
-identifier-length-requires c κs = search needs
-
 slice-aggregate-same-bytes : tie.Need-slice-aggregate-same-bytes
 slice-aggregate-same-bytes c = sym (length-take-le _ _ (omega (arith, identifier-inside (c .before .before .before .before .args .text .now))))
-
-same-bytes-requires : tie.Need-same-bytes-requires
-same-bytes-requires c κs = search needs
-
-lexeme-requires : tie.Need-lexeme-requires
-lexeme-requires c κs = search needs
 
 returns : tie.Need-returns
 returns c =
@@ -32,9 +23,9 @@ pub keyword-spec : {M : Type 1} → statement M
 keyword-spec =
     tie.close
     (tie.spec
-    identifier-length-requires
+    (λ c κs. search needs)
     slice-aggregate-same-bytes
-    same-bytes-requires
-    lexeme-requires
+    (λ c κs. search needs)
+    (λ c κs. search needs)
     returns
     returns-2)

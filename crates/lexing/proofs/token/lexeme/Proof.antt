@@ -8,28 +8,10 @@ use Rattle.lexing.proofs.token.lexeme.Tie as tie
 returns : tie.Need-returns
 returns c = lexeme-past _ _ _ (c .if1 .taken)
 
-sub-blanks : tie.Need-sub-blanks
-sub-blanks c = search needs
-
-part-blanks-start : tie.Need-part-blanks-start
-part-blanks-start c = search needs
-
-part-blanks-end : tie.Need-part-blanks-end
-part-blanks-end c = search needs
-
-blanks-requires : tie.Need-blanks-requires
-blanks-requires c κs = search needs
-
-enum-known-k : tie.Need-enum-known-k
-enum-known-k c = search needs
-
 add-t13 : tie.Need-add-t13
 add-t13 c =
     let a = c .before .before .before .before .before .before .before .args in
     omega (arith, lexeme-inside (a .text .now) (a .n) _ (c .before .before .before .blanks .ensures) (c .before .k .given .1) (search needs))
-
-enum-known-k-2 : tie.Need-enum-known-k-2
-enum-known-k-2 c = search needs
 
 add-t14 : tie.Need-add-t14
 add-t14 c =
@@ -51,13 +33,13 @@ lexeme-spec =
     tie.close
     (tie.spec
     returns
-    sub-blanks
-    part-blanks-start
-    part-blanks-end
-    blanks-requires
-    enum-known-k
+    (λ c. search needs)
+    (λ c. search needs)
+    (λ c. search needs)
+    (λ c κs. search needs)
+    (λ c. search needs)
     add-t13
-    enum-known-k-2
+    (λ c. search needs)
     add-t14
     returns-2
     returns-3)

@@ -9,26 +9,11 @@ use Rattle.lexing.proofs.Returns.{natural-none, natural-value, natural-
 use Rattle.lexing.proofs.token.natural.Statement.{statement}
 use Rattle.lexing.proofs.token.natural.Tie as tie
 
-run-length-requires : tie.Need-run-length-requires
-run-length-requires c κs = search needs
-
 returns : tie.Need-returns
 returns c = natural-none _ (c .before .run-length .ensures) (c .if1 .taken)
 
 slice-aggregate-decimal : tie.Need-slice-aggregate-decimal
 slice-aggregate-decimal c = sym (length-take-le _ _ (omega (arith, run-inside isDigit (c .before .before .before .before .args .text .now))))
-
-decimal-requires : tie.Need-decimal-requires
-decimal-requires c κs = search needs
-
-enum-known-value : tie.Need-enum-known-value
-enum-known-value c = search needs
-
-lexeme-requires : tie.Need-lexeme-requires
-lexeme-requires c κs = search needs
-
-enum-told : tie.Need-enum-told
-enum-told c = search needs
 
 returns-2 : tie.Need-returns-2
 returns-2 c =
@@ -43,12 +28,12 @@ pub natural-spec : {M : Type 1} → statement M
 natural-spec =
     tie.close
     (tie.spec
-    run-length-requires
+    (λ c κs. search needs)
     returns
     slice-aggregate-decimal
-    decimal-requires
-    enum-known-value
-    lexeme-requires
-    enum-told
+    (λ c κs. search needs)
+    (λ c. search needs)
+    (λ c κs. search needs)
+    (λ c. search needs)
     returns-2
     returns-3)

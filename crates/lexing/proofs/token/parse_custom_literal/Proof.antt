@@ -6,9 +6,6 @@ use Rattle.lexing.specs.Tokens.{parseCustomLiteral}
 use Rattle.lexing.proofs.token.parse_custom_literal.Statement.{statement}
 use Rattle.lexing.proofs.token.parse_custom_literal.Tie as tie
 
-run-length-requires : tie.Need-run-length-requires
-run-length-requires c κs = search needs
-
 returns : tie.Need-returns
 unfolding parseCustomLiteral
 returns c = unlessEmpty-none _ _ (sym (c .before .run-length .ensures) ∙ c .if1 .taken)
@@ -18,4 +15,4 @@ unfolding parseCustomLiteral
 returns-2 c = rw (← c .before .run-length .ensures) (unlessEmpty-some _ _ (c .if1 .left))
 
 pub parse-custom-literal-spec : {M : Type 1} → statement M
-parse-custom-literal-spec = tie.close (tie.spec run-length-requires returns returns-2)
+parse-custom-literal-spec = tie.close (tie.spec (λ c κs. search needs) returns returns-2)

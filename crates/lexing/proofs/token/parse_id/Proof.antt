@@ -6,19 +6,13 @@ use Rattle.lexing.specs.Tokens.{parseId}
 use Rattle.lexing.proofs.token.parse_id.Statement.{statement}
 use Rattle.lexing.proofs.token.parse_id.Tie as tie
 
-identifier-length-requires : tie.Need-identifier-length-requires
-identifier-length-requires c κs = search needs
-
 returns : tie.Need-returns
 unfolding parseId
 returns c = unlessEmpty-none _ _ (sym (c .before .identifier-length .ensures) ∙ c .if1 .taken)
-
-lexeme-requires : tie.Need-lexeme-requires
-lexeme-requires c κs = search needs
 
 returns-2 : tie.Need-returns-2
 unfolding parseId
 returns-2 c = rw (← c .before .before .identifier-length .ensures) (c .lexeme .ensures ∙ unlessEmpty-some _ _ (c .before .if1 .left))
 
 pub parse-id-spec : {M : Type 1} → statement M
-parse-id-spec = tie.close (tie.spec identifier-length-requires returns lexeme-requires returns-2)
+parse-id-spec = tie.close (tie.spec (λ c κs. search needs) returns (λ c κs. search needs) returns-2)

@@ -5,12 +5,6 @@ use Rattle.lexing.specs.Tokens.{sign}
 use Rattle.lexing.proofs.token.sym.Statement.{statement}
 use Rattle.lexing.proofs.token.sym.Tie as tie
 
-starts-with-requires : tie.Need-starts-with-requires
-starts-with-requires c κs = search needs
-
-lexeme-requires : tie.Need-lexeme-requires
-lexeme-requires c κs = search needs
-
 returns : tie.Need-returns
 unfolding sign
 returns c = simp (sym (c .before .before .starts-with .ensures) ∙ c .before .if1 .taken) (c .lexeme .ensures)
@@ -20,4 +14,4 @@ unfolding sign
 returns-2 c = simp (sym (c .before .starts-with .ensures) ∙ c .if1 .left)
 
 pub sym-spec : {M : Type 1} → statement M
-sym-spec = tie.close (tie.spec starts-with-requires lexeme-requires returns returns-2)
+sym-spec = tie.close (tie.spec (λ c κs. search needs) (λ c κs. search needs) returns returns-2)

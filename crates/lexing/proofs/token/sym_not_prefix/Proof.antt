@@ -5,19 +5,13 @@ use Rattle.lexing.specs.Tokens.{signNotPrefix}
 use Rattle.lexing.proofs.token.sym_not_prefix.Statement.{statement}
 use Rattle.lexing.proofs.token.sym_not_prefix.Tie as tie
 
-starts-with-requires : tie.Need-starts-with-requires
-starts-with-requires c κs = search needs
-
 returns : tie.Need-returns
 unfolding signNotPrefix
 returns c = simp (sym (c .before .starts-with .ensures) ∙ c .if1 .taken)
-
-sym-requires : tie.Need-sym-requires
-sym-requires c κs = search needs
 
 returns-2 : tie.Need-returns-2
 unfolding signNotPrefix
 returns-2 c = simp (sym (c .before .before .starts-with .ensures) ∙ c .before .if1 .left) (c .sym .ensures)
 
 pub sym-not-prefix-spec : {M : Type 1} → statement M
-sym-not-prefix-spec = tie.close (tie.spec starts-with-requires returns sym-requires returns-2)
+sym-not-prefix-spec = tie.close (tie.spec (λ c κs. search needs) returns (λ c κs. search needs) returns-2)

@@ -18,24 +18,6 @@ at-typed c = part (at-put (c .before .before .before .before)) (c .typed .ensure
 abbrev at-put2 : tie.After-put2 → Place
 at-put2 c = text (at-typed (c .before .before .before .before .before)) (c .put2 .ensures) _ (λ x. refl)
 
-slice-aggregate-put : tie.Need-slice-aggregate-put
-slice-aggregate-put c = search needs
-
-put-requires : tie.Need-put-requires
-put-requires c κs = search needs
-
-typed-requires : tie.Need-typed-requires
-typed-requires c κs = search needs
-
-slice-aggregate-put-2 : tie.Need-slice-aggregate-put-2
-slice-aggregate-put-2 c = search needs
-
-put-requires-2 : tie.Need-put-requires-2
-put-requires-2 c κs = search needs
-
-same-length : tie.Need-same-length
-same-length c = search needs
-
 returns : tie.Need-returns
 returns c = done (at-put2 (c .before .before)) (λ x. refl) (λ x. refl)
 
@@ -43,10 +25,10 @@ pub for-head-spec : {M : Type 1} → statement M
 for-head-spec =
     tie.close
     (tie.spec
-    slice-aggregate-put
-    put-requires
-    typed-requires
-    slice-aggregate-put-2
-    put-requires-2
-    same-length
+    (λ c. search needs)
+    (λ c κs. search needs)
+    (λ c κs. search needs)
+    (λ c. search needs)
+    (λ c κs. search needs)
+    (λ c. search needs)
     returns)

@@ -7,11 +7,8 @@ use Rattle.printing.proofs.around.indent_inside.Tie as tie
 returns : tie.Need-returns
 returns c = rw (c .if1 .taken)
 
-deeper-requires : tie.Need-deeper-requires
-deeper-requires c κs = search needs
-
 returns-2 : tie.Need-returns-2
 returns-2 c = rw (c .before .if1 .left) (c .deeper .ensures)
 
 pub indent-inside-spec : {M : Type 1} → statement M
-indent-inside-spec = tie.close (tie.spec returns deeper-requires returns-2)
+indent-inside-spec = tie.close (tie.spec returns (λ c κs. search needs) returns-2)

@@ -5,17 +5,11 @@ use borrow.Author.Needs.{needs}
 use Rattle.printing.proofs.around.is_conditional.Statement.{statement}
 use Rattle.printing.proofs.around.is_conditional.Tie as tie
 
-get-requires : tie.Need-get-requires
-get-requires c κs = search needs
-
 returns : tie.Need-returns
 returns c = tells-if (c .before .get .ensures) (c .if1 .taken)
-
-get-requires-2 : tie.Need-get-requires-2
-get-requires-2 c κs = search needs
 
 returns-2 : tie.Need-returns-2
 returns-2 c = tells-case (c .get2 .ensures) (λ z. c .before .if1 .left (c .before .before .get .ensures ∙ sym (c .get2 .ensures) ∙ z))
 
 pub is-conditional-spec : {M : Type 1} → statement M
-is-conditional-spec = tie.close (tie.spec get-requires returns get-requires-2 returns-2)
+is-conditional-spec = tie.close (tie.spec (λ c κs. search needs) returns (λ c κs. search needs) returns-2)

@@ -4,15 +4,6 @@ use borrow.Author.Needs.{needs}
 use Rattle.printing.proofs.around.is_empty_block.Statement.{statement}
 use Rattle.printing.proofs.around.is_empty_block.Tie as tie
 
-get-requires : tie.Need-get-requires
-get-requires c κs = search needs
-
-after-requires : tie.Need-after-requires
-after-requires c κs = search needs
-
-get-requires-2 : tie.Need-get-requires-2
-get-requires-2 c κs = search needs
-
 returns : tie.Need-returns
 returns c = tells-empty (c .before .before .before .get .ensures) (c .before .before .if1 .taken) (c .before .after .ensures) (c .get2 .ensures)
 
@@ -21,4 +12,4 @@ returns-2 c = tells-other (c .before .get .ensures) (c .if1 .left)
 
 pub is-empty-block-spec : {M : Type 1} → statement M
 is-empty-block-spec =
-    tie.close (tie.spec get-requires after-requires get-requires-2 returns returns-2)
+    tie.close (tie.spec (λ c κs. search needs) (λ c κs. search needs) (λ c κs. search needs) returns returns-2)

@@ -4,11 +4,8 @@ use borrow.Author.Needs.{needs}
 use Rattle.printing.proofs.around.is_loop.Statement.{statement}
 use Rattle.printing.proofs.around.is_loop.Tie as tie
 
-get-requires : tie.Need-get-requires
-get-requires c κs = search needs
-
 returns : tie.Need-returns
 returns c = tells-loop (c .get .ensures)
 
 pub is-loop-spec : {M : Type 1} → statement M
-is-loop-spec = tie.close (tie.spec get-requires returns)
+is-loop-spec = tie.close (tie.spec (λ c κs. search needs) returns)

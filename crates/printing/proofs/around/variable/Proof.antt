@@ -1,10 +1,10 @@
 -- `var` or `val` by the word after the name, the name, its type, the invariant, the value.
 use mathlib.Core.Path.{refl}
 use Rattle.printing.proofs.Places.{Place, begin, done, part, passed, seen, text, text-of, ready}
-use Rattle.grammar.specs.Words.{bytes}
-use Rattle.prints.specs.Text.{_▸_}
+use Rattle.lexing.specs.Bytes.{bytes}
+use Rattle.layout.specs.Text.{_▸_}
 use Rattle.printing.specs.Entries.{nameIn}
-use Rattle.prints.specs.Statements.{optional, mutability, inline, OptionalAutoInvariant}
+use Rattle.layout.specs.Statements.{optional, mutability, inline, OptionalAutoInvariant}
 use Rattle.printing.specs.StmtParts.{variableHead}
 use Rattle.printing.proofs.PartPrints.Joins.{word-at}
 use Rattle.printing.proofs.StmtPrints.Pieces.{same-bytes, mutability-by, id-type}
@@ -42,51 +42,6 @@ at-optional-expr2 c = part (at-optional-expr (c .before .before .before .before 
 abbrev at-put : tie.After-put → Place
 at-put c = text (at-optional-expr2 (c .before .before .before .before .before)) (c .put .ensures) _ (λ x. refl)
 
-after-name-requires : tie.Need-after-name-requires
-after-name-requires c κs = search needs
-
-get-requires : tie.Need-get-requires
-get-requires c κs = search needs
-
-slice-aggregate-put-either : tie.Need-slice-aggregate-put-either
-slice-aggregate-put-either c = search needs
-
-slice-aggregate-put-either-2 : tie.Need-slice-aggregate-put-either-2
-slice-aggregate-put-either-2 c = search needs
-
-put-either-requires : tie.Need-put-either-requires
-put-either-requires c κs = search needs
-
-put-name-requires : tie.Need-put-name-requires
-put-name-requires c κs = search needs
-
-after-requires : tie.Need-after-requires
-after-requires c κs = search needs
-
-slice-aggregate-optional-name : tie.Need-slice-aggregate-optional-name
-slice-aggregate-optional-name c = search needs
-
-optional-name-requires : tie.Need-optional-name-requires
-optional-name-requires c κs = search needs
-
-slice-aggregate-optional-expr : tie.Need-slice-aggregate-optional-expr
-slice-aggregate-optional-expr c = search needs
-
-optional-expr-requires : tie.Need-optional-expr-requires
-optional-expr-requires c κs = search needs
-
-slice-aggregate-optional-expr-2 : tie.Need-slice-aggregate-optional-expr-2
-slice-aggregate-optional-expr-2 c = search needs
-
-optional-expr-requires-2 : tie.Need-optional-expr-requires-2
-optional-expr-requires-2 c κs = search needs
-
-slice-aggregate-put : tie.Need-slice-aggregate-put
-slice-aggregate-put c = search needs
-
-put-requires : tie.Need-put-requires
-put-requires c κs = search needs
-
 same-length : tie.Need-same-length
 same-length c = omega (
   arith,
@@ -105,20 +60,20 @@ pub variable-spec : {M : Type 1} → statement M
 variable-spec =
     tie.close
     (tie.spec
-    after-name-requires
-    get-requires
-    slice-aggregate-put-either
-    slice-aggregate-put-either-2
-    put-either-requires
-    put-name-requires
-    after-requires
-    slice-aggregate-optional-name
-    optional-name-requires
-    slice-aggregate-optional-expr
-    optional-expr-requires
-    slice-aggregate-optional-expr-2
-    optional-expr-requires-2
-    slice-aggregate-put
-    put-requires
+    (λ c κs. search needs)
+    (λ c κs. search needs)
+    (λ c. search needs)
+    (λ c. search needs)
+    (λ c κs. search needs)
+    (λ c κs. search needs)
+    (λ c κs. search needs)
+    (λ c. search needs)
+    (λ c κs. search needs)
+    (λ c. search needs)
+    (λ c κs. search needs)
+    (λ c. search needs)
+    (λ c κs. search needs)
+    (λ c. search needs)
+    (λ c κs. search needs)
     same-length
     returns)

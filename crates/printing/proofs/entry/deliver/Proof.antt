@@ -26,9 +26,6 @@ store-requires c κs = omega (
   c .before .before .if2 .left,
 )
 
-same-length : tie.Need-same-length
-same-length c = search needs
-
 returns-3 : tie.Need-returns-3
 returns-3 c = copied (c .before .before .before .before .before .before .before .before .before .args .buffer .now)
     (c .before .before .before .before .before .before .before .before .before .args .n)
@@ -39,4 +36,4 @@ returns-3 c = copied (c .before .before .before .before .before .before .before 
 pub deliver-spec : {M : Type 1} → statement M
 deliver-spec =
     tie.close
-    (tie.spec returns returns-2 slice-aggregate-store store-requires same-length returns-3)
+    (tie.spec returns returns-2 slice-aggregate-store store-requires (λ c. search needs) returns-3)

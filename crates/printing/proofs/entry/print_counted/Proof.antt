@@ -7,12 +7,6 @@ use borrow.Author.Needs.{needs}
 use Rattle.printing.proofs.entry.print_counted.Statement.{statement}
 use Rattle.printing.proofs.entry.print_counted.Tie as tie
 
-count-root-requires : tie.Need-count-root-requires
-count-root-requires c κs = search needs
-
-enum-told : tie.Need-enum-told
-enum-told c = search needs
-
 print-by-requires : tie.Need-print-by-requires
 print-by-requires c κs = (
   c .before .before .before .before .before .before .before .before .before .before .before .before .pre .1,
@@ -20,18 +14,6 @@ print-by-requires c κs = (
       (c .before .before .before .before .before .before .before .before .before .before .before .before .args .root) (c .before .before .before .before .before .before .before .before .before .before .before .before .pre .2)
       (sym (c .before .before .before .before .before .before .count-root .ensures .0) ∙ ap checkRefusal (c .before .before .enum-told .given .1)) (c .before .before .before .before .before .before .count-root .ensures .1),
 )
-
-enum-known-found : tie.Need-enum-known-found
-enum-known-found c = search needs
-
-enum-told-2 : tie.Need-enum-told-2
-enum-told-2 c = search needs
-
-same-length : tie.Need-same-length
-same-length c = search needs
-
-same-length-2 : tie.Need-same-length-2
-same-length-2 c = search needs
 
 returns : tie.Need-returns
 returns c =
@@ -42,18 +24,12 @@ returns c =
     (root-laws 2 (c .before .before .before .before .before .before .before .before .before .before .before .before .before .before .before .args .text .now) (c .before .before .before .before .before .before .before .before .before .before .before .before .before .before .before .args .root))
     (sym (c .before .before .before .before .before .before .before .before .before .count-root .ensures .0) ∙ ap checkRefusal (c .before .before .before .before .before .enum-told .given .1)) (c .before .before .print-by .ensures)
 
-same-length-3 : tie.Need-same-length-3
-same-length-3 c = search needs
-
 returns-2 : tie.Need-returns-2
 returns-2 c =
     refused (rooted 2 (c .before .before .before .before .before .before .before .before .before .before .before .args .text .now) (c .before .before .before .before .before .before .before .before .before .before .before .args .root)) (c .before .before .before .before .before .before .before .before .before .before .before .args .text .now)
     (c .before .before .before .before .before .before .before .before .before .before .before .args .words .now) (c .before .before .before .before .before .before .before .before .before .before .before .args .out .now) (c .before .before .before .before .before .before .before .before .before .before .before .pre .0)
     (c .before .before .before .before .before .before .before .before .before .before .before .pre .1)
     (sym (c .before .before .before .before .before .count-root .ensures .0) ∙ ap checkRefusal (c .before .found .given .1))
-
-same-length-4 : tie.Need-same-length-4
-same-length-4 c = search needs
 
 returns-3 : tie.Need-returns-3
 returns-3 c =
@@ -65,15 +41,15 @@ pub print-counted-spec : {M : Type 1} → statement M
 print-counted-spec =
     tie.close
     (tie.spec
-    count-root-requires
-    enum-told
+    (λ c κs. search needs)
+    (λ c. search needs)
     print-by-requires
-    enum-known-found
-    enum-told-2
-    same-length
-    same-length-2
+    (λ c. search needs)
+    (λ c. search needs)
+    (λ c. search needs)
+    (λ c. search needs)
     returns
-    same-length-3
+    (λ c. search needs)
     returns-2
-    same-length-4
+    (λ c. search needs)
     returns-3)

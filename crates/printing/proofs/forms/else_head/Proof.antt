@@ -4,30 +4,6 @@ use borrow.Author.Needs.{needs}
 use Rattle.printing.proofs.forms.else_head.Statement.{statement}
 use Rattle.printing.proofs.forms.else_head.Tie as tie
 
-space-requires : tie.Need-space-requires
-space-requires c κs = search needs
-
-slice-aggregate-put : tie.Need-slice-aggregate-put
-slice-aggregate-put c = search needs
-
-put-requires : tie.Need-put-requires
-put-requires c κs = search needs
-
-is-if-requires : tie.Need-is-if-requires
-is-if-requires c κs = search needs
-
-more-requires : tie.Need-more-requires
-more-requires c κs = search needs
-
-choose-requires : tie.Need-choose-requires
-choose-requires c κs = search needs
-
-space-requires-2 : tie.Need-space-requires-2
-space-requires-2 c κs = search needs
-
-same-length : tie.Need-same-length
-same-length c = search needs
-
 returns : tie.Need-returns
 returns c = else-head-is
     (c .before .before .before .before .before .before .before .before .before .before .before .before .before .before .before .before .before .before .before .args .format)
@@ -40,12 +16,12 @@ pub else-head-spec : {M : Type 1} → statement M
 else-head-spec =
     tie.close
     (tie.spec
-    space-requires
-    slice-aggregate-put
-    put-requires
-    is-if-requires
-    more-requires
-    choose-requires
-    space-requires-2
-    same-length
+    (λ c κs. search needs)
+    (λ c. search needs)
+    (λ c κs. search needs)
+    (λ c κs. search needs)
+    (λ c κs. search needs)
+    (λ c κs. search needs)
+    (λ c κs. search needs)
+    (λ c. search needs)
     returns)

@@ -2,17 +2,11 @@
 use mathlib.Core.Path.{sym, ap}
 use mathlib.Core.Bool.{Bool}
 use Rattle.lexing.specs.Answer.{pick}
-use Rattle.prints.specs.declared.format.ExprFormatOption.the-variants.{SingleLine}
+use Rattle.layout.specs.declared.format.ExprFormatOption.the-variants.{SingleLine}
 use Rattle.printing.proofs.Operators.Surroundings.{format-by}
 use borrow.Author.Needs.{needs}
 use Rattle.printing.proofs.forms.format_after.Statement.{statement}
 use Rattle.printing.proofs.forms.format_after.Tie as tie
-
-get-requires : tie.Need-get-requires
-get-requires c κs = search needs
-
-breaks-line-requires : tie.Need-breaks-line-requires
-breaks-line-requires c κs = search needs
 
 returns : tie.Need-returns
 returns c =
@@ -25,4 +19,4 @@ returns-2 c =
     format-by f (sym (ap (λ (b : Bool). pick b f SingleLine) (c .if1 .left))) (c .before .breaks-line .ensures) (c .before .before .get .ensures)
 
 pub format-after-spec : {M : Type 1} → statement M
-format-after-spec = tie.close (tie.spec get-requires breaks-line-requires returns returns-2)
+format-after-spec = tie.close (tie.spec (λ c κs. search needs) (λ c κs. search needs) returns returns-2)

@@ -4,21 +4,6 @@ use borrow.Author.Needs.{needs}
 use Rattle.printing.proofs.forms.operator_form.Statement.{statement}
 use Rattle.printing.proofs.forms.operator_form.Tie as tie
 
-after-requires : tie.Need-after-requires
-after-requires c κs = search needs
-
-after-requires-2 : tie.Need-after-requires-2
-after-requires-2 c κs = search needs
-
-count-at-requires : tie.Need-count-at-requires
-count-at-requires c κs = search needs
-
-get-requires : tie.Need-get-requires
-get-requires c κs = search needs
-
-argument-count-requires : tie.Need-argument-count-requires
-argument-count-requires c κs = search needs
-
 returns : tie.Need-returns
 returns c = form-full _ _ (c .before .before .before .before .before .after .ensures) (c .before .before .before .before .after2 .ensures)
     (c .before .before .before .count-at .ensures) (c .before .before .get .ensures) (c .before .argument-count .ensures) (c .if1 .taken)
@@ -31,10 +16,10 @@ pub operator-form-spec : {M : Type 1} → statement M
 operator-form-spec =
     tie.close
     (tie.spec
-    after-requires
-    after-requires-2
-    count-at-requires
-    get-requires
-    argument-count-requires
+    (λ c κs. search needs)
+    (λ c κs. search needs)
+    (λ c κs. search needs)
+    (λ c κs. search needs)
+    (λ c κs. search needs)
     returns
     returns-2)

@@ -22,21 +22,9 @@ at-after c = passed (at-put-mode (c .before .before .before)) (c .after .ensures
 abbrev at-inline : tie.After-inline → Place
 at-inline c = part (at-after (c .before .before)) (c .inline .ensures) (λ x. x .tree .arg) _ (λ x. (ready (at-after (c .before .before)) (le-refl 0) (x .given .0), x .given .1)) _ (λ x. refl) (λ x. refl)
 
-put-mode-requires : tie.Need-put-mode-requires
-put-mode-requires c κs = search needs
-
-after-requires : tie.Need-after-requires
-after-requires c κs = search needs
-
-inline-requires : tie.Need-inline-requires
-inline-requires c κs = search needs
-
-same-length : tie.Need-same-length
-same-length c = search needs
-
 returns : tie.Need-returns
 returns c = done (at-inline (c .before .before)) (λ x. refl) (λ x. refl)
 
 pub argument-spec : {M : Type 1} → statement M
 argument-spec =
-    tie.close (tie.spec put-mode-requires after-requires inline-requires same-length returns)
+    tie.close (tie.spec (λ c κs. search needs) (λ c κs. search needs) (λ c κs. search needs) (λ c. search needs) returns)

@@ -20,24 +20,6 @@ at-put-unless c = text-of (at-start (c .before .before .before .before .before .
 abbrev at-typed-apart : tie.After-typed-apart → Place
 at-typed-apart c = part (at-put-unless (c .before .before .before .before)) (c .typed-apart .ensures) (λ x. (x .tree .name, boolWord (x .tree .injective), x .tree .typ)) _ (λ x. tt) _ (λ x. refl) (λ x. refl)
 
-after-name-requires : tie.Need-after-name-requires
-after-name-requires c κs = search needs
-
-get-requires : tie.Need-get-requires
-get-requires c κs = search needs
-
-slice-aggregate-put-unless : tie.Need-slice-aggregate-put-unless
-slice-aggregate-put-unless c = search needs
-
-put-unless-requires : tie.Need-put-unless-requires
-put-unless-requires c κs = search needs
-
-typed-apart-requires : tie.Need-typed-apart-requires
-typed-apart-requires c κs = search needs
-
-same-length : tie.Need-same-length
-same-length c = search needs
-
 returns : tie.Need-returns
 returns c = done (at-typed-apart (c .before .before)) (λ x. refl) (λ x. refl)
 
@@ -45,10 +27,10 @@ pub formal-spec : {M : Type 1} → statement M
 formal-spec =
     tie.close
     (tie.spec
-    after-name-requires
-    get-requires
-    slice-aggregate-put-unless
-    put-unless-requires
-    typed-apart-requires
-    same-length
+    (λ c κs. search needs)
+    (λ c κs. search needs)
+    (λ c. search needs)
+    (λ c κs. search needs)
+    (λ c κs. search needs)
+    (λ c. search needs)
     returns)

@@ -4,15 +4,9 @@ use borrow.Author.Needs.{needs}
 use Rattle.printing.proofs.items.inline.Statement.{statement}
 use Rattle.printing.proofs.items.inline.Tie as tie
 
-expr-requires : tie.Need-expr-requires
-expr-requires c κs = search needs
-
-same-length : tie.Need-same-length
-same-length c = search needs
-
 returns : tie.Need-returns
 returns c = one-line (c .before .before .before .before .before .before .before .before .args .text .now) (c .before .before .before .before .before .before .before .before .args .words .now)
     (c .before .before .before .before .before .before .before .before .args .counts .now) (c .before .before .before .before .before .before .before .before .args .step) (c .before .before .before .before .before .before .before .before .args .at) (c .before .before .expr .ensures)
 
 pub inline-spec : {M : Type 1} → statement M
-inline-spec = tie.close (tie.spec expr-requires same-length returns)
+inline-spec = tie.close (tie.spec (λ c κs. search needs) (λ c. search needs) returns)

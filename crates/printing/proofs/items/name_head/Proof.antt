@@ -15,17 +15,8 @@ at-put-name c = part (at-start (c .before .before .before .before .before .befor
 abbrev at-put : tie.After-put → Place
 at-put c = text (at-put-name (c .before .before .before .before)) (c .put .ensures) _ (λ x. refl)
 
-put-name-requires : tie.Need-put-name-requires
-put-name-requires c κs = search needs
-
-put-requires : tie.Need-put-requires
-put-requires c κs = search needs
-
-same-length : tie.Need-same-length
-same-length c = search needs
-
 returns : tie.Need-returns
 returns c = done (at-put (c .before .before)) (λ x. refl) (λ x. refl)
 
 pub name-head-spec : {M : Type 1} → statement M
-name-head-spec = tie.close (tie.spec put-name-requires put-requires same-length returns)
+name-head-spec = tie.close (tie.spec (λ c κs. search needs) (λ c κs. search needs) (λ c. search needs) returns)

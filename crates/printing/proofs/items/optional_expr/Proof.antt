@@ -21,26 +21,11 @@ at-put c = text (at-after (c .before .before .before .before)) (c .put .ensures)
 abbrev at-inline : tie.After-inline → Place
 at-inline c = part (at-put (c .before .before .before .before)) (c .inline .ensures) (λ x. x .tree) _ (λ x. (ready (at-put (c .before .before .before .before)) (le-refl 0) (x .given .0), x .given .1)) _ (λ x. refl) (λ x. refl)
 
-after-requires : tie.Need-after-requires
-after-requires c κs = search needs
-
-get-requires : tie.Need-get-requires
-get-requires c κs = search needs
-
 returns : tie.Need-returns
 returns c = at-none (optionalExpr (c .before .before .before .before .before .before .before .before .args .text .now)
     (c .before .before .before .before .before .before .before .before .args .words .now) (c .before .before .before .before .before .before .before .before .args .counts .now) (c .before .before .before .before .before .before .before .before .args .step)
     (c .before .before .before .before .before .before .before .before .args .at) 0 (c .before .before .before .before .before .before .before .before .args .prefix .now)) some (an-option _ _ _
     (c .before .before .before .before .before .before .before .before .args .prefix .now)) (c .before .get .ensures) (c .before .before .after .ensures) (c .if1 .taken)
-
-put-requires : tie.Need-put-requires
-put-requires c κs = search needs
-
-inline-requires : tie.Need-inline-requires
-inline-requires c κs = search needs
-
-same-length : tie.Need-same-length
-same-length c = search needs
 
 returns-2 : tie.Need-returns-2
 returns-2 c = at-some (optionalExpr (c .before .before .before .before .before .before .before .before .before .before .before .before .before .before .before .before .args .text .now)
@@ -56,10 +41,10 @@ pub optional-expr-spec : {M : Type 1} → statement M
 optional-expr-spec =
     tie.close
     (tie.spec
-    after-requires
-    get-requires
+    (λ c κs. search needs)
+    (λ c κs. search needs)
     returns
-    put-requires
-    inline-requires
-    same-length
+    (λ c κs. search needs)
+    (λ c κs. search needs)
+    (λ c. search needs)
     returns-2)

@@ -20,23 +20,8 @@ at-put c = text (at-after (c .before .before .before .before)) (c .put .ensures)
 abbrev at-put-name : tie.After-put-name → Place
 at-put-name c = part (at-put (c .before .before .before .before)) (c .put-name .ensures) (λ x. x .tree) _ (λ x. tt) _ (λ x. refl) (λ x. refl)
 
-after-requires : tie.Need-after-requires
-after-requires c κs = search needs
-
-get-requires : tie.Need-get-requires
-get-requires c κs = search needs
-
 returns : tie.Need-returns
 returns c = at-none (optionalName (c .before .before .before .before .before .before .before .args .text .now) (c .before .before .before .before .before .before .before .args .prefix .now)) some (an-option _ _ _ (c .before .before .before .before .before .before .before .args .prefix .now)) (c .before .get .ensures) (c .before .before .after .ensures) (c .if1 .taken)
-
-put-requires : tie.Need-put-requires
-put-requires c κs = search needs
-
-put-name-requires : tie.Need-put-name-requires
-put-name-requires c κs = search needs
-
-same-length : tie.Need-same-length
-same-length c = search needs
 
 returns-2 : tie.Need-returns-2
 returns-2 c = at-some (optionalName (c .before .before .before .before .before .before .before .before .before .before .before .before .before .before .before .args .text .now)
@@ -49,10 +34,10 @@ pub optional-name-spec : {M : Type 1} → statement M
 optional-name-spec =
     tie.close
     (tie.spec
-    after-requires
-    get-requires
+    (λ c κs. search needs)
+    (λ c κs. search needs)
     returns
-    put-requires
-    put-name-requires
-    same-length
+    (λ c κs. search needs)
+    (λ c κs. search needs)
+    (λ c. search needs)
     returns-2)

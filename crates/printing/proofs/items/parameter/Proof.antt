@@ -25,24 +25,6 @@ at-typed-apart c = part (at-put-mode (c .before .before .before .before)) (c .ty
 abbrev at-optional-expr : tie.After-optional-expr → Place
 at-optional-expr c = part (at-typed-apart (c .before .before .before .before .before)) (c .optional-expr .ensures) (λ x. x .tree .optionalAutoInv) _ (λ x. (ready (at-typed-apart (c .before .before .before .before .before)) (le-refl 0) (x .given .0), x .given .1)) _ (λ x. refl) (λ x. refl)
 
-after-name-requires : tie.Need-after-name-requires
-after-name-requires c κs = search needs
-
-put-mode-requires : tie.Need-put-mode-requires
-put-mode-requires c κs = search needs
-
-typed-apart-requires : tie.Need-typed-apart-requires
-typed-apart-requires c κs = search needs
-
-slice-aggregate-optional-expr : tie.Need-slice-aggregate-optional-expr
-slice-aggregate-optional-expr c = search needs
-
-optional-expr-requires : tie.Need-optional-expr-requires
-optional-expr-requires c κs = search needs
-
-same-length : tie.Need-same-length
-same-length c = search needs
-
 returns : tie.Need-returns
 returns c = done (at-optional-expr (c .before .before)) (λ x. refl) (λ x. refl)
 
@@ -50,10 +32,10 @@ pub parameter-spec : {M : Type 1} → statement M
 parameter-spec =
     tie.close
     (tie.spec
-    after-name-requires
-    put-mode-requires
-    typed-apart-requires
-    slice-aggregate-optional-expr
-    optional-expr-requires
-    same-length
+    (λ c κs. search needs)
+    (λ c κs. search needs)
+    (λ c κs. search needs)
+    (λ c. search needs)
+    (λ c κs. search needs)
+    (λ c. search needs)
     returns)

@@ -6,29 +6,8 @@ use borrow.Author.Needs.{needs}
 use Rattle.printing.proofs.items.put_mode.Statement.{statement}
 use Rattle.printing.proofs.items.put_mode.Tie as tie
 
-get-requires : tie.Need-get-requires
-get-requires c κs = search needs
-
-slice-aggregate-put : tie.Need-slice-aggregate-put
-slice-aggregate-put c = search needs
-
-put-requires : tie.Need-put-requires
-put-requires c κs = search needs
-
-slice-aggregate-put-2 : tie.Need-slice-aggregate-put-2
-slice-aggregate-put-2 c = search needs
-
-put-requires-2 : tie.Need-put-requires-2
-put-requires-2 c κs = search needs
-
-same-length : tie.Need-same-length
-same-length c = search needs
-
 returns : tie.Need-returns
 returns c = rw (sym (c .before .before .before .before .before .before .get .ensures) ∙ c .before .before .before .before .before .match .keys1) (c .before .before .put .ensures)
-
-same-length-2 : tie.Need-same-length-2
-same-length-2 c = search needs
 
 returns-2 : tie.Need-returns-2
 returns-2 c = rw (sym (c .before .before .before .before .before .before .get .ensures) ∙ c .before .before .before .before .before .match .keys2) (c .before .before .put2 .ensures)
@@ -40,13 +19,13 @@ pub put-mode-spec : {M : Type 1} → statement M
 put-mode-spec =
     tie.close
     (tie.spec
-    get-requires
-    slice-aggregate-put
-    put-requires
-    slice-aggregate-put-2
-    put-requires-2
-    same-length
+    (λ c κs. search needs)
+    (λ c. search needs)
+    (λ c κs. search needs)
+    (λ c. search needs)
+    (λ c κs. search needs)
+    (λ c. search needs)
     returns
-    same-length-2
+    (λ c. search needs)
     returns-2
     returns-3)

@@ -18,21 +18,6 @@ at-after c = passed (at-name-head (c .before .before .before)) (c .after .ensure
 abbrev at-put-name : tie.After-put-name → Place
 at-put-name c = part (at-after (c .before .before)) (c .put-name .ensures) (λ x. x .tree .2) _ (λ x. tt) _ (λ x. refl) (λ x. refl)
 
-slice-aggregate-name-head : tie.Need-slice-aggregate-name-head
-slice-aggregate-name-head c = search needs
-
-name-head-requires : tie.Need-name-head-requires
-name-head-requires c κs = search needs
-
-after-requires : tie.Need-after-requires
-after-requires c κs = search needs
-
-put-name-requires : tie.Need-put-name-requires
-put-name-requires c κs = search needs
-
-same-length : tie.Need-same-length
-same-length c = search needs
-
 returns : tie.Need-returns
 returns c = done (at-put-name (c .before .before)) (λ x. refl) (λ x. refl)
 
@@ -40,9 +25,9 @@ pub typed-apart-spec : {M : Type 1} → statement M
 typed-apart-spec =
     tie.close
     (tie.spec
-    slice-aggregate-name-head
-    name-head-requires
-    after-requires
-    put-name-requires
-    same-length
+    (λ c. search needs)
+    (λ c κs. search needs)
+    (λ c κs. search needs)
+    (λ c κs. search needs)
+    (λ c. search needs)
     returns)

@@ -1,7 +1,7 @@
 -- The strengths of IfThenElse to LogicalOr, one case each.
 use mathlib.Core.Path.{_≡_, refl}
 use native.Mathlib.Omega.{arith}
-use Rattle.prints.specs.PrintUtil.{EndlessOperator, BindingStrength}
+use Rattle.layout.specs.PrintUtil.{EndlessOperator, BindingStrength}
 use Rattle.printing.proofs.Operators.Tables.{first-operator}
 use borrow.Author.Needs.{needs}
 use Rattle.printing.proofs.operator.logical_strength.Statement.{statement}

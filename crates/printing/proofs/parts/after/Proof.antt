@@ -4,9 +4,6 @@ use borrow.Author.Needs.{needs}
 use Rattle.printing.proofs.parts.after.Statement.{statement}
 use Rattle.printing.proofs.parts.after.Tie as tie
 
-add-result : tie.Need-add-result
-add-result c = search needs
-
 returns : tie.Need-returns
 returns c = next-inside _ _ (c .if1 .taken)
 
@@ -14,4 +11,4 @@ returns-2 : tie.Need-returns-2
 returns-2 c = next-past _ _ (c .if1 .left)
 
 pub after-spec : {M : Type 1} → statement M
-after-spec = tie.close (tie.spec add-result returns returns-2)
+after-spec = tie.close (tie.spec (λ c. search needs) returns returns-2)

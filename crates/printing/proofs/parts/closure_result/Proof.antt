@@ -4,24 +4,6 @@ use borrow.Author.Needs.{needs}
 use Rattle.printing.proofs.parts.closure_result.Statement.{statement}
 use Rattle.printing.proofs.parts.closure_result.Tie as tie
 
-slice-aggregate-put : tie.Need-slice-aggregate-put
-slice-aggregate-put c = search needs
-
-put-requires : tie.Need-put-requires
-put-requires c κs = search needs
-
-typed-requires : tie.Need-typed-requires
-typed-requires c κs = search needs
-
-slice-aggregate-put-2 : tie.Need-slice-aggregate-put-2
-slice-aggregate-put-2 c = search needs
-
-put-requires-2 : tie.Need-put-requires-2
-put-requires-2 c κs = search needs
-
-same-length : tie.Need-same-length
-same-length c = search needs
-
 returns : tie.Need-returns
 returns c = result-prints
     (c .before .before .before .before .before .before .before .before .before .before .before .before .before .before .before .before .before .args .text .now)
@@ -32,10 +14,10 @@ pub closure-result-spec : {M : Type 1} → statement M
 closure-result-spec =
     tie.close
     (tie.spec
-    slice-aggregate-put
-    put-requires
-    typed-requires
-    slice-aggregate-put-2
-    put-requires-2
-    same-length
+    (λ c. search needs)
+    (λ c κs. search needs)
+    (λ c κs. search needs)
+    (λ c. search needs)
+    (λ c κs. search needs)
+    (λ c. search needs)
     returns)

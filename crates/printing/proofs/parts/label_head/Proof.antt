@@ -4,21 +4,6 @@ use borrow.Author.Needs.{needs}
 use Rattle.printing.proofs.parts.label_head.Statement.{statement}
 use Rattle.printing.proofs.parts.label_head.Tie as tie
 
-endless-parenthesis-requires : tie.Need-endless-parenthesis-requires
-endless-parenthesis-requires c κs = search needs
-
-put-name-requires : tie.Need-put-name-requires
-put-name-requires c κs = search needs
-
-slice-aggregate-put : tie.Need-slice-aggregate-put
-slice-aggregate-put c = search needs
-
-put-requires : tie.Need-put-requires
-put-requires c κs = search needs
-
-same-length : tie.Need-same-length
-same-length c = search needs
-
 returns : tie.Need-returns
 returns c = label-head
     (c .before .before .before .before .before .before .before .before .before .before .before .before .before .before .before .before .args .text .now)
@@ -29,9 +14,9 @@ pub label-head-spec : {M : Type 1} → statement M
 label-head-spec =
     tie.close
     (tie.spec
-    endless-parenthesis-requires
-    put-name-requires
-    slice-aggregate-put
-    put-requires
-    same-length
+    (λ c κs. search needs)
+    (λ c κs. search needs)
+    (λ c. search needs)
+    (λ c κs. search needs)
+    (λ c. search needs)
     returns)

@@ -4,50 +4,20 @@ use borrow.Author.Needs.{needs}
 use Rattle.printing.proofs.parts.leaf.Statement.{statement}
 use Rattle.printing.proofs.parts.leaf.Tie as tie
 
-after-requires : tie.Need-after-requires
-after-requires c κs = search needs
-
-get-requires : tie.Need-get-requires
-get-requires c κs = search needs
-
-put-bool-requires : tie.Need-put-bool-requires
-put-bool-requires c κs = search needs
-
-put-natural-requires : tie.Need-put-natural-requires
-put-natural-requires c κs = search needs
-
-custom-literal-requires : tie.Need-custom-literal-requires
-custom-literal-requires c κs = search needs
-
-id-expr-requires : tie.Need-id-expr-requires
-id-expr-requires c κs = search needs
-
-same-length : tie.Need-same-length
-same-length c = search needs
-
 returns : tie.Need-returns
 returns c = leaf-bool (c .before .before .before .before .before .before .before .before .before .before .args .text .now)
     (c .before .before .before .before .before .get .ensures) (c .before .before .before .before .before .before .after .ensures)
     (c .before .before .before .before .match .keys1) (c .before .before .put-bool .ensures)
-
-same-length-2 : tie.Need-same-length-2
-same-length-2 c = search needs
 
 returns-2 : tie.Need-returns-2
 returns-2 c = leaf-natural (c .before .before .before .before .before .before .before .before .before .before .args .text .now)
     (c .before .before .before .before .before .get .ensures) (c .before .before .before .before .before .before .after .ensures)
     (c .before .before .before .before .match .keys2) (c .before .before .put-natural .ensures)
 
-same-length-3 : tie.Need-same-length-3
-same-length-3 c = search needs
-
 returns-3 : tie.Need-returns-3
 returns-3 c = leaf-custom (c .before .before .before .before .before .before .before .before .before .before .args .text .now)
     (c .before .before .before .before .before .get .ensures) (c .before .before .before .before .before .before .after .ensures)
     (c .before .before .before .before .match .keys3) (c .before .before .custom-literal .ensures)
-
-same-length-4 : tie.Need-same-length-4
-same-length-4 c = search needs
 
 returns-4 : tie.Need-returns-4
 returns-4 c = leaf-identifier (c .before .before .before .before .before .before .before .before .before .before .args .text .now)
@@ -63,18 +33,18 @@ pub leaf-spec : {M : Type 1} → statement M
 leaf-spec =
     tie.close
     (tie.spec
-    after-requires
-    get-requires
-    put-bool-requires
-    put-natural-requires
-    custom-literal-requires
-    id-expr-requires
-    same-length
+    (λ c κs. search needs)
+    (λ c κs. search needs)
+    (λ c κs. search needs)
+    (λ c κs. search needs)
+    (λ c κs. search needs)
+    (λ c κs. search needs)
+    (λ c. search needs)
     returns
-    same-length-2
+    (λ c. search needs)
     returns-2
-    same-length-3
+    (λ c. search needs)
     returns-3
-    same-length-4
+    (λ c. search needs)
     returns-4
     returns-5)

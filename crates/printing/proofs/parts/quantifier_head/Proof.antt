@@ -4,19 +4,10 @@ use borrow.Author.Needs.{needs}
 use Rattle.printing.proofs.parts.quantifier_head.Statement.{statement}
 use Rattle.printing.proofs.parts.quantifier_head.Tie as tie
 
-endless-parenthesis-requires : tie.Need-endless-parenthesis-requires
-endless-parenthesis-requires c κs = search needs
-
-quantified-requires : tie.Need-quantified-requires
-quantified-requires c κs = search needs
-
-same-length : tie.Need-same-length
-same-length c = search needs
-
 returns : tie.Need-returns
 returns c = quantifier-head (c .before .before .before .before .before .before .before .before .before .before .before .args .text .now) _
     (c .before .before .before .before .before .before .endless-parenthesis .ensures) (c .before .before .quantified .ensures)
 
 pub quantifier-head-spec : {M : Type 1} → statement M
 quantifier-head-spec =
-    tie.close (tie.spec endless-parenthesis-requires quantified-requires same-length returns)
+    tie.close (tie.spec (λ c κs. search needs) (λ c κs. search needs) (λ c. search needs) returns)

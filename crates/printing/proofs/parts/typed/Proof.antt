@@ -4,21 +4,6 @@ use borrow.Author.Needs.{needs}
 use Rattle.printing.proofs.parts.typed.Statement.{statement}
 use Rattle.printing.proofs.parts.typed.Tie as tie
 
-put-name-requires : tie.Need-put-name-requires
-put-name-requires c κs = search needs
-
-slice-aggregate-put : tie.Need-slice-aggregate-put
-slice-aggregate-put c = search needs
-
-put-requires : tie.Need-put-requires
-put-requires c κs = search needs
-
-put-name-requires-2 : tie.Need-put-name-requires-2
-put-name-requires-2 c κs = search needs
-
-same-length : tie.Need-same-length
-same-length c = search needs
-
 returns : tie.Need-returns
 returns c = typed-prints
     (c .before .before .before .before .before .before .before .before .before .before .before .before .before .before .before .before .args .text .now)
@@ -29,9 +14,9 @@ pub typed-spec : {M : Type 1} → statement M
 typed-spec =
     tie.close
     (tie.spec
-    put-name-requires
-    slice-aggregate-put
-    put-requires
-    put-name-requires-2
-    same-length
+    (λ c κs. search needs)
+    (λ c. search needs)
+    (λ c κs. search needs)
+    (λ c κs. search needs)
+    (λ c. search needs)
     returns)

@@ -6,7 +6,7 @@ use borrow.Fn.Kinds.{In, Out}
 use borrow.Fn.PlainCycle.{Measures, is, falls, and}
 use mathlib.Core.Path.{refl}
 use lib.ListN.{length}
-use Rattle.grammar.specs.Words.{bytes}
+use Rattle.lexing.specs.Bytes.{bytes}
 use Rattle.printing.specs.Parts.{Part}
 use Rattle.printing.specs.DeclParts.{declPrint, declList}
 use Rattle.tree.proofs.get.Reads as get

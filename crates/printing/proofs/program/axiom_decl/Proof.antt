@@ -2,7 +2,7 @@
 use mathlib.Core.Path.{refl}
 use Rattle.printing.proofs.Places.{Place, begin, done, part, text, ready}
 use Rattle.printing.specs.declared.items.Item.the-variants.{Name}
-use Rattle.printing.specs.declared.program.Decl.the-variants.{Axioms}
+use Rattle.printing.specs.declared.program.DeclKind.the-variants.{Axioms}
 use Rattle.printing.specs.StmtParts.{itemWords}
 use Rattle.printing.proofs.StmtPrints.Room.{free-items}
 use Rattle.printing.specs.DeclParts.{aDecl}
@@ -37,36 +37,6 @@ at-broken-lines c = part (at-put2 (c .before .before .before .before)) (c .broke
 abbrev at-put3 : tie.After-put3 → Place
 at-put3 c = text (at-broken-lines (c .before .before .before .before .before)) (c .put3 .ensures) _ (λ x. refl)
 
-slice-aggregate-put : tie.Need-slice-aggregate-put
-slice-aggregate-put c = search needs
-
-put-requires : tie.Need-put-requires
-put-requires c κs = search needs
-
-slice-aggregate-separated : tie.Need-slice-aggregate-separated
-slice-aggregate-separated c = search needs
-
-separated-requires : tie.Need-separated-requires
-separated-requires c κs = search needs
-
-slice-aggregate-put-2 : tie.Need-slice-aggregate-put-2
-slice-aggregate-put-2 c = search needs
-
-put-requires-2 : tie.Need-put-requires-2
-put-requires-2 c κs = search needs
-
-broken-lines-requires : tie.Need-broken-lines-requires
-broken-lines-requires c κs = search needs
-
-slice-aggregate-put-3 : tie.Need-slice-aggregate-put-3
-slice-aggregate-put-3 c = search needs
-
-put-requires-3 : tie.Need-put-requires-3
-put-requires-3 c κs = search needs
-
-same-length : tie.Need-same-length
-same-length c = search needs
-
 returns : tie.Need-returns
 returns c = done (at-put3 (c .before .before)) (λ x. refl) (λ x. refl)
 
@@ -74,14 +44,14 @@ pub axiom-decl-spec : {M : Type 1} → statement M
 axiom-decl-spec =
     tie.close
     (tie.spec
-    slice-aggregate-put
-    put-requires
-    slice-aggregate-separated
-    separated-requires
-    slice-aggregate-put-2
-    put-requires-2
-    broken-lines-requires
-    slice-aggregate-put-3
-    put-requires-3
-    same-length
+    (λ c. search needs)
+    (λ c κs. search needs)
+    (λ c. search needs)
+    (λ c κs. search needs)
+    (λ c. search needs)
+    (λ c κs. search needs)
+    (λ c κs. search needs)
+    (λ c. search needs)
+    (λ c κs. search needs)
+    (λ c. search needs)
     returns)

@@ -16,15 +16,6 @@ at-put-indent c = text (at-start (c .before .before .before .before .before .bef
 abbrev at-expr : tie.After-expr → Place
 at-expr c = part (at-put-indent (c .before .before .before .before)) (c .expr .ensures) (λ x. x .tree) _ (λ x. (ready (at-put-indent (c .before .before .before .before)) (le-refl _) (x .given .0), x .given .1)) _ (λ x. refl) (λ x. refl)
 
-put-indent-requires : tie.Need-put-indent-requires
-put-indent-requires c κs = search needs
-
-expr-requires : tie.Need-expr-requires
-expr-requires c κs = search needs
-
-same-length : tie.Need-same-length
-same-length c = search needs
-
 returns : tie.Need-returns
 returns c = done (at-expr (c .before .before)) (λ x. refl) (λ x. refl)
 
@@ -32,7 +23,7 @@ pub broken-lines-spec : {M : Type 1} → statement M
 broken-lines-spec =
     tie.close
     (tie.spec
-    put-indent-requires
-    expr-requires
-    same-length
+    (λ c κs. search needs)
+    (λ c κs. search needs)
+    (λ c. search needs)
     returns)

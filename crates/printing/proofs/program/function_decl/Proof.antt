@@ -2,7 +2,7 @@
 use mathlib.Core.Path.{refl}
 use Rattle.printing.proofs.Places.{Place, begin, done, part, text, ready}
 use Rattle.printing.specs.declared.items.Item.the-variants.{Formal}
-use Rattle.printing.specs.declared.program.Decl.the-variants.{Functions}
+use Rattle.printing.specs.declared.program.DeclKind.the-variants.{Functions}
 use Rattle.printing.specs.StmtParts.{itemWords}
 use Rattle.printing.proofs.StmtPrints.Room.{free-items}
 use Rattle.printing.specs.DeclParts.{aDecl}
@@ -46,45 +46,6 @@ at-put3 c = text (at-optional-name (c .before .before .before .before .before)) 
 abbrev at-optional-definition : tie.After-optional-definition → Place
 at-optional-definition c = part (at-put3 (c .before .before .before .before)) (c .optional-definition .ensures) (λ x. x .tree .definition) _ (λ x. (ready (at-put3 (c .before .before .before .before)) (le-refl _) (x .given .0), x .given .1 .1)) _ (λ x. refl) (λ x. refl)
 
-slice-aggregate-put : tie.Need-slice-aggregate-put
-slice-aggregate-put c = search needs
-
-put-requires : tie.Need-put-requires
-put-requires c κs = search needs
-
-call-head-requires : tie.Need-call-head-requires
-call-head-requires c κs = search needs
-
-slice-aggregate-separated : tie.Need-slice-aggregate-separated
-slice-aggregate-separated c = search needs
-
-separated-requires : tie.Need-separated-requires
-separated-requires c κs = search needs
-
-slice-aggregate-put-2 : tie.Need-slice-aggregate-put-2
-slice-aggregate-put-2 c = search needs
-
-put-requires-2 : tie.Need-put-requires-2
-put-requires-2 c κs = search needs
-
-put-name-requires : tie.Need-put-name-requires
-put-name-requires c κs = search needs
-
-slice-aggregate-optional-name : tie.Need-slice-aggregate-optional-name
-slice-aggregate-optional-name c = search needs
-
-optional-name-requires : tie.Need-optional-name-requires
-optional-name-requires c κs = search needs
-
-slice-aggregate-put-3 : tie.Need-slice-aggregate-put-3
-slice-aggregate-put-3 c = search needs
-
-put-requires-3 : tie.Need-put-requires-3
-put-requires-3 c κs = search needs
-
-optional-definition-requires : tie.Need-optional-definition-requires
-optional-definition-requires c κs = search needs
-
 same-length : tie.Need-same-length
 same-length c =
     omega (
@@ -106,18 +67,18 @@ pub function-decl-spec : {M : Type 1} → statement M
 function-decl-spec =
     tie.close
     (tie.spec
-    slice-aggregate-put
-    put-requires
-    call-head-requires
-    slice-aggregate-separated
-    separated-requires
-    slice-aggregate-put-2
-    put-requires-2
-    put-name-requires
-    slice-aggregate-optional-name
-    optional-name-requires
-    slice-aggregate-put-3
-    put-requires-3
-    optional-definition-requires
+    (λ c. search needs)
+    (λ c κs. search needs)
+    (λ c κs. search needs)
+    (λ c. search needs)
+    (λ c κs. search needs)
+    (λ c. search needs)
+    (λ c κs. search needs)
+    (λ c κs. search needs)
+    (λ c. search needs)
+    (λ c κs. search needs)
+    (λ c. search needs)
+    (λ c κs. search needs)
+    (λ c κs. search needs)
     same-length
     returns)

@@ -22,29 +22,11 @@ at-block c = part (at-after (c .before .before .before .before)) (c .block .ensu
 abbrev at-put : tie.After-put → Place
 at-put c = text (at-block (c .before .before .before .before .before)) (c .put .ensures) _ (λ x. refl)
 
-after-requires : tie.Need-after-requires
-after-requires c κs = search needs
-
-get-requires : tie.Need-get-requires
-get-requires c κs = search needs
-
 returns : tie.Need-returns
 returns c =
     at-none (optionalBody (c .before .before .before .before .before .before .before .args .text .now) (c .before .before .before .before .before .before .before .args .words .now) (c .before .before .before .before .before .before .before .args .counts .now) (c .before .before .before .before .before .before .before .args .step)
     (c .before .before .before .before .before .before .before .args .at)) some (an-option _ _ _ [])
     (c .before .get .ensures) (c .before .before .after .ensures) (c .if1 .taken)
-
-block-requires : tie.Need-block-requires
-block-requires c κs = search needs
-
-slice-aggregate-put : tie.Need-slice-aggregate-put
-slice-aggregate-put c = search needs
-
-put-requires : tie.Need-put-requires
-put-requires c κs = search needs
-
-same-length : tie.Need-same-length
-same-length c = search needs
 
 returns-2 : tie.Need-returns-2
 returns-2 c =
@@ -57,11 +39,11 @@ pub optional-body-spec : {M : Type 1} → statement M
 optional-body-spec =
     tie.close
     (tie.spec
-    after-requires
-    get-requires
+    (λ c κs. search needs)
+    (λ c κs. search needs)
     returns
-    block-requires
-    slice-aggregate-put
-    put-requires
-    same-length
+    (λ c κs. search needs)
+    (λ c. search needs)
+    (λ c κs. search needs)
+    (λ c. search needs)
     returns-2)

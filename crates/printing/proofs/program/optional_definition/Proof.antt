@@ -28,38 +28,11 @@ at-broken-lines c = part (at-put (c .before .before .before .before)) (c .broken
 abbrev at-put2 : tie.After-put2 → Place
 at-put2 c = text (at-broken-lines (c .before .before .before .before .before)) (c .put2 .ensures) _ (λ x. refl)
 
-after-requires : tie.Need-after-requires
-after-requires c κs = search needs
-
-get-requires : tie.Need-get-requires
-get-requires c κs = search needs
-
 returns : tie.Need-returns
 returns c =
     at-none (optionalDefinition (c .before .before .before .before .before .before .before .args .text .now) (c .before .before .before .before .before .before .before .args .words .now) (c .before .before .before .before .before .before .before .args .counts .now) (c .before .before .before .before .before .before .before .args .step)
     (c .before .before .before .before .before .before .before .args .at)) some (an-option _ _ _ [])
     (c .before .get .ensures) (c .before .before .after .ensures) (c .if1 .taken)
-
-whens-requires : tie.Need-whens-requires
-whens-requires c κs = search needs
-
-slice-aggregate-put : tie.Need-slice-aggregate-put
-slice-aggregate-put c = search needs
-
-put-requires : tie.Need-put-requires
-put-requires c κs = search needs
-
-broken-lines-requires : tie.Need-broken-lines-requires
-broken-lines-requires c κs = search needs
-
-slice-aggregate-put-2 : tie.Need-slice-aggregate-put-2
-slice-aggregate-put-2 c = search needs
-
-put-requires-2 : tie.Need-put-requires-2
-put-requires-2 c κs = search needs
-
-same-length : tie.Need-same-length
-same-length c = search needs
 
 returns-2 : tie.Need-returns-2
 returns-2 c =
@@ -74,14 +47,14 @@ pub optional-definition-spec : {M : Type 1} → statement M
 optional-definition-spec =
     tie.close
     (tie.spec
-    after-requires
-    get-requires
+    (λ c κs. search needs)
+    (λ c κs. search needs)
     returns
-    whens-requires
-    slice-aggregate-put
-    put-requires
-    broken-lines-requires
-    slice-aggregate-put-2
-    put-requires-2
-    same-length
+    (λ c κs. search needs)
+    (λ c. search needs)
+    (λ c κs. search needs)
+    (λ c κs. search needs)
+    (λ c. search needs)
+    (λ c κs. search needs)
+    (λ c. search needs)
     returns-2)

@@ -1,7 +1,7 @@
 -- The word and the name, the parameters, what it requires and ensures, and the body.
 use mathlib.Core.Path.{refl}
 use Rattle.printing.proofs.Places.{Place, begin, done, part, text, ready}
-use Rattle.printing.specs.declared.program.Decl.the-variants.{Procedures}
+use Rattle.printing.specs.declared.program.DeclKind.the-variants.{Procedures}
 use Rattle.printing.specs.DeclParts.{aDecl}
 use native.Mathlib.Nat.{le-refl}
 use native.Mathlib.Omega.{arith}
@@ -33,42 +33,6 @@ at-aexprs2 c = part (at-aexprs (c .before .before .before .before .before)) (c .
 abbrev at-optional-body : tie.After-optional-body → Place
 at-optional-body c = part (at-aexprs2 (c .before .before .before .before)) (c .optional-body .ensures) (λ x. x .tree .body) _ (λ x. (ready (at-aexprs2 (c .before .before .before .before)) (le-refl _) (x .given .0), x .given .1 .5)) _ (λ x. refl) (λ x. refl)
 
-slice-aggregate-put : tie.Need-slice-aggregate-put
-slice-aggregate-put c = search needs
-
-put-requires : tie.Need-put-requires
-put-requires c κs = search needs
-
-call-head-requires : tie.Need-call-head-requires
-call-head-requires c κs = search needs
-
-slice-aggregate-separated : tie.Need-slice-aggregate-separated
-slice-aggregate-separated c = search needs
-
-separated-requires : tie.Need-separated-requires
-separated-requires c κs = search needs
-
-slice-aggregate-put-2 : tie.Need-slice-aggregate-put-2
-slice-aggregate-put-2 c = search needs
-
-put-requires-2 : tie.Need-put-requires-2
-put-requires-2 c κs = search needs
-
-slice-aggregate-aexprs : tie.Need-slice-aggregate-aexprs
-slice-aggregate-aexprs c = search needs
-
-aexprs-requires : tie.Need-aexprs-requires
-aexprs-requires c κs = search needs
-
-slice-aggregate-aexprs-2 : tie.Need-slice-aggregate-aexprs-2
-slice-aggregate-aexprs-2 c = search needs
-
-aexprs-requires-2 : tie.Need-aexprs-requires-2
-aexprs-requires-2 c κs = search needs
-
-optional-body-requires : tie.Need-optional-body-requires
-optional-body-requires c κs = search needs
-
 same-length : tie.Need-same-length
 same-length c =
     omega (
@@ -89,17 +53,17 @@ pub procedure-spec : {M : Type 1} → statement M
 procedure-spec =
     tie.close
     (tie.spec
-    slice-aggregate-put
-    put-requires
-    call-head-requires
-    slice-aggregate-separated
-    separated-requires
-    slice-aggregate-put-2
-    put-requires-2
-    slice-aggregate-aexprs
-    aexprs-requires
-    slice-aggregate-aexprs-2
-    aexprs-requires-2
-    optional-body-requires
+    (λ c. search needs)
+    (λ c κs. search needs)
+    (λ c κs. search needs)
+    (λ c. search needs)
+    (λ c κs. search needs)
+    (λ c. search needs)
+    (λ c κs. search needs)
+    (λ c. search needs)
+    (λ c κs. search needs)
+    (λ c. search needs)
+    (λ c κs. search needs)
+    (λ c κs. search needs)
     same-length
     returns)

@@ -1,7 +1,7 @@
 -- The first line, and the five lists of declarations.
 use mathlib.Core.Path.{refl}
 use Rattle.printing.proofs.Places.{Place, begin, done, part, seen, text, ready}
-use Rattle.printing.specs.declared.program.Decl.the-variants.{Types, Taggers}
+use Rattle.printing.specs.declared.program.DeclKind.the-variants.{Types, Taggers}
 use Rattle.printing.specs.DeclParts.{declWords, aProgram}
 use Rattle.printing.proofs.DeclPrints.{program-print}
 use Rattle.printing.proofs.StmtPrints.Room.{free-items}
@@ -44,27 +44,6 @@ at-decls4 c = part (at-decls3 (c .before .before .before .before)) (c .decls4 .e
 abbrev at-decls5 : tie.After-decls5 → Place
 at-decls5 c = part (at-decls4 (c .before .before .before .before)) (c .decls5 .ensures) (λ x. x .tree .procedures) _ (λ x. (ready (at-decls4 (c .before .before .before .before)) (le-refl _) (x .given .0), x .given .1 .4 .1)) _ (λ x. refl) (λ x. refl)
 
-slice-aggregate-put : tie.Need-slice-aggregate-put
-slice-aggregate-put c = search needs
-
-put-requires : tie.Need-put-requires
-put-requires c κs = search needs
-
-decls-requires : tie.Need-decls-requires
-decls-requires c κs = search needs
-
-decls-requires-2 : tie.Need-decls-requires-2
-decls-requires-2 c κs = search needs
-
-decls-requires-3 : tie.Need-decls-requires-3
-decls-requires-3 c κs = search needs
-
-decls-requires-4 : tie.Need-decls-requires-4
-decls-requires-4 c κs = search needs
-
-decls-requires-5 : tie.Need-decls-requires-5
-decls-requires-5 c κs = search needs
-
 same-length : tie.Need-same-length
 same-length c =
     omega (
@@ -84,12 +63,12 @@ pub program-spec : {M : Type 1} → statement M
 program-spec =
     tie.close
     (tie.spec
-    slice-aggregate-put
-    put-requires
-    decls-requires
-    decls-requires-2
-    decls-requires-3
-    decls-requires-4
-    decls-requires-5
+    (λ c. search needs)
+    (λ c κs. search needs)
+    (λ c κs. search needs)
+    (λ c κs. search needs)
+    (λ c κs. search needs)
+    (λ c κs. search needs)
+    (λ c κs. search needs)
     same-length
     returns)

@@ -18,27 +18,6 @@ at-name-head c = part (at-put (c .before .before .before .before .before)) (c .n
 abbrev at-name-head2 : tie.After-name-head2 → Place
 at-name-head2 c = part (at-name-head (c .before .before .before .before .before)) (c .name-head2 .ensures) (λ x. x .tree .typ) _ (λ x. tt) _ (λ x. refl) (λ x. refl)
 
-slice-aggregate-put : tie.Need-slice-aggregate-put
-slice-aggregate-put c = search needs
-
-put-requires : tie.Need-put-requires
-put-requires c κs = search needs
-
-slice-aggregate-name-head : tie.Need-slice-aggregate-name-head
-slice-aggregate-name-head c = search needs
-
-name-head-requires : tie.Need-name-head-requires
-name-head-requires c κs = search needs
-
-slice-aggregate-name-head-2 : tie.Need-slice-aggregate-name-head-2
-slice-aggregate-name-head-2 c = search needs
-
-name-head-requires-2 : tie.Need-name-head-requires-2
-name-head-requires-2 c κs = search needs
-
-same-length : tie.Need-same-length
-same-length c = search needs
-
 returns : tie.Need-returns
 returns c = done (at-name-head2 (c .before .before)) (λ x. refl) (λ x. refl)
 
@@ -46,11 +25,11 @@ pub tagger-decl-spec : {M : Type 1} → statement M
 tagger-decl-spec =
     tie.close
     (tie.spec
-    slice-aggregate-put
-    put-requires
-    slice-aggregate-name-head
-    name-head-requires
-    slice-aggregate-name-head-2
-    name-head-requires-2
-    same-length
+    (λ c. search needs)
+    (λ c κs. search needs)
+    (λ c. search needs)
+    (λ c κs. search needs)
+    (λ c. search needs)
+    (λ c κs. search needs)
+    (λ c. search needs)
     returns)

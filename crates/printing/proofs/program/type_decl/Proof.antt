@@ -15,21 +15,6 @@ at-put c = text (at-start (c .before .before .before .before .before .before)) (
 abbrev at-name-head : tie.After-name-head → Place
 at-name-head c = part (at-put (c .before .before .before .before .before)) (c .name-head .ensures) (λ x. x .tree) _ (λ x. tt) _ (λ x. refl) (λ x. refl)
 
-slice-aggregate-put : tie.Need-slice-aggregate-put
-slice-aggregate-put c = search needs
-
-put-requires : tie.Need-put-requires
-put-requires c κs = search needs
-
-slice-aggregate-name-head : tie.Need-slice-aggregate-name-head
-slice-aggregate-name-head c = search needs
-
-name-head-requires : tie.Need-name-head-requires
-name-head-requires c κs = search needs
-
-same-length : tie.Need-same-length
-same-length c = search needs
-
 returns : tie.Need-returns
 returns c = done (at-name-head (c .before .before)) (λ x. refl) (λ x. refl)
 
@@ -37,9 +22,9 @@ pub type-decl-spec : {M : Type 1} → statement M
 type-decl-spec =
     tie.close
     (tie.spec
-    slice-aggregate-put
-    put-requires
-    slice-aggregate-name-head
-    name-head-requires
-    same-length
+    (λ c. search needs)
+    (λ c κs. search needs)
+    (λ c. search needs)
+    (λ c κs. search needs)
+    (λ c. search needs)
     returns)

@@ -19,24 +19,6 @@ at-inline c = part (at-name-head (c .before .before .before .before)) (c .inline
 abbrev at-put : tie.After-put → Place
 at-put c = text (at-inline (c .before .before .before .before .before)) (c .put .ensures) _ (λ x. refl)
 
-slice-aggregate-name-head : tie.Need-slice-aggregate-name-head
-slice-aggregate-name-head c = search needs
-
-name-head-requires : tie.Need-name-head-requires
-name-head-requires c κs = search needs
-
-inline-requires : tie.Need-inline-requires
-inline-requires c κs = search needs
-
-slice-aggregate-put : tie.Need-slice-aggregate-put
-slice-aggregate-put c = search needs
-
-put-requires : tie.Need-put-requires
-put-requires c κs = search needs
-
-same-length : tie.Need-same-length
-same-length c = search needs
-
 returns : tie.Need-returns
 returns c = done (at-put (c .before .before)) (λ x. refl) (λ x. refl)
 
@@ -44,10 +26,10 @@ pub assign-spec : {M : Type 1} → statement M
 assign-spec =
     tie.close
     (tie.spec
-    slice-aggregate-name-head
-    name-head-requires
-    inline-requires
-    slice-aggregate-put
-    put-requires
-    same-length
+    (λ c. search needs)
+    (λ c κs. search needs)
+    (λ c κs. search needs)
+    (λ c. search needs)
+    (λ c κs. search needs)
+    (λ c. search needs)
     returns)

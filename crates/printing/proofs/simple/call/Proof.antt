@@ -19,24 +19,6 @@ at-separated c = part (at-call-head (c .before .before .before .before .before))
 abbrev at-put : tie.After-put → Place
 at-put c = text (at-separated (c .before .before .before .before .before)) (c .put .ensures) _ (λ x. refl)
 
-call-head-requires : tie.Need-call-head-requires
-call-head-requires c κs = search needs
-
-slice-aggregate-separated : tie.Need-slice-aggregate-separated
-slice-aggregate-separated c = search needs
-
-separated-requires : tie.Need-separated-requires
-separated-requires c κs = search needs
-
-slice-aggregate-put : tie.Need-slice-aggregate-put
-slice-aggregate-put c = search needs
-
-put-requires : tie.Need-put-requires
-put-requires c κs = search needs
-
-same-length : tie.Need-same-length
-same-length c = search needs
-
 returns : tie.Need-returns
 returns c = done (at-put (c .before .before)) (λ x. refl) (λ x. refl)
 
@@ -44,10 +26,10 @@ pub call-spec : {M : Type 1} → statement M
 call-spec =
     tie.close
     (tie.spec
-    call-head-requires
-    slice-aggregate-separated
-    separated-requires
-    slice-aggregate-put
-    put-requires
-    same-length
+    (λ c κs. search needs)
+    (λ c. search needs)
+    (λ c κs. search needs)
+    (λ c. search needs)
+    (λ c κs. search needs)
+    (λ c. search needs)
     returns)

@@ -18,27 +18,6 @@ at-optional-name c = part (at-put (c .before .before .before .before .before)) (
 abbrev at-put2 : tie.After-put2 → Place
 at-put2 c = text (at-optional-name (c .before .before .before .before .before)) (c .put2 .ensures) _ (λ x. refl)
 
-slice-aggregate-put : tie.Need-slice-aggregate-put
-slice-aggregate-put c = search needs
-
-put-requires : tie.Need-put-requires
-put-requires c κs = search needs
-
-slice-aggregate-optional-name : tie.Need-slice-aggregate-optional-name
-slice-aggregate-optional-name c = search needs
-
-optional-name-requires : tie.Need-optional-name-requires
-optional-name-requires c κs = search needs
-
-slice-aggregate-put-2 : tie.Need-slice-aggregate-put-2
-slice-aggregate-put-2 c = search needs
-
-put-requires-2 : tie.Need-put-requires-2
-put-requires-2 c κs = search needs
-
-same-length : tie.Need-same-length
-same-length c = search needs
-
 returns : tie.Need-returns
 returns c = done (at-put2 (c .before .before)) (λ x. refl) (λ x. refl)
 
@@ -46,11 +25,11 @@ pub exit-spec : {M : Type 1} → statement M
 exit-spec =
     tie.close
     (tie.spec
-    slice-aggregate-put
-    put-requires
-    slice-aggregate-optional-name
-    optional-name-requires
-    slice-aggregate-put-2
-    put-requires-2
-    same-length
+    (λ c. search needs)
+    (λ c κs. search needs)
+    (λ c. search needs)
+    (λ c κs. search needs)
+    (λ c. search needs)
+    (λ c κs. search needs)
+    (λ c. search needs)
     returns)

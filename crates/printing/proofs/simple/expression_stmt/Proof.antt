@@ -25,24 +25,6 @@ at-inline c = part (at-after (c .before .before)) (c .inline .ensures) (λ x. x 
 abbrev at-put : tie.After-put → Place
 at-put c = text (at-inline (c .before .before .before .before .before)) (c .put .ensures) _ (λ x. refl)
 
-put-keyword-requires : tie.Need-put-keyword-requires
-put-keyword-requires c κs = search needs
-
-after-requires : tie.Need-after-requires
-after-requires c κs = search needs
-
-inline-requires : tie.Need-inline-requires
-inline-requires c κs = search needs
-
-slice-aggregate-put : tie.Need-slice-aggregate-put
-slice-aggregate-put c = search needs
-
-put-requires : tie.Need-put-requires
-put-requires c κs = search needs
-
-same-length : tie.Need-same-length
-same-length c = search needs
-
 returns : tie.Need-returns
 returns c = done (at-put (c .before .before)) (λ x. refl) (λ x. refl)
 
@@ -50,10 +32,10 @@ pub expression-stmt-spec : {M : Type 1} → statement M
 expression-stmt-spec =
     tie.close
     (tie.spec
-    put-keyword-requires
-    after-requires
-    inline-requires
-    slice-aggregate-put
-    put-requires
-    same-length
+    (λ c κs. search needs)
+    (λ c κs. search needs)
+    (λ c κs. search needs)
+    (λ c. search needs)
+    (λ c κs. search needs)
+    (λ c. search needs)
     returns)

@@ -28,27 +28,6 @@ at-separated c = part (at-put (c .before .before .before .before .before)) (c .s
 abbrev at-put2 : tie.After-put2 → Place
 at-put2 c = text (at-separated (c .before .before .before .before .before)) (c .put2 .ensures) _ (λ x. refl)
 
-slice-aggregate-put : tie.Need-slice-aggregate-put
-slice-aggregate-put c = search needs
-
-put-requires : tie.Need-put-requires
-put-requires c κs = search needs
-
-slice-aggregate-separated : tie.Need-slice-aggregate-separated
-slice-aggregate-separated c = search needs
-
-separated-requires : tie.Need-separated-requires
-separated-requires c κs = search needs
-
-slice-aggregate-put-2 : tie.Need-slice-aggregate-put-2
-slice-aggregate-put-2 c = search needs
-
-put-requires-2 : tie.Need-put-requires-2
-put-requires-2 c κs = search needs
-
-same-length : tie.Need-same-length
-same-length c = search needs
-
 returns : tie.Need-returns
 returns c = done (at-put2 (c .before .before)) (λ x. refl) (λ x. refl)
 
@@ -56,11 +35,11 @@ pub reinit-spec : {M : Type 1} → statement M
 reinit-spec =
     tie.close
     (tie.spec
-    slice-aggregate-put
-    put-requires
-    slice-aggregate-separated
-    separated-requires
-    slice-aggregate-put-2
-    put-requires-2
-    same-length
+    (λ c. search needs)
+    (λ c κs. search needs)
+    (λ c. search needs)
+    (λ c κs. search needs)
+    (λ c. search needs)
+    (λ c κs. search needs)
+    (λ c. search needs)
     returns)

@@ -7,14 +7,8 @@ use Rattle.printing.proofs.write.put_unless.Tie as tie
 returns : tie.Need-returns
 returns c = rw (c .if1 .taken) (none _ _)
 
-put-requires : tie.Need-put-requires
-put-requires c κs = search needs
-
-same-length : tie.Need-same-length
-same-length c = search needs
-
 returns-2 : tie.Need-returns-2
 returns-2 c = rw (c .before .before .before .before .if1 .left) (c .before .before .put .ensures)
 
 pub put-unless-spec : {M : Type 1} → statement M
-put-unless-spec = tie.close (tie.spec returns put-requires same-length returns-2)
+put-unless-spec = tie.close (tie.spec returns (λ c κs. search needs) (λ c. search needs) returns-2)

@@ -8,17 +8,8 @@ use Rattle.tree.proofs.frames.frame_of.Tie as tie
 returns : tie.Need-returns
 returns c = frame-plain _ _ (omega arith) (c .if1 .taken)
 
-add-result : tie.Need-add-result
-add-result c = search needs
-
-mul-result : tie.Need-mul-result
-mul-result c = search needs
-
-add-result-2 : tie.Need-add-result-2
-add-result-2 c = search needs
-
 returns-2 : tie.Need-returns-2
 returns-2 c = frame-marked _ _ (omega arith) (c .if1 .left)
 
 pub frame-of-spec : {M : Type 1} → statement M
-frame-of-spec = tie.close (tie.spec returns add-result mul-result add-result-2 returns-2)
+frame-of-spec = tie.close (tie.spec returns (λ c. search needs) (λ c. search needs) (λ c. search needs) returns-2)

@@ -4,15 +4,6 @@ use borrow.Author.Needs.{needs}
 use Rattle.tree.proofs.frames.mark_at.Statement.{statement}
 use Rattle.tree.proofs.frames.mark_at.Tie as tie
 
-row-of-requires : tie.Need-row-of-requires
-row-of-requires c κs = search needs
-
-is-sequence-requires : tie.Need-is-sequence-requires
-is-sequence-requires c κs = search needs
-
-sequence-mark-requires : tie.Need-sequence-mark-requires
-sequence-mark-requires c κs = search needs
-
 returns : tie.Need-returns
 returns c = mark-sequence (c .before .before .before .row-of .ensures) (c .before .before .is-sequence .ensures) (c .before .if1 .taken) (c .sequence-mark .ensures)
 
@@ -22,4 +13,4 @@ returns-2 c = mark-none (c .before .before .row-of .ensures) (c .before .is-sequ
 pub mark-at-spec : {M : Type 1} → statement M
 mark-at-spec =
     tie.close
-    (tie.spec row-of-requires is-sequence-requires sequence-mark-requires returns returns-2)
+    (tie.spec (λ c κs. search needs) (λ c κs. search needs) (λ c κs. search needs) returns returns-2)

@@ -5,24 +5,6 @@ use borrow.Author.Needs.{needs}
 use Rattle.tree.proofs.frames.note.Statement.{statement}
 use Rattle.tree.proofs.frames.note.Tie as tie
 
-sub-at : tie.Need-sub-at
-sub-at c = search needs
-
-sub-counts : tie.Need-sub-counts
-sub-counts c = search needs
-
-cast-counts : tie.Need-cast-counts
-cast-counts c = search needs
-
-mul-counts : tie.Need-mul-counts
-mul-counts c = search needs
-
-slice-write-counts : tie.Need-slice-write-counts
-slice-write-counts c = search needs
-
-same-length : tie.Need-same-length
-same-length c = search needs
-
 returns : tie.Need-returns
 returns c = noted-end (c .before .before .before .args .counts .now) (c .before .before .before .args .fields) (c .before .before .before .args .mark) (c .before .before .if1 .taken) (omega arith)
 
@@ -39,12 +21,12 @@ pub note-spec : {M : Type 1} → statement M
 note-spec =
     tie.close
     (tie.spec
-    sub-at
-    sub-counts
-    cast-counts
-    mul-counts
-    slice-write-counts
-    same-length
+    (λ c. search needs)
+    (λ c. search needs)
+    (λ c. search needs)
+    (λ c. search needs)
+    (λ c. search needs)
+    (λ c. search needs)
     returns
     returns-2
     returns-3

@@ -5,14 +5,8 @@ use borrow.Author.Needs.{needs}
 use Rattle.tree.proofs.frames.sequence_mark.Statement.{statement}
 use Rattle.tree.proofs.frames.sequence_mark.Tie as tie
 
-add-result : tie.Need-add-result
-add-result c = search needs
-
 returns : tie.Need-returns
 returns c = opens-behind _ _ _ (omega arith) (omega arith)
-
-add-result-2 : tie.Need-add-result-2
-add-result-2 c = search needs
 
 returns-2 : tie.Need-returns-2
 returns-2 c = opens-first _ _ _ (omega arith) (omega arith) (c .if2 .taken)
@@ -21,4 +15,4 @@ returns-3 : tie.Need-returns-3
 returns-3 c = opens-rest _ _ _ (omega arith) (c .if2 .left)
 
 pub sequence-mark-spec : {M : Type 1} → statement M
-sequence-mark-spec = tie.close (tie.spec add-result returns add-result-2 returns-2 returns-3)
+sequence-mark-spec = tie.close (tie.spec (λ c. search needs) returns (λ c. search needs) returns-2 returns-3)

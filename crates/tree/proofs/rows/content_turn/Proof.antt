@@ -20,18 +20,6 @@ returns-2 c inside =
     sym (content inside (a .kind) (a .word) (omega arith) (omega arith)
     ∙ tagged-high 0 ([] ∷ kindsOf (getD contentNumbers (a .kind - 7) 0) ∷ []) (a .word) (omega arith))
 
-sub-i : tie.Need-sub-i
-sub-i c = search needs
-
-cast-i : tie.Need-cast-i
-cast-i c = search needs
-
-mul-row : tie.Need-mul-row
-mul-row c = search needs
-
-array-read-row : tie.Need-array-read-row
-array-read-row c = search needs
-
 returns-3 : tie.Need-returns-3
 returns-3 c inside =
     let a = c .before .before .args in
@@ -39,4 +27,4 @@ returns-3 c inside =
     mark-1 _ _ one ∙ sym (content inside (a .kind) (a .word) (omega arith) (omega arith))
 
 pub content-turn-spec : {M : Type 1} → statement M
-content-turn-spec = tie.close (tie.spec returns returns-2 sub-i cast-i mul-row array-read-row returns-3)
+content-turn-spec = tie.close (tie.spec returns returns-2 (λ c. search needs) (λ c. search needs) (λ c. search needs) (λ c. search needs) returns-3)

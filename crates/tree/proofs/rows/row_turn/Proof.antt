@@ -19,18 +19,6 @@ returns-2 c =
     let a = c .before .before .args in
     sym (tagged-high (a .first) (take (a .count) (drop (a .base) constructorRows)) (a .word) (omega (arith, length-take (a .count) (drop (a .base) constructorRows))))
 
-add-i : tie.Need-add-i
-add-i c = search needs
-
-cast-i : tie.Need-cast-i
-cast-i c = search needs
-
-mul-row : tie.Need-mul-row
-mul-row c = search needs
-
-array-read-row : tie.Need-array-read-row
-array-read-row c = search needs
-
 returns-3 : tie.Need-returns-3
 returns-3 c =
     let a = c .before .before .args in
@@ -38,4 +26,4 @@ returns-3 c =
 
 pub row-turn-spec : {M : Type 1} → statement M
 row-turn-spec =
-    tie.close (tie.spec returns returns-2 add-i cast-i mul-row array-read-row returns-3)
+    tie.close (tie.spec returns returns-2 (λ c. search needs) (λ c. search needs) (λ c. search needs) (λ c. search needs) returns-3)

@@ -13,30 +13,6 @@ use Rattle.tree.proofs.rows.turn.Tie as tie
 at-number : (inside : ℕ → ℕ → Bool) (kind n w : ℕ) (t : Turn) → kind ≡ n → t ≡ turn inside (kindOf n) w → t ≡ turn inside (kindOf kind) w
 at-number inside kind n w t e h = rw e h
 
-content-turn-requires : tie.Need-content-turn-requires
-content-turn-requires c κs = search needs
-
-returns : tie.Need-returns
-returns c = search needs
-
-leaf-turn-requires : tie.Need-leaf-turn-requires
-leaf-turn-requires c κs = search needs
-
-leaf-turn-requires-2 : tie.Need-leaf-turn-requires-2
-leaf-turn-requires-2 c κs = search needs
-
-row-turn-requires : tie.Need-row-turn-requires
-row-turn-requires c κs = search needs
-
-row-turn-requires-2 : tie.Need-row-turn-requires-2
-row-turn-requires-2 c κs = search needs
-
-row-turn-requires-3 : tie.Need-row-turn-requires-3
-row-turn-requires-3 c κs = search needs
-
-leaf-turn-requires-3 : tie.Need-leaf-turn-requires-3
-leaf-turn-requires-3 c κs = search needs
-
 returns-2 : tie.Need-returns-2
 unfolding kindOf
 returns-2 c inside = at-number inside _ 2 _ _ (c .before .match .keys1) (c .leaf-turn .ensures)
@@ -67,14 +43,14 @@ pub turn-spec : {M : Type 1} → statement M
 turn-spec =
     tie.close
     (tie.spec
-    content-turn-requires
-    returns
-    leaf-turn-requires
-    leaf-turn-requires-2
-    row-turn-requires
-    row-turn-requires-2
-    row-turn-requires-3
-    leaf-turn-requires-3
+    (λ c κs. search needs)
+    (λ c. search needs)
+    (λ c κs. search needs)
+    (λ c κs. search needs)
+    (λ c κs. search needs)
+    (λ c κs. search needs)
+    (λ c κs. search needs)
+    (λ c κs. search needs)
     returns-2
     returns-3
     returns-4

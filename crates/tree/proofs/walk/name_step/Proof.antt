@@ -10,32 +10,11 @@ use Rattle.tree.proofs.RunSteps.{second-missing, name-outside, name-fit
 use Rattle.tree.proofs.walk.name_step.Statement.{statement}
 use Rattle.tree.proofs.walk.name_step.Tie as tie
 
-sub-if1 : tie.Need-sub-if1
-sub-if1 c = search needs
-
 returns : tie.Need-returns
 unfolding kindOf
 returns c =
     let a = c .before .before .args in
     second-missing (a .text-len) ((a .words .now)) (a .at) name (lengthFrom (getD ((a .words .now)) (a .at) 0)) (omega arith) (omega arith) refl
-
-add-second : tie.Need-add-second
-add-second c = search needs
-
-get-requires : tie.Need-get-requires
-get-requires c κs = search needs
-
-cast-start : tie.Need-cast-start
-cast-start c = search needs
-
-get-requires-2 : tie.Need-get-requires-2
-get-requires-2 c κs = search needs
-
-cast-len : tie.Need-cast-len
-cast-len c = search needs
-
-add-if2 : tie.Need-add-if2
-add-if2 c = search needs
 
 returns-2 : tie.Need-returns-2
 unfolding kindOf
@@ -44,9 +23,6 @@ returns-2 c =
     let start : c .before .before .get .result ≡ getD ((a .words .now)) (a .at) 0 = c .before .before .get .ensures in
     let len : c .before .get2 .result ≡ getD ((a .words .now)) (a .at + 1) 0 = c .before .get2 .ensures in
     name-outside (a .text-len) ((a .words .now)) (a .at) (omega arith) (omega arith)
-
-add-next : tie.Need-add-next
-add-next c = search needs
 
 returns-3 : tie.Need-returns-3
 unfolding kindOf
@@ -60,14 +36,14 @@ pub name-step-spec : {M : Type 1} → statement M
 name-step-spec =
     tie.close
     (tie.spec
-    sub-if1
+    (λ c. search needs)
     returns
-    add-second
-    get-requires
-    cast-start
-    get-requires-2
-    cast-len
-    add-if2
+    (λ c. search needs)
+    (λ c κs. search needs)
+    (λ c. search needs)
+    (λ c κs. search needs)
+    (λ c. search needs)
+    (λ c. search needs)
     returns-2
-    add-next
+    (λ c. search needs)
     returns-3)

@@ -8,17 +8,11 @@ use Rattle.tree.proofs.RunSteps.{second-missing, natural-fits}
 use Rattle.tree.proofs.walk.natural_step.Statement.{statement}
 use Rattle.tree.proofs.walk.natural_step.Tie as tie
 
-sub-if1 : tie.Need-sub-if1
-sub-if1 c = search needs
-
 returns : tie.Need-returns
 unfolding kindOf
 returns c len =
     let a = c .before .args in
     second-missing len ((a .words .now)) (a .at) natural low (omega arith) (omega arith) refl
-
-add-next : tie.Need-add-next
-add-next c = search needs
 
 returns-2 : tie.Need-returns-2
 unfolding kindOf
@@ -27,4 +21,4 @@ returns-2 c len =
     natural-fits len ((a .words .now)) (a .at) (omega arith) (c .before .pre .1)
 
 pub natural-step-spec : {M : Type 1} → statement M
-natural-step-spec = tie.close (tie.spec sub-if1 returns add-next returns-2)
+natural-step-spec = tie.close (tie.spec (λ c. search needs) returns (λ c. search needs) returns-2)

@@ -15,9 +15,6 @@ returns c =
     let a = c .before .before .args in
     step-missing (a .text-len) ((a .words .now)) (a .at) (kindOf (a .kind)) (omega arith)
 
-name-step-requires : tie.Need-name-step-requires
-name-step-requires c κs = search needs
-
 returns-2 : tie.Need-returns-2
 returns-2 c =
     let a = c .before .before .before .before .args in
@@ -31,21 +28,6 @@ natural-step-requires c κs =
 returns-3 : tie.Need-returns-3
 returns-3 c =
     rw (kind-natural (c .before .before .before .before .before .args .kind) (omega arith) (omega arith)) (c .natural-step .ensures (c .before .before .before .before .before .args .text-len))
-
-add-next : tie.Need-add-next
-add-next c = search needs
-
-get-requires : tie.Need-get-requires
-get-requires c κs = search needs
-
-turn-requires : tie.Need-turn-requires
-turn-requires c κs = search needs
-
-enum-known-f : tie.Need-enum-known-f
-enum-known-f c = search needs
-
-enum-told : tie.Need-enum-told
-enum-told c = search needs
 
 returns-4 : tie.Need-returns-4
 returns-4 c =
@@ -64,14 +46,14 @@ next-step-spec =
     tie.close
     (tie.spec
     returns
-    name-step-requires
+    (λ c κs. search needs)
     returns-2
     natural-step-requires
     returns-3
-    add-next
-    get-requires
-    turn-requires
-    enum-known-f
-    enum-told
+    (λ c. search needs)
+    (λ c κs. search needs)
+    (λ c κs. search needs)
+    (λ c. search needs)
+    (λ c. search needs)
     returns-4
     returns-5)

@@ -4,8 +4,8 @@ use native.Mathlib.Omega.{arith}
 use borrow.Author.Needs.{needs}
 use borrow.Fn.Kinds.{In, Out}
 use mathlib.Core.Path.{refl}
-use Rattle.prints.specs.declared.power.Side.the-variants.{Left, Right}
-use Rattle.prints.specs.declared.format.ExprFormatOption.the-variants.{SingleLine}
+use Rattle.layout.specs.declared.power.Side.the-variants.{Left, Right}
+use Rattle.layout.specs.declared.format.ExprFormatOption.the-variants.{SingleLine}
 use Rattle.printing.specs.ExprParts.{aBinary}
 use Rattle.printing.proofs as fn
 use fn.ExprPrints.Equations.{binary-print, sign, rightFormat}

@@ -5,12 +5,12 @@ use borrow.Author.Needs.{needs}
 use borrow.Fn.Kinds.{In, Out}
 use mathlib.Core.Path.{refl, _≡_}
 use mathlib.Core.List.{_++_}
-use Rattle.grammar.specs.Words.{bytes}
-use Rattle.prints.specs.declared.power.Side.the-variants.{Right}
-use Rattle.prints.specs.declared.format.ExprFormatOption.the-variants.{SingleLine}
-use Rattle.prints.specs.PrintUtil.{Space}
+use Rattle.lexing.specs.Bytes.{bytes}
+use Rattle.layout.specs.declared.power.Side.the-variants.{Right}
+use Rattle.layout.specs.declared.format.ExprFormatOption.the-variants.{SingleLine}
+use Rattle.layout.specs.PrintUtil.{Space}
 use Rattle.printing.specs.ExprParts.{aConditional}
-use Rattle.prints.proofs as prints
+use Rattle.layout.proofs as layout
 use Rattle.printing.proofs as fn
 use fn.ExprPrints.Equations.{branches, elseSpace, elseFormat, conditional-print}
 use fn.Places.{Begun, ahead, passed, seen, text-of, text, ready, ready-deeper, done}
@@ -30,8 +30,8 @@ module _ (t : ℕ) where
     fn.expression.expr.Reads.Post,
     fn.parts.after.Reads.Asked,
     fn.parts.after.Reads.Learnt,
-    prints.format.ExprFormatOption.more.Reads.Asked,
-    prints.format.ExprFormatOption.more.Reads.Learnt,
+    layout.format.ExprFormatOption.more.Reads.Asked,
+    layout.format.ExprFormatOption.more.Reads.Learnt,
     fn.write.space.Reads.Asked,
     fn.write.space.Reads.Learnt,
     fn.forms.else_head.Reads.Asked,

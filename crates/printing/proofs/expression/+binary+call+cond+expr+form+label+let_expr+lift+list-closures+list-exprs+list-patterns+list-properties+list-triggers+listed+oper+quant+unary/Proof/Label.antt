@@ -5,7 +5,7 @@ use borrow.Author.Needs.{needs}
 use borrow.Fn.Kinds.{In, Out}
 use mathlib.Core.Path.{refl}
 use Rattle.printing.specs.ExprParts.{aLabel}
-use Rattle.prints.proofs as prints
+use Rattle.layout.proofs as layout
 use Rattle.printing.proofs as fn
 use fn.ExprPrints.Equations.{label-print}
 use fn.Places.{ahead, seen, text, part, ready, done}
@@ -20,8 +20,8 @@ module _ (t : ℕ) where
   claims = (
     fn.parts.label_head.Reads.Asked,
     fn.parts.label_head.Reads.Learnt,
-    prints.power.BindingPower.subexpression_power.Reads.Asked,
-    prints.power.BindingPower.subexpression_power.Reads.Learnt,
+    layout.power.BindingPower.subexpression_power.Reads.Asked,
+    layout.power.BindingPower.subexpression_power.Reads.Learnt,
     expr-below t,
     fn.expression.expr.Reads.Post,
     fn.write.endless_parenthesis.Reads.Asked,

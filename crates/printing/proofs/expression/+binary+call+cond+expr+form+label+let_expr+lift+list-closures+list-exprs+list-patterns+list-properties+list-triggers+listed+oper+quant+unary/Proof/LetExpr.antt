@@ -4,9 +4,9 @@ use native.Mathlib.Omega.{arith}
 use borrow.Author.Needs.{needs}
 use borrow.Fn.Kinds.{In, Out}
 use mathlib.Core.Path.{refl}
-use Rattle.prints.specs.declared.format.ExprFormatOption.the-variants.{SingleLine}
+use Rattle.layout.specs.declared.format.ExprFormatOption.the-variants.{SingleLine}
 use Rattle.printing.specs.ExprParts.{aLet}
-use Rattle.prints.proofs as prints
+use Rattle.layout.proofs as layout
 use Rattle.printing.proofs as fn
 use fn.ExprPrints.Equations.{let-print}
 use fn.Places.{ahead, seen, text, part, ready, done}
@@ -25,8 +25,8 @@ module _ (t : ℕ) where
     fn.expression.expr.Reads.Post,
     fn.write.space.Reads.Asked,
     fn.write.space.Reads.Learnt,
-    prints.power.BindingPower.subexpression_power.Reads.Asked,
-    prints.power.BindingPower.subexpression_power.Reads.Learnt,
+    layout.power.BindingPower.subexpression_power.Reads.Asked,
+    layout.power.BindingPower.subexpression_power.Reads.Learnt,
     fn.write.endless_parenthesis.Reads.Asked,
     fn.write.endless_parenthesis.Reads.Learnt,
   )

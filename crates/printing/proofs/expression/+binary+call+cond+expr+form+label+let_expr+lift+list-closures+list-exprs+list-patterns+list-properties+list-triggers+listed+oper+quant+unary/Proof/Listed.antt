@@ -5,10 +5,10 @@ use borrow.Author.Needs.{needs}
 use borrow.Fn.Kinds.{In, Out}
 use mathlib.Core.Path.{refl}
 use mathlib.Core.List.{_++_}
-use Rattle.grammar.specs.Words.{bytes}
+use Rattle.lexing.specs.Bytes.{bytes}
 use Rattle.tree.specs.Ast.{Operator}
-use Rattle.prints.specs.declared.format.ExprFormatOption.the-variants.{SingleLine}
-use Rattle.prints.specs.PrintUtil.{Init, ToString}
+use Rattle.layout.specs.declared.format.ExprFormatOption.the-variants.{SingleLine}
+use Rattle.layout.specs.PrintUtil.{Init, ToString}
 use Rattle.printing.specs.ExprParts.{aListed}
 use Rattle.printing.proofs as fn
 use fn.Places.{ahead, text-of, text, part, ready, done}

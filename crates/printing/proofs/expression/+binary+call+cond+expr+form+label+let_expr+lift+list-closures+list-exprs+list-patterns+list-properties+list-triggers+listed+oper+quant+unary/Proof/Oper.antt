@@ -5,9 +5,9 @@ use borrow.Author.Needs.{needs}
 use borrow.Fn.Kinds.{In, Out}
 use mathlib.Core.Path.{refl, ap, _∙_, _≡_}
 use mathlib.Core.List.{_++_}
-use Rattle.prints.specs.declared.power.BindingPower.{BindingPower}
-use Rattle.prints.specs.declared.power.Side.the-variants.{Left, Right}
-use Rattle.prints.specs.PrintUtil.{BindingStrength, Parenthesis}
+use Rattle.layout.specs.declared.power.BindingPower.{BindingPower}
+use Rattle.layout.specs.declared.power.Side.the-variants.{Left, Right}
+use Rattle.layout.specs.PrintUtil.{BindingStrength, Parenthesis}
 use Rattle.printing.specs.OperatorWords.{operatorOf}
 use Rattle.printing.specs.ExprParts.{anOperatorExpr}
 use Rattle.tree.proofs.get.Reads as get

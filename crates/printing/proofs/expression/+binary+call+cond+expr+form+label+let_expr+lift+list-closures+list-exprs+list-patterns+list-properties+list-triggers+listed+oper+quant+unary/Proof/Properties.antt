@@ -6,14 +6,14 @@ use borrow.Fn.Kinds.{In, Out}
 use mathlib.Core.Path.{refl, _≡_}
 use mathlib.Core.List.{List, _++_}
 use lib.ListN.{getD, length}
-use Rattle.grammar.specs.Words.{bytes}
-use Rattle.prints.specs.declared.format.ExprFormatOption.the-variants.{SingleLine}
-use Rattle.prints.specs.PrintUtil.{Init}
-use Rattle.prints.specs.Printer.{triggersEnd}
-use Rattle.prints.specs.Text.{unless}
+use Rattle.lexing.specs.Bytes.{bytes}
+use Rattle.layout.specs.declared.format.ExprFormatOption.the-variants.{SingleLine}
+use Rattle.layout.specs.PrintUtil.{Init}
+use Rattle.layout.specs.Printer.{triggersEnd}
+use Rattle.layout.specs.Text.{unless}
 use Rattle.printing.specs.ExprParts.{propertyList}
 use Rattle.printing.specs.Parts.{Prints}
-use Rattle.printing.specs.declared.parts.Step.{Step}
+use Rattle.printing.specs.declared.parts.Advance.{Advance}
 use Rattle.tree.proofs.get.Reads as get
 use Rattle.printing.proofs as fn
 use fn.PartPrints.Joins.{inside}
@@ -105,7 +105,7 @@ module _ (t : ℕ) where
   properties-requires c κs = (sooner (at-body (c .before .before .before)) 0 (omega arith) (omega arith), tt)
 
   -- the print of an item and the others is that of the sequence
-  with-item : (c : Of lts.Start) {g : ℕ} {b : List ℕ} {s : Step} → g ≡ getD (c .args .words .now) (c .args .at) 0 → (g ≡ 0 → ⊥)
+  with-item : (c : Of lts.Start) {g : ℕ} {b : List ℕ} {s : Advance} → g ≡ getD (c .args .words .now) (c .args .at) 0 → (g ≡ 0 → ⊥)
       → Prints (someProperties (c .args .text .now) (c .args .words .now) (c .args .counts .now) (c .args .step) (c .args .at) (c .args .first)) (c .args .words .now)
       (c .args .at) (c .args .out .now) (c .args .pos) b s
       → Prints (propertyList (c .args .text .now) (c .args .words .now) (c .args .counts .now) (c .args .step) (c .args .at) (c .args .first)) (c .args .words .now) (c .args .at) (c .args .out .now) (c .args .pos) b s

@@ -4,7 +4,7 @@ use native.Mathlib.Omega.{arith}
 use borrow.Fn.Kinds.{In, Out}
 use mathlib.Core.Path.{refl}
 use Rattle.printing.specs.ExprParts.{aQuantifier}
-use Rattle.prints.proofs as prints
+use Rattle.layout.proofs as layout
 use Rattle.printing.proofs as fn
 use fn.ExprPrints.Equations.{quantifierTail, quantifier-print}
 use fn.Places.{ahead, seen, text, part, done}
@@ -19,14 +19,14 @@ module _ (t : ℕ) where
   claims = (
     fn.parts.quantifier_head.Reads.Asked,
     fn.parts.quantifier_head.Reads.Learnt,
-    prints.format.ExprFormatOption.more.Reads.Asked,
-    prints.format.ExprFormatOption.more.Reads.Learnt,
+    layout.format.ExprFormatOption.more.Reads.Asked,
+    layout.format.ExprFormatOption.more.Reads.Learnt,
     patterns-below t,
     fn.expression.list.patterns.Reads.Post,
     fn.write.space.Reads.Asked,
     fn.write.space.Reads.Learnt,
-    prints.power.BindingPower.subexpression_power.Reads.Asked,
-    prints.power.BindingPower.subexpression_power.Reads.Learnt,
+    layout.power.BindingPower.subexpression_power.Reads.Asked,
+    layout.power.BindingPower.subexpression_power.Reads.Learnt,
     expr-below t,
     fn.expression.expr.Reads.Post,
     fn.write.endless_parenthesis.Reads.Asked,

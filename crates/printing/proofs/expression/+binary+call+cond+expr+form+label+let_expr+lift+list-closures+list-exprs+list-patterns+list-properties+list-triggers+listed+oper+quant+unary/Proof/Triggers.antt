@@ -6,11 +6,11 @@ use borrow.Fn.Kinds.{In, Out}
 use mathlib.Core.Path.{refl, _≡_}
 use mathlib.Core.List.{List}
 use lib.ListN.{getD, length}
-use Rattle.prints.specs.declared.format.ExprFormatOption.the-variants.{SingleLine}
-use Rattle.prints.specs.PrintUtil.{Init}
+use Rattle.layout.specs.declared.format.ExprFormatOption.the-variants.{SingleLine}
+use Rattle.layout.specs.PrintUtil.{Init}
 use Rattle.printing.specs.ExprParts.{triggerList}
 use Rattle.printing.specs.Parts.{Prints}
-use Rattle.printing.specs.declared.parts.Step.{Step}
+use Rattle.printing.specs.declared.parts.Advance.{Advance}
 use Rattle.tree.proofs.get.Reads as get
 use Rattle.printing.proofs as fn
 use fn.PartPrints.Joins.{inside}
@@ -81,7 +81,7 @@ module _ (t : ℕ) where
   triggers-requires c κs = (sooner (at-space (c .before .before .before)) 0 (omega arith) (omega arith), tt)
 
   -- the print of an item and the others is that of the sequence
-  with-item : (c : Of lts.Start) {g : ℕ} {b : List ℕ} {s : Step} → g ≡ getD (c .args .words .now) (c .args .at) 0 → (g ≡ 0 → ⊥)
+  with-item : (c : Of lts.Start) {g : ℕ} {b : List ℕ} {s : Advance} → g ≡ getD (c .args .words .now) (c .args .at) 0 → (g ≡ 0 → ⊥)
       → Prints (someTriggers (c .args .text .now) (c .args .words .now) (c .args .counts .now) (c .args .step) (c .args .at)) (c .args .words .now) (c .args .at) (c .args .out .now) (c .args .pos) b s
       → Prints (triggerList (c .args .text .now) (c .args .words .now) (c .args .counts .now) (c .args .step) (c .args .at)) (c .args .words .now) (c .args .at) (c .args .out .now) (c .args .pos) b s
   with-item c e z p = at-some _ _ (some-triggers (c .args .text .now) (c .args .words .now) (c .args .counts .now) (c .args .step) (c .args .at)) e z p

@@ -5,11 +5,11 @@ use borrow.Author.Needs.{needs}
 use borrow.Fn.Kinds.{In, Out}
 use mathlib.Core.Path.{refl, ap}
 use mathlib.Core.List.{_++_}
-use Rattle.grammar.specs.Words.{bytes}
+use Rattle.lexing.specs.Bytes.{bytes}
 use Rattle.tree.specs.Ast.{Operator}
-use Rattle.prints.specs.declared.power.Side.the-variants.{Right}
-use Rattle.prints.specs.declared.format.ExprFormatOption.the-variants.{SingleLine}
-use Rattle.prints.specs.PrintUtil.{ToString}
+use Rattle.layout.specs.declared.power.Side.the-variants.{Right}
+use Rattle.layout.specs.declared.format.ExprFormatOption.the-variants.{SingleLine}
+use Rattle.layout.specs.PrintUtil.{ToString}
 use Rattle.printing.specs.OperatorWords.{operatorOf}
 use Rattle.printing.specs.ExprParts.{aUnary}
 use Rattle.tree.proofs.get.Reads as get

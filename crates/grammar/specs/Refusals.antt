@@ -1,6 +1,0 @@
--- Where a reading's refusals lie and which they are: the rules refuse by 2, 3 or 4, inside the text.
-pub mod Places
-pub mod Expressions
-pub mod Statements
-pub mod Declarations
-pub mod Entries

@@ -1,0 +1,225 @@
+// The declarations of a program, in five sequences.
+use crate::arena::Built;
+use crate::arena::ITEM;
+use crate::arena::PAIR;
+use crate::arena::node;
+use crate::build::close;
+use crate::build::four;
+use crate::decl::axiom_decl;
+use crate::decl::function_decl;
+use crate::decl::proc_decl;
+use crate::decl::tagger_decl;
+use crate::decl::type_decl;
+use crate::leaf::needed;
+use crate::step::keyword;
+use lexing::Lexed;
+ghost use mathlib.Core.Path.{_≡_};
+ghost use Prim.Native.Nat.{_≤_};
+ghost use lib.ListN.{length};
+ghost use Rattle.tree.specs.Words.{programWords};
+ghost use Rattle.grammar.specs.Declarations.{TopLevel};
+ghost use Rattle.parsing.specs.Arena.{Run, Kept, Room, Builds};
+ghost use Rattle.parsing.specs.Code.{same, turns, opened};
+ghost use Rattle.parsing.specs.Declarations.{declWords, declRule, ledBy, Leads, lastOf, withLast, Endable, Open, joinedRun, Joins};
+
+// The kinds of declarations.
+pub(crate) enum DeclKind {
+    Types,
+    Taggers,
+    Functions,
+    Axioms,
+    Procedures,
+}
+
+// The word that begins a declaration.
+pub(crate) enum Led {
+    // The declaration's kind, and the place after the word.
+    Ok(DeclKind, usize),
+    // No such word.
+    None,
+    // The refusal's number and place.
+    Refused(u64, usize),
+}
+
+// The last node of each sequence, 0 where it has no items.
+pub(crate) struct Lists {
+    pub(crate) types: u32,
+    pub(crate) taggers: u32,
+    pub(crate) functions: u32,
+    pub(crate) axioms: u32,
+    pub(crate) procedures: u32,
+}
+
+// The kind of the declaration that begins at `at`.
+fn begin(text: &[u8], at: usize) -> Led
+    requires { ⌜ at ≤ length (now text) ⌝ }
+    ensures { λ r. ⌜ Leads (now (text .entry)) at r ⌝ }
+{
+    let types = keyword(text, at, b"type");
+    let Lexed::None = types else {
+        return begun(DeclKind::Types, types);
+    };
+    let taggers = keyword(text, at, b"tagger");
+    let Lexed::None = taggers else {
+        return begun(DeclKind::Taggers, taggers);
+    };
+    let functions = keyword(text, at, b"function");
+    let Lexed::None = functions else {
+        return begun(DeclKind::Functions, functions);
+    };
+    let axioms = keyword(text, at, b"axiom");
+    let Lexed::None = axioms else {
+        return begun(DeclKind::Axioms, axioms);
+    };
+    begun(DeclKind::Procedures, keyword(text, at, b"procedure"))
+}
+
+// A declaration of the kind `sort`, if its word was read.
+fn begun(sort: DeclKind, word: Lexed) -> Led
+    ensures { λ r. ⌜ r ≡ ledBy sort word ⌝ }
+{
+    match word {
+        Lexed::Ok(_, next) => Led::Ok(sort, next),
+        Lexed::None => Led::None,
+        Lexed::Refused(number, place) => Led::Refused(number, place),
+    }
+}
+
+// A declaration after its word.
+fn decl(
+    text: &[u8],
+    at: usize,
+    arena: &mut [u32],
+    top: usize,
+    depth: usize,
+    sort: DeclKind,
+) -> Built
+    requires { ⌜ Room (now text) (now arena) at top 20 ⌝ }
+    ensures { λ r. ⌜ Builds (declWords sort) (now (text .entry)) (now (arena .entry)) (now (arena .exit)) at top 1 20 (declRule sort (now (text .entry)) depth at) r ⌝ }
+{
+    match sort {
+        DeclKind::Types => type_decl(text, at, arena, top),
+        DeclKind::Taggers => tagger_decl(text, at, arena, top),
+        DeclKind::Functions => function_decl(text, at, arena, top, depth),
+        DeclKind::Axioms => axiom_decl(text, at, arena, top, depth),
+        DeclKind::Procedures => proc_decl(text, at, arena, top, depth),
+    }
+}
+
+// The last node of the sequence of a kind.
+fn last(lists: Lists, sort: DeclKind) -> u32
+    ensures { λ r. ⌜ r ≡ lastOf lists sort ⌝ }
+{
+    match sort {
+        DeclKind::Types => lists.types,
+        DeclKind::Taggers => lists.taggers,
+        DeclKind::Functions => lists.functions,
+        DeclKind::Axioms => lists.axioms,
+        DeclKind::Procedures => lists.procedures,
+    }
+}
+
+// The sequences, with another last node of one kind.
+fn with_last(lists: Lists, sort: DeclKind, list: u32) -> Lists
+    ensures { λ r. ⌜ r ≡ withLast lists sort list ⌝ }
+{
+    let mut more = lists;
+    match sort {
+        DeclKind::Types => {
+            more.types = list;
+        }
+        DeclKind::Taggers => {
+            more.taggers = list;
+        }
+        DeclKind::Functions => {
+            more.functions = list;
+        }
+        DeclKind::Axioms => {
+            more.axioms = list;
+        }
+        DeclKind::Procedures => {
+            more.procedures = list;
+        }
+    }
+    more
+}
+
+// The five sequences with their ends, one after another.
+fn joined(arena: &mut [u32], top: usize, lists: Lists, next: usize) -> Built
+    requires { ⌜ Endable (now arena) top ⌝ }
+    ensures { λ r. ⌜ Kept (now (arena .entry)) (now (arena .exit)) top ⌝ }
+    ensures { λ r. ⌜ ((f : DeclKind → Run) → ((s : DeclKind) → Open (now (arena .entry)) top (lastOf lists s) (f s)) → Joins (now (arena .exit)) top next (joinedRun f) r) ⌝ }
+{
+    let r = close(arena, top, lists.types, next);
+    let Built::Ok(types, _, top1) = r else {
+        return r;
+    };
+    let r = close(arena, top1, lists.taggers, next);
+    let Built::Ok(taggers, _, top2) = r else {
+        return r;
+    };
+    let r = close(arena, top2, lists.functions, next);
+    let Built::Ok(functions, _, top3) = r else {
+        return r;
+    };
+    let r = close(arena, top3, lists.axioms, next);
+    let Built::Ok(axioms, _, top4) = r else {
+        return r;
+    };
+    let r = close(arena, top4, lists.procedures, next);
+    let Built::Ok(procedures, _, top5) = r else {
+        return r;
+    };
+    node(arena, top5, PAIR, 0, types, taggers);
+    four(
+        arena,
+        top5 + 4,
+        top5 as u32,
+        functions,
+        axioms,
+        procedures,
+        next,
+    )
+}
+
+// `TopLevel` after the blanks at the text's start.
+pub(crate) fn program(
+    text: &[u8],
+    start: usize,
+    arena: &mut [u32],
+    free: usize,
+    depth: usize,
+) -> Built
+    requires { ⌜ Room (now text) (now arena) start free 36 ⌝ }
+    ensures { λ r. ⌜ Builds (programWords same) (now (text .entry)) (now (arena .entry)) (now (arena .exit)) start free 0 36 (TopLevel (now (text .entry)) (turns (now (text .entry))) (opened (now (text .entry)) depth) start) r ⌝ }
+{
+    let mut lists = Lists {
+        types: 0,
+        taggers: 0,
+        functions: 0,
+        axioms: 0,
+        procedures: 0,
+    };
+    let mut at = start;
+    let mut top = free;
+    loop {
+        match begin(text, at) {
+            Led::Ok(sort, next) => {
+                let r = decl(text, next, arena, top, depth, sort);
+                let Built::Ok(d, next1, top1) = r else {
+                    return needed(r, next);
+                };
+                node(arena, top1, ITEM, 0, last(lists, sort), d);
+                lists = with_last(lists, sort, top1 as u32);
+                at = next1;
+                top = top1 + 4;
+            }
+            Led::None => {
+                return joined(arena, top, lists, at);
+            }
+            Led::Refused(number, place) => {
+                return Built::Refused(number, place);
+            }
+        }
+    }
+}
