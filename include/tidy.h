@@ -38,7 +38,7 @@ enum tidy_refusal {
  * Reads the program text[0 .. text_len) and prints it to out.
  *
  * Below 2^32 the answer is the number of bytes written, from out[0] on: at least 14 and at most 65,536; later bytes of out stay
- * as they were. Otherwise it is a refusal: its number times 2^32, plus its place, a byte of the text counted from 0; out is
+ * as they were. Otherwise it is a refusal: its number times 2^32, plus its place, in bytes of the text from 0; out is
  * then as it was. What is answered is proved for every text and every output.
  *
  * The caller sees to it that
