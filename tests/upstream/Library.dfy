@@ -1,5 +1,5 @@
-// The parser library that Parser.dfy is written over, as far as it is used, rebuilt from document 01 ("Choice and
-// repetition", "Names, blanks, strengths") and from how it is used: its source isn't at hand.
+// The parser library that Parser.dfy is written over, as far as it is used, rebuilt from REFERENCE ("Choice and
+// repetition", "Blanks and tokens") and from how it is used: its source isn't at hand.
 module {:extern "Slices"} Slices {
   // The rest of a text.
   datatype Input = Input(text: string, at: nat)
@@ -117,7 +117,7 @@ module {:extern "StringBuilders"} StringBuilders {
         else separator.e_I(this).Rep().M((rest: seq<R>) => [first.value] + rest))
     }
 
-    // Document 01: after `==>`, `<==`, `&&` and `||` an operand must follow.
+    // REFERENCE, "Choice and repetition": after `==>`, `<==`, `&&` and `||` an operand must follow.
     function method RepSepNonempty<U>(separator: B<U>): B<seq<R>> {
       Then((first: R) => separator.e_I(this).Rep().M((rest: seq<R>) => [first] + rest))
     }

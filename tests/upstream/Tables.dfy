@@ -1,4 +1,4 @@
-// Trees from the words of a table, by document 01, "The tree words". The table is one tree over the text; that isn't
+// Trees from the words of a table, by REFERENCE, "The tree words". The table is one tree over the text; that isn't
 // checked here.
 module Tables {
   import opened Wrappers

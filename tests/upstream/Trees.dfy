@@ -1,4 +1,4 @@
-// The words of a tree, by document 01, "The tree words", over a text made of the tree's names: upstream's trees hold
+// The words of a tree, by REFERENCE, "The tree words", over a text made of the tree's names: upstream's trees hold
 // names, not their places.
 module Trees {
   import opened Wrappers
@@ -362,7 +362,7 @@ module {:extern "Readings"} Readings {
       return "", data.remaining.at;
   }
 
-  // Document 01: leading blanks are passed as `TopLevel` does, and the text ends after the expression.
+  // REFERENCE, "The entries": leading blanks are passed as `TopLevel` does, and the text ends after the expression.
   method ReadExpression(text: string) returns (names: string, failedAt: int) {
     var p := Parser.W.e_I(Parser.parseExpr).I_e(EOS).apply(Input(text, 0));
     match p

@@ -1,4 +1,4 @@
-//! B3 text read and printed in ordinary Rust, written from document 01 and upstream's sources alone. The
+//! B3 text read and printed in ordinary Rust, written from the papers (REFERENCE, "Terms") alone. The
 //! proved library is compared with it (`compare`) and raced against it (`race`).
 
 #![deny(unsafe_code)]

@@ -1,4 +1,4 @@
-//! The refusals and limits of document 01.
+//! The refusals and limits (REFERENCE, "The refusals" and "Limits").
 
 pub const TEXT_LIMIT: usize = 32_768;
 pub const TABLE_LIMIT: usize = 16_384;

@@ -1,4 +1,4 @@
-//! Document 01's trials, and its limits by each rule.
+//! Document 01's trials (REFERENCE, "Trials"), and its limits by each rule.
 
 use b3_compare::refusal::{OUTPUT_LIMIT, TABLE_LIMIT};
 use b3_compare::tree::{Expr, Operands, Operator};

@@ -1,5 +1,6 @@
 //! Texts at the depth limit, by each rule.
 
+use super::starts::{expression_start, statement_start};
 use crate::random::Random;
 use crate::refusal::DEPTH_LIMIT;
 
@@ -64,9 +65,31 @@ const INNER_EXPRESSIONS: [&str; 37] = [
 
 /// A text with rules opened, what closes them, and how deep the next one stands.
 struct Nest {
-    text: String,
+    text: Vec<u8>,
     closers: Vec<&'static str>,
     depth: usize,
+}
+
+/// Rules in rules to depth 200, of one kind or of any, and what may begin one of depth 201.
+pub fn at_last_depth(random: &mut Random) -> Vec<u8> {
+    let mixed = random.once_in(2);
+    if random.once_in(3) {
+        let (start, close, depth) = *random.pick(&[
+            &("axiom ", "", 0),
+            &("function f(): T { ", " }", 0),
+            &("procedure p() ensures ", "", 0),
+            &("procedure p() { probe ", " }", 1),
+        ]);
+        let mut nest = Nest::new(start, close, depth);
+        nest.open_expressions(random, DEPTH_LIMIT, mixed);
+        nest.text.extend(expression_start(random));
+        return nest.closed(random);
+    }
+    let mut nest = Nest::new("procedure p() { ", "}", 1);
+    nest.open_statements(random, DEPTH_LIMIT, mixed);
+    nest.push(random.pick(&["", "var a ", "var a ", "val b: T "]));
+    nest.text.extend(statement_start(random));
+    nest.closed(random)
 }
 
 /// Rules in rules to a depth next to the limit, of one kind or of any, and what stands innermost.
@@ -79,7 +102,7 @@ pub fn at_depth(random: &mut Random) -> Vec<u8> {
         &("procedure p() { ", " }", 1),
         &("procedure p() { ", " }", 1),
     ]);
-    let mut nest = Nest { text: start.to_string(), closers: vec![close], depth };
+    let mut nest = Nest::new(start, close, depth);
     let mixed = random.once_in(2);
     let in_statements = depth == 1;
     if in_statements {
@@ -87,28 +110,38 @@ pub fn at_depth(random: &mut Random) -> Vec<u8> {
         nest.open_statements(random, share, mixed);
     }
     if in_statements && nest.depth + 1 >= target && random.once_in(2) {
-        nest.text.push_str(random.pick(&INNER_STATEMENTS));
+        nest.push(random.pick(&INNER_STATEMENTS));
         return nest.closed(random);
     }
     if in_statements {
-        nest.text.push_str(random.pick(&CONDITIONS));
+        nest.push(random.pick(&CONDITIONS));
     }
     nest.open_expressions(random, target, mixed);
-    nest.text.push_str(random.pick(&INNER_EXPRESSIONS));
+    nest.push(random.pick(&INNER_EXPRESSIONS));
     nest.closed(random)
 }
 
 impl Nest {
+    fn new(start: &str, close: &'static str, depth: usize) -> Self {
+        Nest { text: start.into(), closers: vec![close], depth }
+    }
+
+    fn push(&mut self, part: &str) {
+        self.text.extend_from_slice(part.as_bytes());
+    }
+
     fn open(&mut self, open: &str, close: &'static str, deeper: usize) {
-        self.text.push_str(open);
+        self.push(open);
         self.closers.push(close);
         self.depth += deeper;
     }
 
+    /// The last one is a block where another would pass the target.
     fn open_statements(&mut self, random: &mut Random, target: usize, mixed: bool) {
         let mut kind = random.below(STATEMENTS.len());
         while self.depth < target {
-            let (open, close, deeper) = STATEMENTS[kind];
+            let passes = self.depth + STATEMENTS[kind].2 > target;
+            let (open, close, deeper) = STATEMENTS[if passes { 0 } else { kind }];
             self.open(open, close, deeper);
             if mixed {
                 kind = random.below(STATEMENTS.len());
@@ -132,10 +165,10 @@ impl Nest {
         if random.once_in(8) {
             self.closers.drain(..random.below(self.closers.len() + 1));
         }
-        for closer in self.closers.iter().rev() {
-            self.text.push_str(closer);
+        for closer in std::mem::take(&mut self.closers).iter().rev() {
+            self.push(closer);
         }
-        self.text.into_bytes()
+        self.text
     }
 }
 
@@ -151,4 +184,41 @@ pub fn else_ifs(random: &mut Random) -> Vec<u8> {
     );
     text.push_str(random.pick(&[" }", "", " else := 1 }"]));
     text.into_bytes()
+}
+
+#[cfg(test)]
+mod tests {
+    use super::super::names::STATEMENT_WORDS;
+    use super::*;
+    use crate::refusal::{Refusal, TABLE_LIMIT};
+    use crate::{on_deep_stack, read_program};
+    use std::collections::BTreeSet;
+
+    /// What stands where texts of `at_last_depth` are refused 3, from there to their end.
+    fn refused_at() -> BTreeSet<Vec<u8>> {
+        let texts = (0..8000).map(|index| at_last_depth(&mut Random::new(1, index)));
+        texts
+            .filter_map(|text| match read_program(&text, TABLE_LIMIT) {
+                Err(Refusal { number: 3, place }) => Some(text[place as usize..].to_vec()),
+                _ => None,
+            })
+            .collect()
+    }
+
+    /// Depth 201 begins with each word of a statement, a block, a name with each mark, and each byte of an
+    /// expression.
+    #[test]
+    fn every_first_token() {
+        on_deep_stack(|| {
+            let refused = refused_at();
+            let met = |start: &str| refused.iter().any(|rest| rest.starts_with(start.as_bytes()));
+            let words = STATEMENT_WORDS.map(|word| format!("{word} "));
+            let marked = ["x:=", "x:", "x("].map(String::from);
+            let bytes = (b'!'..=b'~').filter(|byte| byte.is_ascii_alphanumeric() || b"%(|-!{".contains(byte));
+            let bytes = bytes.map(|byte| char::from(byte).to_string());
+            for start in words.into_iter().chain(marked).chain(bytes) {
+                assert!(met(&start), "{start}");
+            }
+        });
+    }
 }

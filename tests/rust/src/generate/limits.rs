@@ -1,19 +1,20 @@
 //! Texts at each limit: length, depth by each rule, naturals, words, output; and long chains.
 
-use super::depth::{at_depth, else_ifs};
+use super::depth::{at_depth, at_last_depth, else_ifs};
 use super::program;
 use crate::random::Random;
 use crate::refusal::{OUTPUT_LIMIT, TABLE_LIMIT, TEXT_LIMIT};
 use crate::{print_program, read_program};
 
 pub fn text(random: &mut Random) -> Vec<u8> {
-    match random.below(16) {
+    match random.below(20) {
         0 => at_text_length(random),
-        1..=7 => at_depth(random),
-        8 => else_ifs(random),
-        9 | 10 => at_natural(random),
-        11 | 12 => at_words(random),
-        13 => at_output(random),
+        1..=6 => at_depth(random),
+        7..=11 => at_last_depth(random),
+        12 => else_ifs(random),
+        13 | 14 => at_natural(random),
+        15 | 16 => at_words(random),
+        17 => at_output(random),
         _ => chain(random),
     }
 }

@@ -9,6 +9,7 @@ mod expr;
 mod limits;
 mod names;
 mod source;
+mod starts;
 mod stmt;
 mod trees;
 

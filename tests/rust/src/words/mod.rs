@@ -1,4 +1,4 @@
-//! The words of a tree, as document 01 lays them out, for the stored cases.
+//! The words of a tree (REFERENCE, "The tree words"), for the stored cases.
 
 mod decode;
 mod encode;
