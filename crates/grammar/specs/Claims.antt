@@ -1,6 +1,6 @@
 -- What is proved of the operator grammar (REFERENCE, "The operator grammar"), from the definitions in Words, Tokens, Grammar and Parser, and of
 -- the reading rules of expressions and programs, from those in Steps, Rules, Statements, Declarations and Reading.
-use Prim.Native.Nat.{ℕ, _+_, _*_, _≤_, _<_}
+use Prim.Native.Nat.{ℕ, suc, _+_, _*_, _≤_, _<_}
 use lib.ListN.{length, take}
 use mathlib.Core.Path.{_≡_}
 use mathlib.Core.Logic.{_↔_}
@@ -18,11 +18,15 @@ use Rattle.grammar.specs.Tokens.{Token, cut}
 use Rattle.grammar.specs.Grammar.{Tree, Whole, Derives}
 use Rattle.grammar.specs.OperatorTrees.{OperatorTree, smallNaturals, wordCount, DerivesWithin}
 use Rattle.grammar.specs.Parser.{parse, whole, parseExpr}
+use Rattle.grammar.specs.Statements.{gallery}
 use Rattle.grammar.specs.Reading.{words, refusal, parseText, readTree, readExpression, parseProgram, readTreeOfProgram, readProgram}
 use Rattle.grammar.specs.TreeRead.{GivesTree}
+use Rattle.grammar.specs.ClaimTerms.{OfReading, GalleriesKeptAlike, GalleryUnopened}
 use Rattle.grammar.specs.Proofs.Bridge.Limits.{read-derives, gives-derives, derives-gives, derives-operators, gives-same}
+use Rattle.grammar.specs.Proofs.Depth.Statements.{levels-alike}
+use Rattle.grammar.specs.Proofs.Depth.NoLevel.{none-left}
 use Rattle.grammar.specs.Proofs.Inside.Accepted.{expression-inside, program-inside, expression-passes, program-passes}
-use Rattle.grammar.specs.Proofs.Refusals.Entries.{Refused, expression-refused, program-refused}
+use Rattle.grammar.specs.Proofs.Refusals.Entries.{expression-refused, program-of-reading}
 use Rattle.grammar.specs.Proofs.Size.Entries.{expression-few, program-few, program-roomy}
 use Rattle.grammar.specs.Tables.{short}
 use Rattle.grammar.specs.Proofs.Laws.Exact.{parse-sound, parse-complete, no-parse, deeper, unambiguous}
@@ -101,14 +105,14 @@ pub read-program-accepted : (text : List ℕ) (n k : ℕ) (table : List ℕ) →
     → programRefusal (take k table) (length text) ≡ none
 read-program-accepted text n k table = program-passes text n
 
--- A reading is refused by a number from 1 to 5, at a place of at most 32,768 (`Refused`).
+-- A reading is refused by 1 at 32,768, by 2, 3 or 4 at a place inside the text or at its end, or by 5 at 0 (`OfReading`).
 pub read-expression-refused : (text : List ℕ) (n number place : ℕ) (table : List ℕ) → readExpression text n ≡ refusal number place table
-    → Refused number place
+    → OfReading text number place
 read-expression-refused text n number place table = expression-refused text n
 
 pub read-program-refused : (text : List ℕ) (n number place : ℕ) (table : List ℕ) → readProgram text n ≡ refusal number place table
-    → Refused number place
-read-program-refused text n number place table = program-refused text n
+    → OfReading text number place
+read-program-refused text n number place table = program-of-reading text n
 
 -- The tree that a text holds has few words: a program's at most five for each byte and five more, as the empty text's five; an expression's fewer
 -- than five for each byte, as the four of a name of one byte.
@@ -122,3 +126,12 @@ expression-words-few text e next = expression-few text
 -- So a table with room for so many words is not too short: with one of at most 16,384, a program is not refused by 5.
 pub program-table-long : (text : List ℕ) (n : ℕ) → 5 * length text + 5 ≤ n → n ≤ mostWords → short (readProgram text n) ≡ false
 program-table-long = program-roomy
+
+-- A rule is opened where it keeps a token (document 01, "The entries"): whatever the levels left, each of the five rules keeps nothing where it
+-- does with any other number of levels, with none among them. At least one turn is needed: a prefix is read in a turn.
+pub depth-kept : (text : List ℕ) (m d d′ : ℕ) → GalleriesKeptAlike (gallery text (suc m) d) (gallery text (suc m) d′)
+depth-kept = levels-alike
+
+-- With no level left each of them keeps nothing or is refused by 3 where it stands.
+pub depth-refused : (text : List ℕ) (m : ℕ) → GalleryUnopened (gallery text m 0)
+depth-refused = none-left

@@ -7,7 +7,7 @@ use mathlib.Core.Bool.{true, false}
 use mathlib.Core.List.{List, [], _∷_}
 use mathlib.Core.Option.{Option, none, some}
 use Rattle.lexing.specs.Answer.{Answer, ok, refused}
-use Rattle.tree.specs.Ast.{Span, Expr, IdExpr, Exprs, noExprs, _then_, In, InOut, Out, Program}
+use Rattle.tree.specs.Ast.{Span, Expr, ILiteral, IdExpr, OperatorExpr, Plus, Exprs, noExprs, _then_, In, InOut, Out, Program}
 use Rattle.tree.specs.Ast.{Stmt, VarDecl, Assign, Reinit, Block, Call, Check, Assume, Reach, Assert, AForall, Choose, If, IfCase, Loop, LabeledStmt, Exit, Return, Probe}
 use Rattle.tree.specs.Ast.{Stmts, noStmts, stmts, noCases, case, aExpr, AAssertion, noAExprs, aExprs}
 use Rattle.tree.specs.Resolve.{part, resolveProgram}
@@ -149,6 +149,22 @@ exits : programOf "procedure p() { exit a := b exit c: { } exit d() exit return 
     ∷ Exit (some (bytes "return")) ∷ [])
 unfolding computed
 exits = refl
+
+-- a word with more bytes is no keyword; `out` in brackets is no mode
+longer-words : programOf "procedure p() { returns := a if b { } elsex := c q((out) + 1, outx) }"
+    ≡ body (Assign (bytes "returns") (variable "a") ∷ If (variable "b") (block []) (block []) ∷ Assign (bytes "elsex") (variable "c")
+    ∷ Call (bytes "q") (record { mode = In; arg = OperatorExpr Plus (_then_ (variable "out") (_then_ (ILiteral 1) noExprs)) } ∷ record { mode = In; arg = variable "outx" } ∷ []) ∷ [])
+unfolding computed
+longer-words = refl
+
+-- three of each that may be repeated, in the text's order
+threes : programOf "procedure p() { reinit a, b, c if case d { } case e { } case f { } loop invariant g invariant h invariant i { } choose { } or { } or { return } }"
+    ≡ body (Reinit (bytes "a" ∷ bytes "b" ∷ bytes "c" ∷ [])
+    ∷ IfCase (case (variable "d") (block []) (case (variable "e") (block []) (case (variable "f") (block []) noCases)))
+    ∷ Loop (aExprs (aExpr (variable "g")) (aExprs (aExpr (variable "h")) (aExprs (aExpr (variable "i")) noAExprs))) (block [])
+    ∷ Choose (all (block [] ∷ block [] ∷ block (Return ∷ []) ∷ [])) ∷ [])
+unfolding computed
+threes = refl
 
 -- ---- declarations
 

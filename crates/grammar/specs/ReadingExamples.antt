@@ -97,6 +97,16 @@ existential : treeOf "exists x : t, y : u pattern a, b pattern c d"
 unfolding computed part
 existential = refl
 
+-- no pattern, and three expressions in one
+patternless : treeOf "forall x : t a" ≡ some (QuantifierExpr true (binding (bytes "x") (bytes "t") ∷ []) noPatterns (variable "a"))
+unfolding computed part
+patternless = refl
+
+three-in-pattern : treeOf "exists x : t pattern a, b, c d"
+    ≡ some (QuantifierExpr false (binding (bytes "x") (bytes "t") ∷ []) (patterns (("a" ∷ "b" ∷ "c" ∷ []) ∷ [])) (variable "d"))
+unfolding computed part
+three-in-pattern = refl
+
 label : treeOf "l : a" ≡ some (LabeledExpr (bytes "l") (variable "a"))
 unfolding computed part
 label = refl
@@ -109,6 +119,12 @@ closure : treeOf "lift f(x : t, y : u) := a, g := b into n : v by { trigger c, d
     (closureProperty (patterns (("c" ∷ "d" ∷ []) ∷ ("e" ∷ []) ∷ [])) (variable "p") (closureProperty noPatterns (variable "q") noClosureProperties)))
 unfolding computed part
 closure = refl
+
+-- a closure without parameters and properties
+closure-bare : treeOf "lift f() := a into n : v by { }"
+    ≡ some (ClosureExpr (closureBinding (bytes "f") [] (variable "a") noClosureBindings) (bytes "n") (bytes "v") noClosureProperties)
+unfolding computed part
+closure-bare = refl
 
 custom-literal : treeOf "|s:t|" ≡ some (CustomLiteral (bytes "s") (bytes "t"))
 unfolding computed part

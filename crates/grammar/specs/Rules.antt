@@ -52,7 +52,7 @@ unfoldable pub opensAt : ℕ → ℕ → Bool
 opensAt b next = isDigit b || eqb b 124 || eqb b 40 || eqb b 45 || (eqb b 33 && not (eqb next 61))
 
 -- an expression's first token stands at the start: what keeps a token of `parseEquivExpr` there. It is a word, a digit, `|`, `(`, `-`, or `!`
--- that no `=` follows
+-- that no `=` follows (Claims, `depth-kept`)
 unfoldable pub opensExpr : List ℕ → Bool
 unfolding opensAt
 opensExpr s = ltb 0 (identifierLength s) || opensAt (getD s 0 0) (getD s 1 0)

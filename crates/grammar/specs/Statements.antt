@@ -221,7 +221,8 @@ module _ (text : List ℕ) where
   abbrev pub tooDeep : {A B : Type 0} → ℕ → Answer A → Answer B
   tooDeep at r = after r Answer.none (λ _ _. refused levelTooDeep at)
 
-  -- the rules with d levels left: where none is left, refusal 3 at the rule's first token
+  -- the rules with d levels left: where none is left, refusal 3 at the rule's first token (Claims, `depth-kept`). No text reaches "if-cont" there,
+  -- as a condition and a block with no level left come before it.
   unfoldable pub gallery : ℕ → ℕ → Gallery
   unfolding wordOf atomic mark parseBlock parseStmt parseIfCont parseLoop
   gallery m zero =

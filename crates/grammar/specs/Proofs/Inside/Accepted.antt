@@ -9,6 +9,8 @@ use lib.Seq.{take-append-seam}
 use lib.Dec.{leb, eqb}
 use borrow.Author.Tests.{leb-true, le-leb}
 use Rattle.lexing.specs.Answer.{Answer, ok, refused}
+use Rattle.lexing.specs.Blanks.{Blanks, passed, unclosed, W}
+use Rattle.lexing.specs.BlankLaws.{reach, W-inside}
 use Rattle.tree.specs.Ast.{Span, Expr, Program}
 use Rattle.tree.specs.Limits.{mostText, mostWords}
 use Rattle.tree.specs.Resolve.{mapExpr, mapProgram}
@@ -17,20 +19,29 @@ use Rattle.tree.specs.Check.{NameIn, expressionRefusal, programRefusal}
 use Rattle.tree.specs.MapWords.{expr-map, program-map}
 use Rattle.tree.specs.Claims.{expression-accepted, program-accepted, expression-unique, program-unique, expression-spans, program-spans}
 use Rattle.tree.specs.Clash.{impossible}
-use Rattle.grammar.specs.Steps.{Reader}
+use Rattle.grammar.specs.Steps.{Reader, after, need}
 use Rattle.grammar.specs.OperatorTrees.{mostDepth}
-use Rattle.grammar.specs.Reading.{Outcome, words, refusal, wholeText, unlessLong, outcomeBy, readTree, readExpression, readTreeOfProgram, readProgram}
+use Rattle.grammar.specs.Reading.{Outcome, words, refusal, leading, toEnd, wholeText, unlessLong, outcomeBy, readTree, readExpression, readTreeOfProgram, readProgram}
+use Rattle.grammar.specs.Proofs.Laws.Looks.{pick-cases}
 use Rattle.grammar.specs.Proofs.Bridge.Limits.{stored-inv, stored-fits}
-use Rattle.grammar.specs.Proofs.Inside.Answers.{Gives, given, nothing, refuses, Reads, gives-ok, step, skip, picked, Keeping}
+use Rattle.grammar.specs.Proofs.Inside.Answers.{Gives, given, ReadsIn, gives-ok, unusable, step, picked, Keeping}
 use Rattle.grammar.specs.Proofs.Inside.Expressions.{parseExpr-kept}
 use Rattle.grammar.specs.Proofs.Inside.Statements.{gallery-kept}
 use Rattle.grammar.specs.Proofs.Inside.Declarations.{TopLevel-kept}
 
--- what a text gives
-text-gives : {A : Type 0} {P : A → Type 0} {rule : Reader A} (text : List ℕ) → Reads P rule → Gives P (unlessLong text (wholeText text rule))
-text-gives text h =
-    picked (leb (length text) mostText)
-    (skip _ nothing (λ at _. step _ (h at) refuses (λ a g next. picked (eqb next (length text)) (given g) refuses))) refuses
+-- what a rule gives of a whole text
+pub whole-gives : {A : Type 0} {P : A → Type 0} {rule : Reader A} (text : List ℕ) → ReadsIn P (length text) rule → Gives P (length text) (wholeText text rule)
+unfolding after
+whole-gives {P} {rule} text h = by-blanks (W text) (W-inside text)
+  where
+    by-blanks : (b : Blanks) → reach b ≤ length text → Gives P (length text) (after (leading b) Answer.none (λ at _. need at (rule at) (toEnd text)))
+    by-blanks (passed n) l = step _ (h n l) (unusable l) (λ a g next m. picked (eqb next (length text)) (given g m) (unusable m))
+    by-blanks (unclosed n) l = unusable l
+
+-- so it is of what is read
+read-gives : {A : Type 0} {P : A → Type 0} {rule : Reader A} (text : List ℕ) → ReadsIn P (length text) rule → {a : A} {next : ℕ}
+    → unlessLong text (wholeText text rule) ≡ ok a next → P a
+read-gives text h e = pick-cases (leb (length text) mostText) e (λ _ r. gives-ok (whole-gives text h) r) (λ _ r. impossible (cc))
 
 -- ---- names inside a text of that length
 
@@ -72,14 +83,14 @@ module _ (text : List ℕ) where
   pub expression-inside : {e : Expr Span} {next : ℕ} → readTree text ≡ ok e next → (t : Expr (NameIn (length text))) × (mapExpr (λ n. n .span) t ≡ e)
   unfolding readTree
   expression-inside {e} r =
-      let kept = gives-ok (text-gives text (parseExpr-kept clipping (suc (length text)) mostDepth)) r in
+      let kept = read-gives text (parseExpr-kept clipping (suc (length text)) mostDepth) r in
       (mapExpr (clip (length text)) e, expr-clipped (length text) e ∙ kept)
 
   pub program-inside : {p : Program Span} {next : ℕ} → readTreeOfProgram text ≡ ok p next
       → (t : Program (NameIn (length text))) × (mapProgram (λ n. n .span) t ≡ p)
   unfolding readTreeOfProgram
   program-inside {p} r =
-      let kept = gives-ok (text-gives text (TopLevel-kept clipping (suc (length text)) (gallery-kept clipping (suc (length text)) mostDepth))) r in
+      let kept = read-gives text (TopLevel-kept clipping (suc (length text)) (gallery-kept clipping (suc (length text)) mostDepth)) r in
       (mapProgram (clip (length text)) p, program-clipped (length text) p ∙ kept)
 
 -- ---- the table

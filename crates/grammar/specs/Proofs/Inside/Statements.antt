@@ -1,34 +1,37 @@
--- A function that changes no span inside the text changes no tree that a rule of statements (Statements.antt) gives, if it changes none that the
--- rules in its gallery give.
-use Prim.Native.Nat.{ℕ, zero, suc}
+-- A function that changes no span inside the text changes no tree that a rule of statements (Statements.antt) gives, and the rule's places lie inside
+-- the text, if the same holds of the rules in its gallery.
+use Prim.Native.Nat.{ℕ, zero, suc, _≤_}
+use Prim.Native.String.{String}
 use mathlib.Core.Path.{refl}
-use mathlib.Core.Bool.{Bool, true, false, _||_}
+use mathlib.Core.Bool.{Bool, true, false}
 use mathlib.Core.List.{List, [], _∷_, map}
 use mathlib.Core.Option.{Option}
-use lib.ListN.{drop, getD}
-use lib.Dec.{eqb}
+use lib.ListN.{length, drop}
 use Rattle.lexing.specs.Answer.{Answer}
 use Rattle.tree.specs.Ast.{Span, Expr, Stmt, VarDecl, Block, IfCase, stmts, case, AExprs, aExprs}
 use Rattle.tree.specs.Resolve.{mapOption, mapExpr, mapCallArgument, mapStmt, mapStmts, mapCases, mapAExpr, mapAExprs}
 use Rattle.lexing.specs.Bytes.{bytes}
-use Rattle.grammar.specs.Steps.{Reader, after, parseName}
+use Rattle.grammar.specs.Steps.{Reader, after, signAt, parseName}
 use Rattle.grammar.specs.Rules.{opensExpr, parseNonemptyCommaDelimitedSeq, parseListed}
 use Rattle.grammar.specs.Statements as rules
 use Rattle.grammar.specs.Statements.{Gallery}
-use Rattle.grammar.specs.Proofs.Inside.Answers.{Gives, given, nothing, refuses, Reads, Fixed, step, by, skip, either, picked, steps, Closed, list-closed, rep-gives, nonempty-gives, listed-gives, Keeping, name-kept}
+use Rattle.grammar.specs.Proofs.Inside.Answers.{Gives, given, nothing, ReadsIn, Any, Fixed, unusable, too-deep, step, by, token, either, picked, sign-placed, keyword-placed, steps, Closed, list-closed, rep-gives, nonempty-gives, listed-gives, Keeping, name-kept}
 use Rattle.grammar.specs.Proofs.Inside.Expressions.{by-idType, parseOptionalType-kept, parseExpr-kept}
 
--- it changes no tree that the rules of a gallery give
-pub record KeptBy (keep : Span → Span) (c : Gallery) : Type 0 where
-  pub expr : Reads (Fixed (mapExpr keep)) (c .expr)
-  pub block : Reads (Fixed (mapStmt keep)) (c .block)
-  pub stmt : Reads (Fixed (mapStmt keep)) (c .stmt)
-  pub ifCont : Reads (Fixed (mapStmt keep)) (c .ifCont)
-  pub loop : Reads (Fixed (mapStmt keep)) (c .loop)
+-- it holds of the rules of a gallery
+pub record KeptBy (keep : Span → Span) (len : ℕ) (c : Gallery) : Type 0 where
+  pub expr : ReadsIn (Fixed (mapExpr keep)) len (c .expr)
+  pub block : ReadsIn (Fixed (mapStmt keep)) len (c .block)
+  pub stmt : ReadsIn (Fixed (mapStmt keep)) len (c .stmt)
+  pub ifCont : ReadsIn (Fixed (mapStmt keep)) len (c .ifCont)
+  pub loop : ReadsIn (Fixed (mapStmt keep)) len (c .loop)
 
 module _ {text : List ℕ} (K : Keeping text) where
   abbrev keep : Span → Span
   keep = K .keep
+
+  abbrev Reads : {A : Type 0} → (A → Type 0) → Reader A → Type 0
+  Reads P = ReadsIn P (length text)
 
   abbrev Kept : Stmt Span → Type 0
   Kept = Fixed (mapStmt keep)
@@ -54,94 +57,132 @@ module _ {text : List ℕ} (K : Keeping text) where
   arguments-closed = list-closed (mapCallArgument keep) (λ a h i. record { mode = a .mode; arg = h i })
 
   pub names-kept : (m : ℕ) → Reads (Fixed (map (K .keep))) (parseNonemptyCommaDelimitedSeq text m rules.names (parseName text))
-  names-kept = nonempty-gives (list-closed keep (λ n h. h)) _ (name-kept K) text
+  names-kept = nonempty-gives text (list-closed keep (λ n h. h)) _ (name-kept K)
 
   -- after a name and its mark
-  by-atomic : {B : Type 0} {Q : B → Type 0} {stop : Answer B} {go : Span → ℕ → Answer B} (mark : Reader ℕ) (at : ℕ)
-      → Gives Q stop → ((n : Span) → Fixed keep n → Reads Q (go n)) → Gives Q (after (rules.atomic text mark at) stop go)
+  by-atomic : {B : Type 0} {Q : B → Type 0} {stop : Answer B} {go : Span → ℕ → Answer B} (mark : Reader ℕ) → Reads Any mark → (at : ℕ) → at ≤ length text
+      → Gives Q (length text) stop → ((n : Span) → Fixed keep n → Reads Q (go n)) → Gives Q (length text) (after (rules.atomic text mark at) stop go)
   unfolding rules.atomic
-  by-atomic mark at = step _ (step _ (name-kept K at) nothing (λ _ n at₁. skip _ nothing (λ _ at₂. given n)))
+  by-atomic mark h at l = step _ (by (name-kept K) at l nothing (λ _ n at₁ l₁. token (h at₁ l₁) nothing (λ _ _. given n)))
 
-  module _ (m : ℕ) {c : Gallery} (k : KeptBy (K .keep) c) where
+  -- a sign after a name, and one of the three
+  by-marked : {B : Type 0} {Q : B → Type 0} {stop : Answer B} {go : Span → ℕ → Answer B} (w : List ℕ) (at : ℕ) → at ≤ length text
+      → Gives Q (length text) stop → ((n : Span) → Fixed keep n → Reads Q (go n)) → Gives Q (length text) (after (rules.atomic text (signAt text w) at) stop go)
+  by-marked w = by-atomic (signAt text w) (λ at l. sign-placed text at l w)
+
+  mark-placed : Reads Any (rules.mark text)
+  unfolding rules.mark
+  mark-placed at l = search steps
+
+  module _ (m : ℕ) {c : Gallery} (k : KeptBy (K .keep) (length text) c) where
     pub parseOptionalAutoInvariant-kept : Reads (Fixed (mapOption (mapExpr (K .keep)))) (rules.parseOptionalAutoInvariant text m c)
     unfolding rules.parseOptionalAutoInvariant
-    parseOptionalAutoInvariant-kept at = search (by (k .expr), steps)
+    parseOptionalAutoInvariant-kept at l = search (by (k .expr), steps) depth 8
 
     arguments-kept : Reads (Fixed (map (mapCallArgument keep))) (parseListed text m rules.arguments (rules.parseCallArgument text m c) (bytes ")"))
     unfolding rules.parseCallArgument
-    arguments-kept = listed-gives arguments-closed _ (λ at. search (by (k .expr), by (name-kept K), steps) depth 8) text m _
+    arguments-kept = listed-gives text arguments-closed _ (λ at l. search (by (k .expr), by (name-kept K), steps) depth 12) m _
 
     -- after clauses that begin with a word
-    pub by-clauses : {B : Type 0} {Q : B → Type 0} {stop : Answer B} {go : AExprs Span → ℕ → Answer B} (w : List ℕ) (at : ℕ)
-        → Gives Q stop → ((es : AExprs Span) → Fixed (mapAExprs (K .keep)) es → Reads Q (go es)) → Gives Q (after (rules.parseAExprSeq text m c w at) stop go)
+    pub by-clauses : {B : Type 0} {Q : B → Type 0} {stop : Answer B} {go : AExprs Span → ℕ → Answer B} (w : List ℕ) (at : ℕ) → at ≤ length text
+        → Gives Q (length text) stop → ((es : AExprs Span) → Fixed (mapAExprs (K .keep)) es → Reads Q (go es))
+        → Gives Q (length text) (after (rules.parseAExprSeq text m c w at) stop go)
     unfolding rules.parseAExprSeq
-    by-clauses w at = step _ (rep-gives aexprs-closed (rules.parseAExpr text m c w) (λ at. search (by (k .expr), by (k .block), steps) depth 8) m at)
+    by-clauses w at l =
+        step _ (rep-gives text aexprs-closed (rules.parseAExpr text m c w) (λ at l. search (by (k .expr), by (k .block), steps) depth 12) m at l)
 
     -- ---- parseStmt
 
+    parseInit-kept : Reads OptionKept (rules.parseInit text m c)
+    unfolding rules.parseInit
+    parseInit-kept at l = search (by (k .expr), steps) depth 8
+
     parseVariableDeclaration-kept : (isMutable : Bool) → Reads Kept (rules.parseVariableDeclaration text m c isMutable)
     unfolding rules.parseVariableDeclaration
-    parseVariableDeclaration-kept isMutable at =
-        step _ (name-kept K at) refuses (λ _ n at₁. step _ (parseOptionalType-kept K at₁) refuses (λ _ t at₂. step _ (parseOptionalAutoInvariant-kept at₂) refuses
-        (λ _ a at₃. step OptionKept (search (by (k .expr), steps)) refuses (λ _ init at₄. step _ (rep-gives statements-closed _ (k .stmt) m at₄) refuses
-        (λ _ ss at₅. given (λ i. VarDecl (record { name = n i; isMutable = isMutable; optionalType = t i; optionalAutoInv = a i }) (init i) (Block (ss i))))))))
+    parseVariableDeclaration-kept isMutable at l =
+        by (name-kept K) at l (unusable l) (λ _ n at₁ l₁. by (parseOptionalType-kept K) at₁ l₁ (unusable l₁) (λ _ t at₂ l₂. by parseOptionalAutoInvariant-kept at₂ l₂ (unusable l₂)
+        (λ _ a at₃ l₃. by parseInit-kept at₃ l₃ (unusable l₃) (λ _ init at₄ l₄. by (rep-gives text statements-closed _ (k .stmt) m) at₄ l₄ (unusable l₄)
+        (λ _ ss _. given (λ i. VarDecl (record { name = n i; isMutable = isMutable; optionalType = t i; optionalAutoInv = a i }) (init i) (Block (ss i))))))))
 
     parseOr-kept : Reads Kept (rules.parseOr text m c)
     unfolding rules.parseOr
-    parseOr-kept at = search (by (k .block), steps)
+    parseOr-kept at l = search (by (k .block), steps) depth 8
 
     parseCase-kept : Reads CaseKept (rules.parseCase text m c)
     unfolding rules.parseCase
-    parseCase-kept at = search (by (k .expr), by (k .block), steps) depth 8
+    parseCase-kept at l = search (by (k .expr), by (k .block), steps) depth 12
+
+    parseElse-kept : Reads Kept (rules.parseElse text m c)
+    unfolding rules.parseElse
+    parseElse-kept at l = search (by (k .ifCont), step {len = length text} Kept, k .block, steps) depth 12
 
     parseIfCont-kept : Reads Kept (rules.parseIfCont text m c)
     unfolding rules.parseIfCont
-    parseIfCont-kept at =
-        either (step _ (parseCase-kept at) nothing (λ k h at₁. step _ (rep-gives cases-closed _ parseCase-kept m at₁) refuses
-        (λ ks t at₂. given (λ i. IfCase (cases-closed .more k h ks t i))))) (search (by (k .expr), step Kept, k .ifCont, k .block, steps) depth 12)
+    parseIfCont-kept at l =
+        either (by parseCase-kept at l nothing (λ k h at₁ l₁. by (rep-gives text cases-closed _ parseCase-kept m) at₁ l₁ (unusable l₁)
+        (λ ks t _. given (λ i. IfCase (cases-closed .more k h ks t i))))) (search (by (k .expr), by (k .block), by parseElse-kept, steps) depth 12)
 
     parseLoop-kept : Reads Kept (rules.parseLoop text m c)
     unfolding rules.parseLoop
-    parseLoop-kept at = search (by (k .block), by-clauses, steps) depth 8
+    parseLoop-kept at l = search (by (k .block), by-clauses, steps) depth 12
+
+    parseOptionalExitArgument-kept : Reads (Fixed (mapOption keep)) (rules.parseOptionalExitArgument text)
+    unfolding rules.parseOptionalExitArgument
+    parseOptionalExitArgument-kept at l = by-atomic _ mark-placed at l (search (by (name-kept K), steps)) (λ _ _ _ _. given refl l)
+
+    -- after a word
+    led : (w : String) {p : Reader (Stmt Span)} → Reads Kept p → Reads Kept (rules.led text m c w p)
+    led w h at l = token (keyword-placed text at l (bytes w)) nothing (λ _. h)
 
     parseStmt-kept : Reads Kept (rules.parseStmt text m c)
     unfolding rules.parseStmt
-    parseStmt-kept at =
-        either (skip _ nothing (λ _. parseVariableDeclaration-kept true))
-        (either (skip _ nothing (λ _. parseVariableDeclaration-kept false))
-        (either (search (by (names-kept m), steps))
-        (either (search (step (Fixed (mapOption keep)), by (name-kept K), by-atomic, steps) depth 8)
-        (either (search steps)
-        (either (search (by (k .expr), steps))
-        (either (search (by (k .expr), steps))
-        (either (search (by (k .expr), steps))
-        (either (search (by (k .expr), steps))
-        (either (search (by (k .expr), steps))
-        (either (search (by-idType K, by (k .block), steps) depth 8)
-        (either (k .block at)
-        (either (search (by (k .block), by (rep-gives statements-closed (rules.parseOr text m c) parseOr-kept m), steps) depth 8)
-        (either (search (parseIfCont-kept, steps))
-        (either (k .loop at)
-        (either (by-atomic _ at nothing (λ n h at₁. search (by (k .expr), steps)))
-        (either (by-atomic _ at nothing (λ n h at₁. search (step Kept, k .block, k .loop, steps)))
-        (by-atomic _ at nothing (λ n h at₁. search (by arguments-kept, steps)))))))))))))))))))
+    parseStmt-kept at l =
+        either (led "var" (parseVariableDeclaration-kept true) at l)
+        (either (led "val" (parseVariableDeclaration-kept false) at l)
+        (either (led "reinit" (λ at l. search (by (names-kept m), steps) depth 8) at l)
+        (either (led "exit" (λ at l. search (by parseOptionalExitArgument-kept, steps) depth 8) at l)
+        (either (led "return" (λ at. given refl) at l)
+        (either (led "check" (λ at l. search (by (k .expr), steps)) at l)
+        (either (led "assume" (λ at l. search (by (k .expr), steps)) at l)
+        (either (led "reach" (λ at l. search (by (k .expr), steps)) at l)
+        (either (led "assert" (λ at l. search (by (k .expr), steps)) at l)
+        (either (led "probe" (λ at l. search (by (k .expr), steps)) at l)
+        (either (led "forall" (λ at l. search (by-idType K, by (k .block), steps) depth 8) at l)
+        (either (k .block at l)
+        (either (led "choose" (λ at l. search (by (k .block), by (rep-gives text statements-closed (rules.parseOr text m c) parseOr-kept m), steps) depth 8) at l)
+        (either (led "if" (λ at l. search (by parseIfCont-kept, steps)) at l)
+        (either (k .loop at l)
+        (either (by-marked _ at l nothing (λ n h at l. search (by (k .expr), steps)))
+        (either (by-marked _ at l nothing (λ n h at l. search (step {len = length text} Kept, k .block, k .loop, steps)))
+        (by-marked _ at l nothing (λ n h at l. search (by arguments-kept, steps)))))))))))))))))))
 
     parseBlock-kept : Reads Kept (rules.parseBlock text m c)
     unfolding rules.parseBlock rules.repTill
-    parseBlock-kept at =
-        search (step (Fixed (mapStmts keep)), by (rep-gives statements-closed (rules.parseStmt text m c) parseStmt-kept m), steps) depth 8
+    parseBlock-kept at l =
+        search (step {len = length text} (Fixed (mapStmts keep)), by (rep-gives text statements-closed (rules.parseStmt text m c) parseStmt-kept m), steps) depth 12
 
   -- ---- depth
 
-  pub gallery-kept : (m d : ℕ) → KeptBy (K .keep) (rules.gallery text m d)
+  wordOf-placed : (ws : List String) → Reads Any (rules.wordOf text ws)
+  unfolding rules.wordOf
+  wordOf-placed [] at l = nothing
+  wordOf-placed (w ∷ ws) at l = either (keyword-placed text at l (bytes w)) (wordOf-placed ws at l)
+
+  -- refusal 3 at a place where a token is kept
+  deep : {r : Answer ℕ} (at : ℕ) → at ≤ length text → Gives Any (length text) r → Gives Kept (length text) (rules.tooDeep text at r)
+  deep at l g = token g nothing (λ _ _ _. too-deep l)
+
+  pub gallery-kept : (m d : ℕ) → KeptBy (K .keep) (length text) (rules.gallery text m d)
   unfolding rules.gallery
   gallery-kept m zero =
       record {
         expr = parseExpr-kept K m zero;
-        block = λ at. skip _ nothing (λ _ _. refuses);
-        stmt = λ at. either (skip _ nothing (λ _ _. refuses)) (either (skip _ nothing (λ _ _. refuses)) (skip _ nothing (λ _ _. refuses)));
-        ifCont = λ at. picked (opensExpr (drop at text)) refuses nothing;
-        loop = λ at. skip _ nothing (λ _ _. refuses);
+        block = λ at l. deep at l (sign-placed text at l _);
+        stmt = λ at l.
+            either (deep at l (sign-placed text at l _))
+            (either (deep at l (wordOf-placed rules.statementWords at l)) (by-atomic _ mark-placed at l nothing (λ _ _ _ _. too-deep l)));
+        ifCont = λ at l. picked (opensExpr (drop at text)) (too-deep l) nothing;
+        loop = λ at l. deep at l (keyword-placed text at l _);
       }
   gallery-kept m (suc d) =
       record {

@@ -42,23 +42,23 @@ use cycle.Proof.Unary as unary
 pub +binary+call+cond+expr+form+label+let-expr+lift+list·closures+list·exprs+list·patterns+list·properties+list·triggers+listed+oper+quant+unary-spec : {M : Type 1} → statement M
 +binary+call+cond+expr+form+label+let-expr+lift+list·closures+list·exprs+list·patterns+list·properties+list·triggers+listed+oper+quant+unary-spec =
     close
-    ranks.μ-binary
-    ranks.μ-call
-    ranks.μ-cond
-    ranks.μ-expr
-    ranks.μ-form
-    ranks.μ-label
-    ranks.μ-let-expr
-    ranks.μ-lift
-    ranks.μ-closures
-    ranks.μ-exprs
-    ranks.μ-patterns
-    ranks.μ-properties
-    ranks.μ-triggers
-    ranks.μ-listed
-    ranks.μ-oper
-    ranks.μ-quant
-    ranks.μ-unary
+    (ranks.binary .μ)
+    (ranks.call .μ)
+    (ranks.cond .μ)
+    (ranks.expr .μ)
+    (ranks.form .μ)
+    (ranks.label .μ)
+    (ranks.let-expr .μ)
+    (ranks.lift .μ)
+    (ranks.closures .μ)
+    (ranks.exprs .μ)
+    (ranks.patterns .μ)
+    (ranks.properties .μ)
+    (ranks.triggers .μ)
+    (ranks.listed .μ)
+    (ranks.oper .μ)
+    (ranks.quant .μ)
+    (ranks.unary .μ)
     (λ t. binary.spec t)
     (λ t. call.spec t)
     (λ t. cond.spec t)

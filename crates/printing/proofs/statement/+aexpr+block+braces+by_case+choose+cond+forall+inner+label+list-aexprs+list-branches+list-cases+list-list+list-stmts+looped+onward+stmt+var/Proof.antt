@@ -44,24 +44,24 @@ use cycle.Proof.Var as var
 pub +aexpr+block+braces+by-case+choose+cond+forall+inner+label+list·aexprs+list·branches+list·cases+list·list+list·stmts+looped+onward+stmt+var-spec : {M : Type 1} → statement M
 +aexpr+block+braces+by-case+choose+cond+forall+inner+label+list·aexprs+list·branches+list·cases+list·list+list·stmts+looped+onward+stmt+var-spec =
     close
-    ranks.μ-aexpr
-    ranks.μ-block
-    ranks.μ-braces
-    ranks.μ-by-case
-    ranks.μ-choose
-    ranks.μ-cond
-    ranks.μ-forall
-    ranks.μ-inner
-    ranks.μ-label
-    ranks.μ-aexprs
-    ranks.μ-branches
-    ranks.μ-cases
-    ranks.μ-list
-    ranks.μ-stmts
-    ranks.μ-looped
-    ranks.μ-onward
-    ranks.μ-stmt
-    ranks.μ-var
+    (ranks.aexpr .μ)
+    (ranks.block .μ)
+    (ranks.braces .μ)
+    (ranks.by-case .μ)
+    (ranks.choose .μ)
+    (ranks.cond .μ)
+    (ranks.forall .μ)
+    (ranks.inner .μ)
+    (ranks.label .μ)
+    (ranks.aexprs .μ)
+    (ranks.branches .μ)
+    (ranks.cases .μ)
+    (ranks.list .μ)
+    (ranks.stmts .μ)
+    (ranks.looped .μ)
+    (ranks.onward .μ)
+    (ranks.stmt .μ)
+    (ranks.var .μ)
     (λ t. aexpr.spec t)
     (λ t. block.spec t)
     (λ t. braces.spec t)

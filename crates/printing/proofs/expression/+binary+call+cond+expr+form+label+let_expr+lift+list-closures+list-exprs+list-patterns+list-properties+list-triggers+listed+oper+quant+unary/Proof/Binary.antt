@@ -14,7 +14,7 @@ use fn.ExprPrints.Reached.{Reached, begin, sooner, expression}
 use fn.ExprPrints.Contexts.{operand-context, right-format, sign-wrote, right-indent}
 use fn.expression.+binary+call+cond+expr+form+label+let_expr+lift+list-closures+list-exprs+list-patterns+list-properties+list-triggers+listed+oper+quant+unary as cycle
 use cycle.Lts-binary as lts
-use cycle.Proof.Ranks.{binary-at, expr-below}
+use cycle.Proof.Ranks as ranks
 use fn.expression.binary.Reads.{Post}
 
 module _ (t : ℕ) where
@@ -22,7 +22,7 @@ module _ (t : ℕ) where
   claims = (
     fn.forms.operand_power.Reads.Asked,
     fn.forms.operand_power.Reads.Learnt,
-    expr-below t,
+    ranks.expr .below t,
     fn.expression.expr.Reads.Post,
     fn.forms.format_after.Reads.Asked,
     fn.forms.format_after.Reads.Learnt,
@@ -33,7 +33,7 @@ module _ (t : ℕ) where
   )
 
   abbrev Of : (lts.Claims → In 4 lts.ps → Out 4 lts.ps lts.r → Type 0) → Type 0
-  Of N = N claims (binary-at t) Post
+  Of N = N claims (ranks.binary .at t) Post
 
   abbrev at-start : Of lts.Start → Reached
   at-start c =
@@ -86,8 +86,8 @@ module _ (t : ℕ) where
   returns : Of lts.Need-returns
   returns c = done (at-end c) (λ x. refl) (λ x. refl)
 
-  pub spec : {M : Type 1} → lts.Closed claims (binary-at t) Post M
+  pub spec : {M : Type 1} → lts.Closed claims (ranks.binary .at t) Post M
   spec =
-      lts.spec claims (binary-at t) Post
+      lts.spec claims (ranks.binary .at t) Post
       (λ c. omega arith) (λ c κs. tt) (λ c. omega arith) expr-requires (λ c κs. tt) (λ c κs. tt) (λ c κs. tt) (λ c κs. tt) expr-requires-2
       (λ c κs. tt) (λ c. search needs) returns

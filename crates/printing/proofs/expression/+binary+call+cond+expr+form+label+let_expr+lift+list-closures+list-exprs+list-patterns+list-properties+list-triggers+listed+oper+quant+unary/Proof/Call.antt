@@ -13,7 +13,7 @@ use fn.Places.{ahead, seen, text, part, ready, done}
 use fn.ExprPrints.Reached.{Reached, begin, sooner}
 use fn.expression.+binary+call+cond+expr+form+label+let_expr+lift+list-closures+list-exprs+list-patterns+list-properties+list-triggers+listed+oper+quant+unary as cycle
 use cycle.Lts-call as lts
-use cycle.Proof.Ranks.{call-at, exprs-below}
+use cycle.Proof.Ranks as ranks
 use fn.expression.call.Reads.{Post}
 
 module _ (t : ℕ) where
@@ -21,14 +21,14 @@ module _ (t : ℕ) where
   claims = (
     fn.parts.call_head.Reads.Asked,
     fn.parts.call_head.Reads.Learnt,
-    exprs-below t,
+    ranks.exprs .below t,
     fn.expression.list.exprs.Reads.Post,
     fn.write.put.Reads.Asked,
     fn.write.put.Reads.Learnt,
   )
 
   abbrev Of : (lts.Claims → In 4 lts.ps → Out 4 lts.ps lts.r → Type 0) → Type 0
-  Of N = N claims (call-at t) Post
+  Of N = N claims (ranks.call .at t) Post
 
   abbrev at-start : Of lts.Start → Reached
   at-start c =
@@ -54,7 +54,7 @@ module _ (t : ℕ) where
   returns : Of lts.Need-returns
   returns c = done (at-end (c .before .before)) (λ x. refl) (λ x. refl)
 
-  pub spec : {M : Type 1} → lts.Closed claims (call-at t) Post M
+  pub spec : {M : Type 1} → lts.Closed claims (ranks.call .at t) Post M
   spec =
-      lts.spec claims (call-at t) Post
+      lts.spec claims (ranks.call .at t) Post
       (λ c. omega arith) (λ c κs. tt) exprs-requires (λ c. search needs) (λ c κs. tt) (λ c. search needs) returns

@@ -23,7 +23,7 @@ use fn.ExprPrints.SequencePrints.{someClosures, some-closures}
 use fn.Sequences.{at-none, at-some}
 use fn.expression.+binary+call+cond+expr+form+label+let_expr+lift+list-closures+list-exprs+list-patterns+list-properties+list-triggers+listed+oper+quant+unary as cycle
 use cycle.Lts-list-closures as lts
-use cycle.Proof.Ranks.{closures-at, expr-below, closures-below}
+use cycle.Proof.Ranks as ranks
 use fn.expression.list.closures.Reads.{Post}
 
 module _ (t : ℕ) where
@@ -35,14 +35,14 @@ module _ (t : ℕ) where
     get.Learnt,
     fn.parts.closure_head.Reads.Asked,
     fn.parts.closure_head.Reads.Learnt,
-    expr-below t,
+    ranks.expr .below t,
     fn.expression.expr.Reads.Post,
-    closures-below t,
+    ranks.closures .below t,
     fn.expression.list.closures.Reads.Post,
   )
 
   abbrev Of : (lts.Claims → In 4 lts.ps → Out 4 lts.ps lts.r → Type 0) → Type 0
-  Of N = N claims (closures-at t) Post
+  Of N = N claims (ranks.closures .at t) Post
 
   abbrev at-start : (c : Of lts.Start) → c .args .at < length (c .args .words .now) → Reached
   at-start c h =
@@ -94,7 +94,7 @@ module _ (t : ℕ) where
       (c .before .before .before .before .before .before .before .before .before .before .before .before .if1 .left)
       (done (at-end (c .before .before)) (λ x. refl) (λ x. refl))
 
-  pub spec : {M : Type 1} → lts.Closed claims (closures-at t) Post M
+  pub spec : {M : Type 1} → lts.Closed claims (ranks.closures .at t) Post M
   spec =
-      lts.spec claims (closures-at t) Post
+      lts.spec claims (ranks.closures .at t) Post
       (λ c κs. tt) (λ c κs. tt) returns (λ c κs. tt) expr-requires closures-requires (λ c. search needs) returns-2

@@ -18,7 +18,7 @@ use fn.ExprPrints.Reached.{Reached, begin, sooner, one-deeper, ready-more, forma
 use fn.ExprPrints.Contexts.{operand-context, else-format-is, else-wrote, else-indent}
 use fn.expression.+binary+call+cond+expr+form+label+let_expr+lift+list-closures+list-exprs+list-patterns+list-properties+list-triggers+listed+oper+quant+unary as cycle
 use cycle.Lts-cond as lts
-use cycle.Proof.Ranks.{cond-at, expr-below}
+use cycle.Proof.Ranks as ranks
 use fn.expression.cond.Reads.{Post}
 
 module _ (t : ℕ) where
@@ -26,7 +26,7 @@ module _ (t : ℕ) where
   claims = (
     fn.write.put.Reads.Asked,
     fn.write.put.Reads.Learnt,
-    expr-below t,
+    ranks.expr .below t,
     fn.expression.expr.Reads.Post,
     fn.parts.after.Reads.Asked,
     fn.parts.after.Reads.Learnt,
@@ -43,7 +43,7 @@ module _ (t : ℕ) where
   )
 
   abbrev Of : (lts.Claims → In 4 lts.ps → Out 4 lts.ps lts.r → Type 0) → Type 0
-  Of N = N claims (cond-at t) Post
+  Of N = N claims (ranks.cond .at t) Post
 
   abbrev at-start : Of lts.Start → Reached
   at-start c =
@@ -130,8 +130,8 @@ module _ (t : ℕ) where
   returns : Of lts.Need-returns
   returns c = done (at-end c) (λ x. refl) (λ x. refl)
 
-  pub spec : {M : Type 1} → lts.Closed claims (cond-at t) Post M
+  pub spec : {M : Type 1} → lts.Closed claims (ranks.cond .at t) Post M
   spec =
-      lts.spec claims (cond-at t) Post
+      lts.spec claims (ranks.cond .at t) Post
       (λ c. search needs) (λ c κs. tt) (λ c. omega arith) expr-requires (λ c κs. tt) (λ c κs. tt) (λ c κs. tt) expr-requires-2 (λ c κs. tt)
       (λ c κs. tt) (λ c. omega arith) (λ c κs. tt) (λ c κs. tt) expr-requires-3 (λ c κs. tt) same-length returns

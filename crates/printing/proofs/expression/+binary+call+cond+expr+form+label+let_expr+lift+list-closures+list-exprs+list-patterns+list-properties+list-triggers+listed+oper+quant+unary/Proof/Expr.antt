@@ -11,7 +11,8 @@ use fn.PartPrints.Joins.{inside}
 use fn.ExprPrints.Dispatch.{is-operator, is-call, is-label, is-let, is-quantifier, is-closure, is-leaf}
 use fn.expression.+binary+call+cond+expr+form+label+let_expr+lift+list-closures+list-exprs+list-patterns+list-properties+list-triggers+listed+oper+quant+unary as cycle
 use cycle.Lts-expr as lts
-use cycle.Proof.Ranks.{measure, expr-at, call-below, label-below, let-expr-below, lift-below, oper-below, quant-below}
+use cycle.Proof.Ranks as ranks
+use cycle.Proof.Ranks.{measure}
 use fn.expression.expr.Reads.{Post}
 
 module _ (t : ℕ) where
@@ -19,24 +20,24 @@ module _ (t : ℕ) where
   claims = (
     get.Asked,
     get.Learnt,
-    oper-below t,
+    ranks.oper .below t,
     fn.expression.oper.Reads.Post,
-    call-below t,
+    ranks.call .below t,
     fn.expression.call.Reads.Post,
-    label-below t,
+    ranks.label .below t,
     fn.expression.label.Reads.Post,
-    let-expr-below t,
+    ranks.let-expr .below t,
     fn.expression.let_expr.Reads.Post,
-    quant-below t,
+    ranks.quant .below t,
     fn.expression.quant.Reads.Post,
-    lift-below t,
+    ranks.lift .below t,
     fn.expression.lift.Reads.Post,
     fn.parts.leaf.Reads.Asked,
     fn.parts.leaf.Reads.Learnt,
   )
 
   abbrev Of : (lts.Claims → In 4 lts.ps → Out 4 lts.ps lts.r → Type 0) → Type 0
-  Of N = N claims (expr-at t) Post
+  Of N = N claims (ranks.expr .at t) Post
 
   -- a word that is not 0 stands in the table
   is-inside : (c : Of lts.After-get) (k : ℕ) → c .get .result ≡ suc k → c .before .before .before .before .before .args .at < length (c .before .before .before .before .before .args .words .now)
@@ -97,9 +98,9 @@ module _ (t : ℕ) where
       (c .before .before .before .before .match .rest .0 .0 .1) (c .before .before .before .before .match .rest .0 .1)
       (c .before .before .before .before .match .rest .1) (c .before .before .leaf .ensures)
 
-  pub spec : {M : Type 1} → lts.Closed claims (expr-at t) Post M
+  pub spec : {M : Type 1} → lts.Closed claims (ranks.expr .at t) Post M
   spec =
-      lts.spec claims (expr-at t) Post
+      lts.spec claims (ranks.expr .at t) Post
       (λ c κs. tt) oper-requires call-requires label-requires let-expr-requires quant-requires lift-requires (λ c κs. tt) (λ c. search needs) returns
       (λ c. search needs) returns-2 (λ c. search needs) returns-3 (λ c. search needs) returns-4 (λ c. search needs) returns-5 (λ c. search needs)
       returns-6 (λ c. search needs) returns-7

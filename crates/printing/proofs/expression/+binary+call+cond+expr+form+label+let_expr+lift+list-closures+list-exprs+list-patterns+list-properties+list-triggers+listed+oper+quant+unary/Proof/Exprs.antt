@@ -23,7 +23,7 @@ use fn.ExprPrints.SequencePrints.{someExprs, some-exprs}
 use fn.Sequences.{at-none, at-some}
 use fn.expression.+binary+call+cond+expr+form+label+let_expr+lift+list-closures+list-exprs+list-patterns+list-properties+list-triggers+listed+oper+quant+unary as cycle
 use cycle.Lts-list-exprs as lts
-use cycle.Proof.Ranks.{exprs-at, expr-below, exprs-below}
+use cycle.Proof.Ranks as ranks
 use fn.expression.list.exprs.Reads.{Post}
 
 module _ (t : ℕ) where
@@ -35,14 +35,14 @@ module _ (t : ℕ) where
     get.Learnt,
     fn.write.put_separator.Reads.Asked,
     fn.write.put_separator.Reads.Learnt,
-    expr-below t,
+    ranks.expr .below t,
     fn.expression.expr.Reads.Post,
-    exprs-below t,
+    ranks.exprs .below t,
     fn.expression.list.exprs.Reads.Post,
   )
 
   abbrev Of : (lts.Claims → In 4 lts.ps → Out 4 lts.ps lts.r → Type 0) → Type 0
-  Of N = N claims (exprs-at t) Post
+  Of N = N claims (ranks.exprs .at t) Post
 
   abbrev at-start : (c : Of lts.Start) → c .args .at < length (c .args .words .now) → Reached
   at-start c h =
@@ -94,7 +94,7 @@ module _ (t : ℕ) where
       (c .before .before .before .before .before .before .before .before .before .before .before .before .if1 .left)
       (done (at-end (c .before .before)) (λ x. refl) (λ x. refl))
 
-  pub spec : {M : Type 1} → lts.Closed claims (exprs-at t) Post M
+  pub spec : {M : Type 1} → lts.Closed claims (ranks.exprs .at t) Post M
   spec =
-      lts.spec claims (exprs-at t) Post
+      lts.spec claims (ranks.exprs .at t) Post
       (λ c κs. tt) (λ c κs. tt) returns (λ c κs. tt) expr-requires exprs-requires (λ c. search needs) returns-2

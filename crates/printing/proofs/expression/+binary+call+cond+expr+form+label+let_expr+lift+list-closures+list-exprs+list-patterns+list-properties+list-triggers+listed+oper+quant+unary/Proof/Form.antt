@@ -7,7 +7,7 @@ use Rattle.printing.proofs as fn
 use fn.ExprPrints.Dispatch.{is-unary, is-binary, is-conditional, is-listed}
 use fn.expression.+binary+call+cond+expr+form+label+let_expr+lift+list-closures+list-exprs+list-patterns+list-properties+list-triggers+listed+oper+quant+unary as cycle
 use cycle.Lts-form as lts
-use cycle.Proof.Ranks.{form-at, binary-below, cond-below, listed-below, unary-below}
+use cycle.Proof.Ranks as ranks
 use fn.expression.form.Reads.{Post}
 
 module _ (t : ℕ) where
@@ -15,18 +15,18 @@ module _ (t : ℕ) where
   claims = (
     fn.forms.operator_form.Reads.Asked,
     fn.forms.operator_form.Reads.Learnt,
-    unary-below t,
+    ranks.unary .below t,
     fn.expression.unary.Reads.Post,
-    binary-below t,
+    ranks.binary .below t,
     fn.expression.binary.Reads.Post,
-    cond-below t,
+    ranks.cond .below t,
     fn.expression.cond.Reads.Post,
-    listed-below t,
+    ranks.listed .below t,
     fn.expression.listed.Reads.Post,
   )
 
   abbrev Of : (lts.Claims → In 4 lts.ps → Out 4 lts.ps lts.r → Type 0) → Type 0
-  Of N = N claims (form-at t) Post
+  Of N = N claims (ranks.form .at t) Post
 
   unary-requires : Of lts.Need-unary-requires
   unary-requires c κs = (
@@ -76,8 +76,8 @@ module _ (t : ℕ) where
       (c .before .before .before .before .before .operator-form .ensures) (c .before .before .before .before .match .rest .0 .0 .1)
       (c .before .before .before .before .match .rest .0 .1) (c .before .before .before .before .match .rest .1) (c .before .before .listed .ensures)
 
-  pub spec : {M : Type 1} → lts.Closed claims (form-at t) Post M
+  pub spec : {M : Type 1} → lts.Closed claims (ranks.form .at t) Post M
   spec =
-      lts.spec claims (form-at t) Post
+      lts.spec claims (ranks.form .at t) Post
       (λ c κs. tt) unary-requires binary-requires cond-requires listed-requires (λ c. search needs) returns (λ c. search needs) returns-2
       (λ c. search needs) returns-3 (λ c. search needs) returns-4

@@ -12,7 +12,7 @@ use fn.Places.{ahead, seen, text, part, ready, done}
 use fn.ExprPrints.Reached.{Reached, begin, sooner, expression}
 use fn.expression.+binary+call+cond+expr+form+label+let_expr+lift+list-closures+list-exprs+list-patterns+list-properties+list-triggers+listed+oper+quant+unary as cycle
 use cycle.Lts-label as lts
-use cycle.Proof.Ranks.{label-at, expr-below}
+use cycle.Proof.Ranks as ranks
 use fn.expression.label.Reads.{Post}
 
 module _ (t : ℕ) where
@@ -22,14 +22,14 @@ module _ (t : ℕ) where
     fn.parts.label_head.Reads.Learnt,
     layout.power.BindingPower.subexpression_power.Reads.Asked,
     layout.power.BindingPower.subexpression_power.Reads.Learnt,
-    expr-below t,
+    ranks.expr .below t,
     fn.expression.expr.Reads.Post,
     fn.write.endless_parenthesis.Reads.Asked,
     fn.write.endless_parenthesis.Reads.Learnt,
   )
 
   abbrev Of : (lts.Claims → In 4 lts.ps → Out 4 lts.ps lts.r → Type 0) → Type 0
-  Of N = N claims (label-at t) Post
+  Of N = N claims (ranks.label .at t) Post
 
   abbrev at-start : Of lts.Start → Reached
   at-start c =
@@ -57,7 +57,7 @@ module _ (t : ℕ) where
   returns : Of lts.Need-returns
   returns c = done (at-end (c .before .before)) (λ x. refl) (λ x. refl)
 
-  pub spec : {M : Type 1} → lts.Closed claims (label-at t) Post M
+  pub spec : {M : Type 1} → lts.Closed claims (ranks.label .at t) Post M
   spec =
-      lts.spec claims (label-at t) Post
+      lts.spec claims (ranks.label .at t) Post
       (λ c. omega arith) (λ c κs. tt) (λ c κs. tt) expr-requires (λ c κs. tt) (λ c. search needs) returns

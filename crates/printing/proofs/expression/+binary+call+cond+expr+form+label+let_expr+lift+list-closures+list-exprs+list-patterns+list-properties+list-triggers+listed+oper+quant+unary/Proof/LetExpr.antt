@@ -13,7 +13,7 @@ use fn.Places.{ahead, seen, text, part, ready, done}
 use fn.ExprPrints.Reached.{Reached, begin, sooner, expression}
 use fn.expression.+binary+call+cond+expr+form+label+let_expr+lift+list-closures+list-exprs+list-patterns+list-properties+list-triggers+listed+oper+quant+unary as cycle
 use cycle.Lts-let_expr as lts
-use cycle.Proof.Ranks.{let-expr-at, expr-below}
+use cycle.Proof.Ranks as ranks
 use fn.expression.let_expr.Reads.{Post}
 
 module _ (t : ℕ) where
@@ -21,7 +21,7 @@ module _ (t : ℕ) where
   claims = (
     fn.parts.let_head.Reads.Asked,
     fn.parts.let_head.Reads.Learnt,
-    expr-below t,
+    ranks.expr .below t,
     fn.expression.expr.Reads.Post,
     fn.write.space.Reads.Asked,
     fn.write.space.Reads.Learnt,
@@ -32,7 +32,7 @@ module _ (t : ℕ) where
   )
 
   abbrev Of : (lts.Claims → In 4 lts.ps → Out 4 lts.ps lts.r → Type 0) → Type 0
-  Of N = N claims (let-expr-at t) Post
+  Of N = N claims (ranks.let-expr .at t) Post
 
   abbrev at-start : Of lts.Start → Reached
   at-start c =
@@ -72,7 +72,7 @@ module _ (t : ℕ) where
   returns : Of lts.Need-returns
   returns c = done (at-end (c .before .before)) (λ x. refl) (λ x. refl)
 
-  pub spec : {M : Type 1} → lts.Closed claims (let-expr-at t) Post M
+  pub spec : {M : Type 1} → lts.Closed claims (ranks.let-expr .at t) Post M
   spec =
-      lts.spec claims (let-expr-at t) Post
+      lts.spec claims (ranks.let-expr .at t) Post
       (λ c. omega arith) (λ c κs. tt) expr-requires (λ c κs. tt) (λ c κs. tt) expr-requires-2 (λ c κs. tt) (λ c. search needs) returns

@@ -13,7 +13,7 @@ use fn.Places.{ahead, seen, text, part, ready, done}
 use fn.ExprPrints.Reached.{Reached, begin, sooner}
 use fn.expression.+binary+call+cond+expr+form+label+let_expr+lift+list-closures+list-exprs+list-patterns+list-properties+list-triggers+listed+oper+quant+unary as cycle
 use cycle.Lts-lift as lts
-use cycle.Proof.Ranks.{lift-at, closures-below, properties-below}
+use cycle.Proof.Ranks as ranks
 use fn.expression.lift.Reads.{Post}
 
 module _ (t : ℕ) where
@@ -21,16 +21,16 @@ module _ (t : ℕ) where
   claims = (
     fn.write.put.Reads.Asked,
     fn.write.put.Reads.Learnt,
-    closures-below t,
+    ranks.closures .below t,
     fn.expression.list.closures.Reads.Post,
     fn.parts.closure_result.Reads.Asked,
     fn.parts.closure_result.Reads.Learnt,
-    properties-below t,
+    ranks.properties .below t,
     fn.expression.list.properties.Reads.Post,
   )
 
   abbrev Of : (lts.Claims → In 4 lts.ps → Out 4 lts.ps lts.r → Type 0) → Type 0
-  Of N = N claims (lift-at t) Post
+  Of N = N claims (ranks.lift .at t) Post
 
   abbrev at-start : Of lts.Start → Reached
   at-start c =
@@ -66,8 +66,8 @@ module _ (t : ℕ) where
   returns : Of lts.Need-returns
   returns c = done (at-end (c .before .before)) (λ x. refl) (λ x. refl)
 
-  pub spec : {M : Type 1} → lts.Closed claims (lift-at t) Post M
+  pub spec : {M : Type 1} → lts.Closed claims (ranks.lift .at t) Post M
   spec =
-      lts.spec claims (lift-at t) Post
+      lts.spec claims (ranks.lift .at t) Post
       (λ c. search needs) (λ c κs. tt) (λ c. omega arith) closures-requires (λ c κs. tt) properties-requires (λ c. search needs) (λ c κs. tt)
       (λ c. search needs) returns

@@ -16,7 +16,7 @@ use fn.ExprPrints.Reached.{Reached, begin, sooner}
 use fn.ExprPrints.Contexts.{operator-wrote}
 use fn.expression.+binary+call+cond+expr+form+label+let_expr+lift+list-closures+list-exprs+list-patterns+list-properties+list-triggers+listed+oper+quant+unary as cycle
 use cycle.Lts-listed as lts
-use cycle.Proof.Ranks.{listed-at, exprs-below}
+use cycle.Proof.Ranks as ranks
 use fn.expression.listed.Reads.{Post}
 
 module _ (t : ℕ) where
@@ -24,14 +24,14 @@ module _ (t : ℕ) where
   claims = (
     fn.forms.listed_head.Reads.Asked,
     fn.forms.listed_head.Reads.Learnt,
-    exprs-below t,
+    ranks.exprs .below t,
     fn.expression.list.exprs.Reads.Post,
     fn.write.put.Reads.Asked,
     fn.write.put.Reads.Learnt,
   )
 
   abbrev Of : (lts.Claims → In 4 lts.ps → Out 4 lts.ps lts.r → Type 0) → Type 0
-  Of N = N claims (listed-at t) Post
+  Of N = N claims (ranks.listed .at t) Post
 
   abbrev at-start : Of lts.Start → Reached
   at-start c =
@@ -57,7 +57,7 @@ module _ (t : ℕ) where
   returns : Of lts.Need-returns
   returns c = done (at-end (c .before .before)) (λ x. refl) (λ x. refl)
 
-  pub spec : {M : Type 1} → lts.Closed claims (listed-at t) Post M
+  pub spec : {M : Type 1} → lts.Closed claims (ranks.listed .at t) Post M
   spec =
-      lts.spec claims (listed-at t) Post
+      lts.spec claims (ranks.listed .at t) Post
       (λ c. omega arith) (λ c κs. tt) (λ c. omega arith) exprs-requires (λ c. search needs) (λ c κs. tt) (λ c. search needs) returns

@@ -18,7 +18,7 @@ use fn.ExprPrints.Reached.{Reached, begin, same-print}
 use fn.ExprPrints.Contexts.{by-operator}
 use fn.expression.+binary+call+cond+expr+form+label+let_expr+lift+list-closures+list-exprs+list-patterns+list-properties+list-triggers+listed+oper+quant+unary as cycle
 use cycle.Lts-oper as lts
-use cycle.Proof.Ranks.{oper-at, form-below}
+use cycle.Proof.Ranks as ranks
 use fn.expression.oper.Reads.{Post}
 
 module _ (t : ℕ) where
@@ -30,12 +30,12 @@ module _ (t : ℕ) where
     fn.operator.binding_strength.Reads.Learnt,
     fn.write.parenthesis.Reads.Asked,
     fn.write.parenthesis.Reads.Learnt,
-    form-below t,
+    ranks.form .below t,
     fn.expression.form.Reads.Post,
   )
 
   abbrev Of : (lts.Claims → In 4 lts.ps → Out 4 lts.ps lts.r → Type 0) → Type 0
-  Of N = N claims (oper-at t) Post
+  Of N = N claims (ranks.oper .at t) Post
 
   abbrev at-start : Of lts.Start → Reached
   at-start c =
@@ -79,7 +79,7 @@ module _ (t : ℕ) where
   returns : Of lts.Need-returns
   returns c = done (at-end (c .before .before)) (λ x. refl) (λ x. refl)
 
-  pub spec : {M : Type 1} → lts.Closed claims (oper-at t) Post M
+  pub spec : {M : Type 1} → lts.Closed claims (ranks.oper .at t) Post M
   spec =
-      lts.spec claims (oper-at t) Post
+      lts.spec claims (ranks.oper .at t) Post
       (λ c. omega arith) (λ c κs. tt) (λ c κs. tt) (λ c κs. tt) form-requires (λ c κs. tt) (λ c. search needs) returns

@@ -24,7 +24,7 @@ use fn.ExprPrints.SequencePrints.{someProperties, some-properties, triggers-end}
 use fn.Sequences.{at-none, at-some}
 use fn.expression.+binary+call+cond+expr+form+label+let_expr+lift+list-closures+list-exprs+list-patterns+list-properties+list-triggers+listed+oper+quant+unary as cycle
 use cycle.Lts-list-properties as lts
-use cycle.Proof.Ranks.{properties-at, expr-below, triggers-below, properties-below}
+use cycle.Proof.Ranks as ranks
 use fn.expression.list.properties.Reads.{Post}
 
 module _ (t : ℕ) where
@@ -36,18 +36,18 @@ module _ (t : ℕ) where
     get.Learnt,
     fn.write.put_separator.Reads.Asked,
     fn.write.put_separator.Reads.Learnt,
-    triggers-below t,
+    ranks.triggers .below t,
     fn.expression.list.triggers.Reads.Post,
     fn.write.put_unless.Reads.Asked,
     fn.write.put_unless.Reads.Learnt,
-    expr-below t,
+    ranks.expr .below t,
     fn.expression.expr.Reads.Post,
-    properties-below t,
+    ranks.properties .below t,
     fn.expression.list.properties.Reads.Post,
   )
 
   abbrev Of : (lts.Claims → In 4 lts.ps → Out 4 lts.ps lts.r → Type 0) → Type 0
-  Of N = N claims (properties-at t) Post
+  Of N = N claims (ranks.properties .at t) Post
 
   abbrev at-start : (c : Of lts.Start) → c .args .at < length (c .args .words .now) → Reached
   at-start c h =
@@ -128,8 +128,8 @@ module _ (t : ℕ) where
       (c .before .before .before .before .before .before .before .before .before .before .before .before .before .before .before .before .before .before .before .before .before .before .if1 .left)
       (done (at-end (c .before .before)) (λ x. refl) (λ x. refl))
 
-  pub spec : {M : Type 1} → lts.Closed claims (properties-at t) Post M
+  pub spec : {M : Type 1} → lts.Closed claims (ranks.properties .at t) Post M
   spec =
-      lts.spec claims (properties-at t) Post
+      lts.spec claims (ranks.properties .at t) Post
       (λ c κs. tt) (λ c κs. tt) returns (λ c κs. tt) triggers-requires (λ c κs. tt) (λ c. search needs) (λ c κs. tt) expr-requires properties-requires
       same-length returns-2

@@ -11,7 +11,7 @@ use fn.Places.{ahead, seen, text, part, done}
 use fn.ExprPrints.Reached.{Reached, begin, sooner, one-deeper, ready-more, formatted, expression}
 use fn.expression.+binary+call+cond+expr+form+label+let_expr+lift+list-closures+list-exprs+list-patterns+list-properties+list-triggers+listed+oper+quant+unary as cycle
 use cycle.Lts-quant as lts
-use cycle.Proof.Ranks.{quant-at, expr-below, patterns-below}
+use cycle.Proof.Ranks as ranks
 use fn.expression.quant.Reads.{Post}
 
 module _ (t : ℕ) where
@@ -21,20 +21,20 @@ module _ (t : ℕ) where
     fn.parts.quantifier_head.Reads.Learnt,
     layout.format.ExprFormatOption.more.Reads.Asked,
     layout.format.ExprFormatOption.more.Reads.Learnt,
-    patterns-below t,
+    ranks.patterns .below t,
     fn.expression.list.patterns.Reads.Post,
     fn.write.space.Reads.Asked,
     fn.write.space.Reads.Learnt,
     layout.power.BindingPower.subexpression_power.Reads.Asked,
     layout.power.BindingPower.subexpression_power.Reads.Learnt,
-    expr-below t,
+    ranks.expr .below t,
     fn.expression.expr.Reads.Post,
     fn.write.endless_parenthesis.Reads.Asked,
     fn.write.endless_parenthesis.Reads.Learnt,
   )
 
   abbrev Of : (lts.Claims → In 4 lts.ps → Out 4 lts.ps lts.r → Type 0) → Type 0
-  Of N = N claims (quant-at t) Post
+  Of N = N claims (ranks.quant .at t) Post
 
   abbrev at-start : Of lts.Start → Reached
   at-start c =
@@ -93,7 +93,7 @@ module _ (t : ℕ) where
   returns : Of lts.Need-returns
   returns c = done (at-end (c .before .before)) (λ x. refl) (λ x. refl)
 
-  pub spec : {M : Type 1} → lts.Closed claims (quant-at t) Post M
+  pub spec : {M : Type 1} → lts.Closed claims (ranks.quant .at t) Post M
   spec =
-      lts.spec claims (quant-at t) Post
+      lts.spec claims (ranks.quant .at t) Post
       (λ c. omega arith) (λ c κs. tt) (λ c κs. tt) patterns-requires (λ c κs. tt) (λ c κs. tt) expr-requires (λ c κs. tt) same-length returns

@@ -21,7 +21,7 @@ use fn.ExprPrints.SequencePrints.{someTriggers, some-triggers}
 use fn.Sequences.{at-none, at-some}
 use fn.expression.+binary+call+cond+expr+form+label+let_expr+lift+list-closures+list-exprs+list-patterns+list-properties+list-triggers+listed+oper+quant+unary as cycle
 use cycle.Lts-list-triggers as lts
-use cycle.Proof.Ranks.{triggers-at, exprs-below, triggers-below}
+use cycle.Proof.Ranks as ranks
 use fn.expression.list.triggers.Reads.{Post}
 
 module _ (t : ℕ) where
@@ -33,14 +33,14 @@ module _ (t : ℕ) where
     get.Learnt,
     fn.write.put.Reads.Asked,
     fn.write.put.Reads.Learnt,
-    exprs-below t,
+    ranks.exprs .below t,
     fn.expression.list.exprs.Reads.Post,
-    triggers-below t,
+    ranks.triggers .below t,
     fn.expression.list.triggers.Reads.Post,
   )
 
   abbrev Of : (lts.Claims → In 4 lts.ps → Out 4 lts.ps lts.r → Type 0) → Type 0
-  Of N = N claims (triggers-at t) Post
+  Of N = N claims (ranks.triggers .at t) Post
 
   abbrev at-start : (c : Of lts.Start) → c .args .at < length (c .args .words .now) → Reached
   at-start c h =
@@ -93,8 +93,8 @@ module _ (t : ℕ) where
       (c .before .before .before .before .before .before .before .before .before .before .before .before .before .before .before .before .before .before .if1 .left)
       (done (at-end (c .before .before)) (λ x. refl) (λ x. refl))
 
-  pub spec : {M : Type 1} → lts.Closed claims (triggers-at t) Post M
+  pub spec : {M : Type 1} → lts.Closed claims (ranks.triggers .at t) Post M
   spec =
-      lts.spec claims (triggers-at t) Post
+      lts.spec claims (ranks.triggers .at t) Post
       (λ c κs. tt) (λ c κs. tt) returns (λ c. search needs) (λ c κs. tt) exprs-requires (λ c. search needs) (λ c κs. tt) triggers-requires
       (λ c. search needs) returns-2

@@ -19,7 +19,7 @@ use fn.ExprPrints.Reached.{Reached, begin, sooner, same-print, expression}
 use fn.ExprPrints.Contexts.{by-operator, operand-context}
 use fn.expression.+binary+call+cond+expr+form+label+let_expr+lift+list-closures+list-exprs+list-patterns+list-properties+list-triggers+listed+oper+quant+unary as cycle
 use cycle.Lts-unary as lts
-use cycle.Proof.Ranks.{unary-at, expr-below}
+use cycle.Proof.Ranks as ranks
 use fn.expression.unary.Reads.{Post}
 
 module _ (t : ℕ) where
@@ -31,14 +31,14 @@ module _ (t : ℕ) where
     get.Learnt,
     fn.operator.put_operator.Reads.Asked,
     fn.operator.put_operator.Reads.Learnt,
-    expr-below t,
+    ranks.expr .below t,
     fn.expression.expr.Reads.Post,
     fn.parts.after.Reads.Asked,
     fn.parts.after.Reads.Learnt,
   )
 
   abbrev Of : (lts.Claims → In 4 lts.ps → Out 4 lts.ps lts.r → Type 0) → Type 0
-  Of N = N claims (unary-at t) Post
+  Of N = N claims (ranks.unary .at t) Post
 
   abbrev at-start : Of lts.Start → Reached
   at-start c =
@@ -68,7 +68,7 @@ module _ (t : ℕ) where
   returns : Of lts.Need-returns
   returns c = done (at-end c) (λ x. refl) (λ x. refl)
 
-  pub spec : {M : Type 1} → lts.Closed claims (unary-at t) Post M
+  pub spec : {M : Type 1} → lts.Closed claims (ranks.unary .at t) Post M
   spec =
-      lts.spec claims (unary-at t) Post
+      lts.spec claims (ranks.unary .at t) Post
       (λ c. omega arith) (λ c κs. tt) (λ c κs. tt) (λ c κs. tt) (λ c. omega arith) expr-requires (λ c κs. tt) (λ c. search needs) returns

@@ -16,7 +16,7 @@ use fn.StmtPrints.Forms.{is-assertion, is-plain, plainly, plain-print}
 use fn.StmtPrints.Room.{one-line, nearer-by}
 use fn.statement.+aexpr+block+braces+by_case+choose+cond+forall+inner+label+list-aexprs+list-branches+list-cases+list-list+list-stmts+looped+onward+stmt+var as cycle
 use cycle.Lts-aexpr as lts
-use cycle.Proof.Ranks.{aexpr-at, stmt-below}
+use cycle.Proof.Ranks as ranks
 use fn.statement.aexpr.Reads.{Post}
 
 module _ (t : ℕ) where
@@ -26,7 +26,7 @@ module _ (t : ℕ) where
     fn.parts.after.Reads.Learnt,
     get.Asked,
     get.Learnt,
-    stmt-below t,
+    ranks.stmt .below t,
     fn.statement.stmt.Reads.Post,
     fn.expression.expr.Reads.Asked,
     fn.expression.expr.Reads.Learnt,
@@ -35,7 +35,7 @@ module _ (t : ℕ) where
   )
 
   abbrev Of : (lts.Claims → In 4 lts.ps → Out 4 lts.ps lts.r → Type 0) → Type 0
-  Of N = N claims (aexpr-at t) Post
+  Of N = N claims (ranks.aexpr .at t) Post
 
   is-inside : (c : Of lts.After-get) → c .get .result ≡ 2 → c .before .before .before .before .before .before .args .at < length (c .before .before .before .before .before .before .args .words .now)
   is-inside c e = inside (c .before .before .before .before .before .before .args .words .now) (c .get .ensures) (λ z. omega (arith, z, e))
@@ -74,7 +74,7 @@ module _ (t : ℕ) where
       (c .before .before .before .before .before .before .before .before .before .before .get .ensures) (c .before .before .before .before .before .before .before .before .before .if1 .left) (done (at-end
       (c .before .before)) (λ x. refl) (λ x. refl))
 
-  pub spec : {M : Type 1} → lts.Closed claims (aexpr-at t) Post M
+  pub spec : {M : Type 1} → lts.Closed claims (ranks.aexpr .at t) Post M
   spec =
-      lts.spec claims (aexpr-at t) Post
+      lts.spec claims (ranks.aexpr .at t) Post
       (λ c κs. tt) (λ c κs. tt) stmt-requires (λ c. search needs) returns (λ c κs. tt) (λ c. search needs) (λ c κs. tt) (λ c. search needs) returns-2

@@ -19,7 +19,7 @@ use fn.StmtPrints.Marks.{aexprsOf, some-aexprs}
 use fn.StmtPrints.Room.{sooner}
 use fn.statement.+aexpr+block+braces+by_case+choose+cond+forall+inner+label+list-aexprs+list-branches+list-cases+list-list+list-stmts+looped+onward+stmt+var as cycle
 use cycle.Lts-list-aexprs as lts
-use cycle.Proof.Ranks.{aexprs-at, aexpr-below, aexprs-below}
+use cycle.Proof.Ranks as ranks
 use fn.statement.list.aexprs.Reads.{Post}
 
 module _ (t : ℕ) where
@@ -33,14 +33,14 @@ module _ (t : ℕ) where
     fn.write.put_indent.Reads.Learnt,
     fn.write.put.Reads.Asked,
     fn.write.put.Reads.Learnt,
-    aexpr-below t,
+    ranks.aexpr .below t,
     fn.statement.aexpr.Reads.Post,
-    aexprs-below t,
+    ranks.aexprs .below t,
     fn.statement.list.aexprs.Reads.Post,
   )
 
   abbrev Of : (lts.Claims → In 5 lts.ps → Out 5 lts.ps lts.r → Type 0) → Type 0
-  Of N = N claims (aexprs-at t) Post
+  Of N = N claims (ranks.aexprs .at t) Post
 
   abbrev list : Of lts.Start → Part
   list c = aExprList (c .args .text .now) (c .args .words .now) (c .args .counts .now) (c .args .step) (c .args .at) (c .args .indent) (c .args .prefix .now)
@@ -101,7 +101,7 @@ module _ (t : ℕ) where
       (c .before .before .before .before .before .before .before .before .before .before .before .before .before .before .before .before .before .before .before .before .before .if1 .left) (done (at-end
       (c .before .before)) (λ x. refl) (λ x. refl))
 
-  pub spec : {M : Type 1} → lts.Closed claims (aexprs-at t) Post M
+  pub spec : {M : Type 1} → lts.Closed claims (ranks.aexprs .at t) Post M
   spec =
-      lts.spec claims (aexprs-at t) Post
+      lts.spec claims (ranks.aexprs .at t) Post
       (λ c κs. tt) (λ c κs. tt) returns (λ c κs. tt) (λ c κs. tt) (λ c. search needs) (λ c κs. tt) aexpr-requires aexprs-requires (λ c. search needs) returns-2

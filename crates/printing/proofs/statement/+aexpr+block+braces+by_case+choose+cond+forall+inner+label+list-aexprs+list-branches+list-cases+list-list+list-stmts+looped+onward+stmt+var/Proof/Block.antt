@@ -12,7 +12,7 @@ use fn.StmtPrints.Equations.{block-print, S}
 use fn.StmtPrints.Room.{at-indent, small-indent, stmt-inside}
 use fn.statement.+aexpr+block+braces+by_case+choose+cond+forall+inner+label+list-aexprs+list-branches+list-cases+list-list+list-stmts+looped+onward+stmt+var as cycle
 use cycle.Lts-block as lts
-use cycle.Proof.Ranks.{block-at, inner-below}
+use cycle.Proof.Ranks as ranks
 use fn.statement.block.Reads.{Post}
 
 module _ (t : ℕ) where
@@ -22,14 +22,14 @@ module _ (t : ℕ) where
     fn.write.put.Reads.Learnt,
     layout.deeper.Reads.Asked,
     layout.deeper.Reads.Learnt,
-    inner-below t,
+    ranks.inner .below t,
     fn.statement.inner.Reads.Post,
     fn.write.put_indent.Reads.Asked,
     fn.write.put_indent.Reads.Learnt,
   )
 
   abbrev Of : (lts.Claims → In 4 lts.ps → Out 4 lts.ps lts.r → Type 0) → Type 0
-  Of N = N claims (block-at t) Post
+  Of N = N claims (ranks.block .at t) Post
 
   abbrev at-start : Of lts.After-deeper → Place
   at-start c = seen (text (seen (begin (aBlock (c .before .before .before .before .before .before .before .before .before .before .args .text .now)
@@ -66,7 +66,7 @@ module _ (t : ℕ) where
   returns : Of lts.Need-returns
   returns c = done (at-end (c .before .before)) (λ x. refl) (λ x. refl)
 
-  pub spec : {M : Type 1} → lts.Closed claims (block-at t) Post M
+  pub spec : {M : Type 1} → lts.Closed claims (ranks.block .at t) Post M
   spec =
-      lts.spec claims (block-at t) Post
+      lts.spec claims (ranks.block .at t) Post
       (λ c. search needs) (λ c κs. tt) (λ c κs. tt) inner-requires (λ c κs. tt) (λ c. search needs) (λ c κs. tt) (λ c. search needs) returns

@@ -12,7 +12,7 @@ use fn.StmtPrints.Equations.{braces-print}
 use fn.StmtPrints.Room.{small, sooner, deeper-small}
 use fn.statement.+aexpr+block+braces+by_case+choose+cond+forall+inner+label+list-aexprs+list-branches+list-cases+list-list+list-stmts+looped+onward+stmt+var as cycle
 use cycle.Lts-braces as lts
-use cycle.Proof.Ranks.{braces-at, list-below}
+use cycle.Proof.Ranks as ranks
 use fn.statement.braces.Reads.{Post}
 
 module _ (t : ℕ) where
@@ -22,14 +22,14 @@ module _ (t : ℕ) where
     fn.write.put.Reads.Learnt,
     layout.deeper.Reads.Asked,
     layout.deeper.Reads.Learnt,
-    list-below t,
+    ranks.list .below t,
     fn.statement.list.list.Reads.Post,
     fn.write.put_indent.Reads.Asked,
     fn.write.put_indent.Reads.Learnt,
   )
 
   abbrev Of : (lts.Claims → In 4 lts.ps → Out 4 lts.ps lts.r → Type 0) → Type 0
-  Of N = N claims (braces-at t) Post
+  Of N = N claims (ranks.braces .at t) Post
 
   abbrev at-start : Of lts.After-deeper → Place
   at-start c = ahead (text (seen (begin (aBraces (c .before .before .before .before .before .before .before .before .before .before .args .text .now)
@@ -60,7 +60,7 @@ module _ (t : ℕ) where
   returns : Of lts.Need-returns
   returns c = done (at-end (c .before .before)) (λ x. refl) (λ x. refl)
 
-  pub spec : {M : Type 1} → lts.Closed claims (braces-at t) Post M
+  pub spec : {M : Type 1} → lts.Closed claims (ranks.braces .at t) Post M
   spec =
-      lts.spec claims (braces-at t) Post
+      lts.spec claims (ranks.braces .at t) Post
       (λ c. search needs) (λ c κs. tt) (λ c. omega arith) (λ c κs. tt) list-requires (λ c κs. tt) (λ c. search needs) (λ c κs. tt) (λ c. search needs) returns

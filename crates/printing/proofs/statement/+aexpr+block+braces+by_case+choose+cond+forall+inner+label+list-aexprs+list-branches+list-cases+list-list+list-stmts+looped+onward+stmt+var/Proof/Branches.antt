@@ -20,7 +20,7 @@ use fn.StmtPrints.Marks.{stmtsOf, some-branches, branch-end}
 use fn.StmtPrints.Room.{sooner}
 use fn.statement.+aexpr+block+braces+by_case+choose+cond+forall+inner+label+list-aexprs+list-branches+list-cases+list-list+list-stmts+looped+onward+stmt+var as cycle
 use cycle.Lts-list-branches as lts
-use cycle.Proof.Ranks.{branches-at, block-below, branches-below}
+use cycle.Proof.Ranks as ranks
 use fn.statement.list.branches.Reads.{Post}
 
 module _ (t : ℕ) where
@@ -30,16 +30,16 @@ module _ (t : ℕ) where
     fn.parts.after.Reads.Learnt,
     get.Asked,
     get.Learnt,
-    block-below t,
+    ranks.block .below t,
     fn.statement.block.Reads.Post,
     fn.write.put_either.Reads.Asked,
     fn.write.put_either.Reads.Learnt,
-    branches-below t,
+    ranks.branches .below t,
     fn.statement.list.branches.Reads.Post,
   )
 
   abbrev Of : (lts.Claims → In 4 lts.ps → Out 4 lts.ps lts.r → Type 0) → Type 0
-  Of N = N claims (branches-at t) Post
+  Of N = N claims (ranks.branches .at t) Post
 
   abbrev list : Of lts.Start → Part
   list c = branchList (c .args .text .now) (c .args .words .now) (c .args .counts .now) (c .args .step) (c .args .at) (c .args .indent)
@@ -94,7 +94,7 @@ module _ (t : ℕ) where
       (c .before .before .before .before .before .before .before .before .before .before .before .before .before .before .before .before .get .ensures)
       (c .before .before .before .before .before .before .before .before .before .before .before .before .before .before .before .if1 .left) (done (at-end (c .before .before)) (λ x. refl) (λ x. refl))
 
-  pub spec : {M : Type 1} → lts.Closed claims (branches-at t) Post M
+  pub spec : {M : Type 1} → lts.Closed claims (ranks.branches .at t) Post M
   spec =
-      lts.spec claims (branches-at t) Post
+      lts.spec claims (ranks.branches .at t) Post
       (λ c κs. tt) (λ c κs. tt) returns block-requires (λ c κs. tt) (λ c. search needs) (λ c. search needs) (λ c κs. tt) branches-requires (λ c. search needs) returns-2

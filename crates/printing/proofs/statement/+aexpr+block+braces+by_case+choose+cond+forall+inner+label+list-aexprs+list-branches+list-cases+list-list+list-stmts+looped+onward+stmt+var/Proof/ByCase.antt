@@ -16,7 +16,7 @@ use fn.StmtPrints.Marks.{cases-mark}
 use fn.StmtPrints.Room.{sooner}
 use fn.statement.+aexpr+block+braces+by_case+choose+cond+forall+inner+label+list-aexprs+list-branches+list-cases+list-list+list-stmts+looped+onward+stmt+var as cycle
 use cycle.Lts-by_case as lts
-use cycle.Proof.Ranks.{by-case-at, cases-below}
+use cycle.Proof.Ranks as ranks
 use fn.statement.by_case.Reads.{Post}
 
 module _ (t : ℕ) where
@@ -28,12 +28,12 @@ module _ (t : ℕ) where
     get.Learnt,
     fn.around.no_cases.Reads.Asked,
     fn.around.no_cases.Reads.Learnt,
-    cases-below t,
+    ranks.cases .below t,
     fn.statement.list.cases.Reads.Post,
   )
 
   abbrev Of : (lts.Claims → In 4 lts.ps → Out 4 lts.ps lts.r → Type 0) → Type 0
-  Of N = N claims (by-case-at t) Post
+  Of N = N claims (ranks.by-case .at t) Post
 
   abbrev at-start : Of lts.After-no-cases → Place
   at-start c = ahead (text (text (seen (begin (anIfCase (c .before .before .before .before .before .before .before .before .before .before .before .before .args .text .now)
@@ -64,7 +64,7 @@ module _ (t : ℕ) where
   returns : Of lts.Need-returns
   returns c = done (at-end (c .before .before)) (λ x. refl) (λ x. refl)
 
-  pub spec : {M : Type 1} → lts.Closed claims (by-case-at t) Post M
+  pub spec : {M : Type 1} → lts.Closed claims (ranks.by-case .at t) Post M
   spec =
-      lts.spec claims (by-case-at t) Post
+      lts.spec claims (ranks.by-case .at t) Post
       (λ c. search needs) (λ c κs. tt) (λ c. omega arith) (λ c κs. tt) (λ c κs. tt) (λ c. omega arith) cases-requires (λ c. search needs) returns

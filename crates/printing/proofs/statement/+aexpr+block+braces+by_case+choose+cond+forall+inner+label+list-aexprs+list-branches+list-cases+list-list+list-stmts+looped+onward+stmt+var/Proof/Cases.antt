@@ -20,7 +20,7 @@ use fn.StmtPrints.Marks.{casesOf, some-cases, case-end}
 use fn.StmtPrints.Room.{sooner, one-line}
 use fn.statement.+aexpr+block+braces+by_case+choose+cond+forall+inner+label+list-aexprs+list-branches+list-cases+list-list+list-stmts+looped+onward+stmt+var as cycle
 use cycle.Lts-list-cases as lts
-use cycle.Proof.Ranks.{cases-at, block-below, cases-below}
+use cycle.Proof.Ranks as ranks
 use fn.statement.list.cases.Reads.{Post}
 
 module _ (t : ℕ) where
@@ -34,16 +34,16 @@ module _ (t : ℕ) where
     fn.write.put.Reads.Learnt,
     fn.expression.expr.Reads.Asked,
     fn.expression.expr.Reads.Learnt,
-    block-below t,
+    ranks.block .below t,
     fn.statement.block.Reads.Post,
     fn.write.put_either.Reads.Asked,
     fn.write.put_either.Reads.Learnt,
-    cases-below t,
+    ranks.cases .below t,
     fn.statement.list.cases.Reads.Post,
   )
 
   abbrev Of : (lts.Claims → In 4 lts.ps → Out 4 lts.ps lts.r → Type 0) → Type 0
-  Of N = N claims (cases-at t) Post
+  Of N = N claims (ranks.cases .at t) Post
 
   abbrev list : Of lts.Start → Part
   list c = caseSequence (c .args .text .now) (c .args .words .now) (c .args .counts .now) (c .args .step) (c .args .at) (c .args .indent)
@@ -132,7 +132,7 @@ module _ (t : ℕ) where
     c .before .out6 .given,
   )
 
-  pub spec : {M : Type 1} → lts.Closed claims (cases-at t) Post M
+  pub spec : {M : Type 1} → lts.Closed claims (ranks.cases .at t) Post M
   spec =
-      lts.spec claims (cases-at t) Post
+      lts.spec claims (ranks.cases .at t) Post
       (λ c κs. tt) (λ c κs. tt) returns (λ c. search needs) (λ c κs. tt) (λ c κs. tt) (λ c. search needs) (λ c κs. tt) block-requires (λ c κs. tt) (λ c. search needs) (λ c. search needs) (λ c κs. tt) cases-requires same-length returns-2

@@ -16,7 +16,7 @@ use fn.StmtPrints.Marks.{stmts-mark}
 use fn.StmtPrints.Room.{sooner}
 use fn.statement.+aexpr+block+braces+by_case+choose+cond+forall+inner+label+list-aexprs+list-branches+list-cases+list-list+list-stmts+looped+onward+stmt+var as cycle
 use cycle.Lts-choose as lts
-use cycle.Proof.Ranks.{choose-at, branches-below}
+use cycle.Proof.Ranks as ranks
 use fn.statement.choose.Reads.{Post}
 
 module _ (t : ℕ) where
@@ -28,12 +28,12 @@ module _ (t : ℕ) where
     get.Learnt,
     fn.write.put_unless.Reads.Asked,
     fn.write.put_unless.Reads.Learnt,
-    branches-below t,
+    ranks.branches .below t,
     fn.statement.list.branches.Reads.Post,
   )
 
   abbrev Of : (lts.Claims → In 4 lts.ps → Out 4 lts.ps lts.r → Type 0) → Type 0
-  Of N = N claims (choose-at t) Post
+  Of N = N claims (ranks.choose .at t) Post
 
   abbrev at-start : Of lts.After-put-unless → Place
   at-start c = ahead (text (text (seen (begin (aChoose (c .before .before .before .before .before .before .before .before .before .before .before .before .before .args .text .now)
@@ -69,7 +69,7 @@ module _ (t : ℕ) where
   returns : Of lts.Need-returns
   returns c = done (at-end (c .before .before)) (λ x. refl) (λ x. refl)
 
-  pub spec : {M : Type 1} → lts.Closed claims (choose-at t) Post M
+  pub spec : {M : Type 1} → lts.Closed claims (ranks.choose .at t) Post M
   spec =
-      lts.spec claims (choose-at t) Post
+      lts.spec claims (ranks.choose .at t) Post
       (λ c. search needs) (λ c κs. tt) (λ c. omega arith) (λ c κs. tt) (λ c. search needs) (λ c κs. tt) (λ c. omega arith) branches-requires (λ c. search needs) returns

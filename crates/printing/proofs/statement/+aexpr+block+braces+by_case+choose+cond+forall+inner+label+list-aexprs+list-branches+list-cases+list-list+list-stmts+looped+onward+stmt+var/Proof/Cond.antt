@@ -13,7 +13,7 @@ use fn.StmtPrints.Marks.{empty-block-words}
 use fn.StmtPrints.Room.{sooner, one-line}
 use fn.statement.+aexpr+block+braces+by_case+choose+cond+forall+inner+label+list-aexprs+list-branches+list-cases+list-list+list-stmts+looped+onward+stmt+var as cycle
 use cycle.Lts-cond as lts
-use cycle.Proof.Ranks.{cond-at, block-below, onward-below}
+use cycle.Proof.Ranks as ranks
 use fn.statement.cond.Reads.{Post}
 
 module _ (t : ℕ) where
@@ -23,7 +23,7 @@ module _ (t : ℕ) where
     fn.write.put.Reads.Learnt,
     fn.expression.expr.Reads.Asked,
     fn.expression.expr.Reads.Learnt,
-    block-below t,
+    ranks.block .below t,
     fn.statement.block.Reads.Post,
     fn.around.is_empty_block.Reads.Asked,
     fn.around.is_empty_block.Reads.Learnt,
@@ -31,12 +31,12 @@ module _ (t : ℕ) where
     fn.parts.after.Reads.Learnt,
     fn.around.is_conditional.Reads.Asked,
     fn.around.is_conditional.Reads.Learnt,
-    onward-below t,
+    ranks.onward .below t,
     fn.statement.onward.Reads.Post,
   )
 
   abbrev Of : (lts.Claims → In 4 lts.ps → Out 4 lts.ps lts.r → Type 0) → Type 0
-  Of N = N claims (cond-at t) Post
+  Of N = N claims (ranks.cond .at t) Post
 
   abbrev at-start : Of lts.After-put → Place
   at-start c = ahead (text (seen (begin (anIf (c .before .before .before .before .before .before .before .args .text .now) (c .before .before .before .before .before .before .before .args .words .now)
@@ -153,7 +153,7 @@ module _ (t : ℕ) where
     c .before .out7 .given,
   )
 
-  pub spec : {M : Type 1} → lts.Closed claims (cond-at t) Post M
+  pub spec : {M : Type 1} → lts.Closed claims (ranks.cond .at t) Post M
   spec =
-      lts.spec claims (cond-at t) Post
+      lts.spec claims (ranks.cond .at t) Post
       (λ c. search needs) (λ c κs. tt) (λ c. omega arith) (λ c κs. tt) (λ c. search needs) (λ c κs. tt) block-requires (λ c κs. tt) (λ c κs. tt) (λ c κs. tt) (λ c. search needs) (λ c κs. tt) same-length returns (λ c. search needs) (λ c κs. tt) (λ c κs. tt) onward-requires same-length-2 returns-2

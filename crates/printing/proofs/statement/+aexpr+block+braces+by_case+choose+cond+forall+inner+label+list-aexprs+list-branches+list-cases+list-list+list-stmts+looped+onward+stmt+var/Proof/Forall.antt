@@ -12,7 +12,7 @@ use fn.StmtPrints.Equations.{forall-print}
 use fn.StmtPrints.Room.{sooner}
 use fn.statement.+aexpr+block+braces+by_case+choose+cond+forall+inner+label+list-aexprs+list-branches+list-cases+list-list+list-stmts+looped+onward+stmt+var as cycle
 use cycle.Lts-forall as lts
-use cycle.Proof.Ranks.{forall-at, block-below}
+use cycle.Proof.Ranks as ranks
 use fn.statement.forall.Reads.{Post}
 
 module _ (t : ℕ) where
@@ -20,14 +20,14 @@ module _ (t : ℕ) where
   claims = (
     fn.around.for_head.Reads.Asked,
     fn.around.for_head.Reads.Learnt,
-    block-below t,
+    ranks.block .below t,
     fn.statement.block.Reads.Post,
     fn.write.put.Reads.Asked,
     fn.write.put.Reads.Learnt,
   )
 
   abbrev Of : (lts.Claims → In 4 lts.ps → Out 4 lts.ps lts.r → Type 0) → Type 0
-  Of N = N claims (forall-at t) Post
+  Of N = N claims (ranks.forall .at t) Post
 
   abbrev at-start : Of lts.Start → Place
   at-start c = ahead (seen (begin (aForall (c .args .text .now) (c .args .words .now) (c .args .counts .now) (c .args .step) (c .args .at) (c .args .indent)) (c .args .words .now) (c .args .at) (c .args .out .now) (c .args .pos)) _ (λ x. forall-print (c .args .text .now) (c .args .step) (x .tree .0) (x .tree .1) (x .tree .2) (c .args .indent))) 1 _ (λ x. refl)
@@ -47,7 +47,7 @@ module _ (t : ℕ) where
   returns : Of lts.Need-returns
   returns c = done (at-end (c .before .before)) (λ x. refl) (λ x. refl)
 
-  pub spec : {M : Type 1} → lts.Closed claims (forall-at t) Post M
+  pub spec : {M : Type 1} → lts.Closed claims (ranks.forall .at t) Post M
   spec =
-      lts.spec claims (forall-at t) Post
+      lts.spec claims (ranks.forall .at t) Post
       (λ c. omega arith) (λ c κs. tt) block-requires (λ c. search needs) (λ c κs. tt) (λ c. search needs) returns

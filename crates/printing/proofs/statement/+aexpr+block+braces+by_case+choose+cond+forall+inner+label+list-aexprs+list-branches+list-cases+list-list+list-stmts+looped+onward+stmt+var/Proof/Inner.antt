@@ -18,7 +18,7 @@ use fn.StmtPrints.Equations.{bare-print, S}
 use fn.StmtPrints.Forms.{block-list}
 use fn.statement.+aexpr+block+braces+by_case+choose+cond+forall+inner+label+list-aexprs+list-branches+list-cases+list-list+list-stmts+looped+onward+stmt+var as cycle
 use cycle.Lts-inner as lts
-use cycle.Proof.Ranks.{inner-at, list-below, stmt-below}
+use cycle.Proof.Ranks as ranks
 use fn.statement.inner.Reads.{Post}
 
 module _ (t : ℕ) where
@@ -26,16 +26,16 @@ module _ (t : ℕ) where
   claims = (
     get.Asked,
     get.Learnt,
-    list-below t,
+    ranks.list .below t,
     fn.statement.list.list.Reads.Post,
     fn.write.put_indent.Reads.Asked,
     fn.write.put_indent.Reads.Learnt,
-    stmt-below t,
+    ranks.stmt .below t,
     fn.statement.stmt.Reads.Post,
   )
 
   abbrev Of : (lts.Claims → In 4 lts.ps → Out 4 lts.ps lts.r → Type 0) → Type 0
-  Of N = N claims (inner-at t) Post
+  Of N = N claims (ranks.inner .at t) Post
 
   is-inside : (c : Of lts.After-get) → c .get .result ≡ 24 → c .before .before .before .before .before .args .at < length (c .before .before .before .before .before .args .words .now)
   is-inside c e = inside (c .before .before .before .before .before .args .words .now) (c .get .ensures) (λ z. omega (arith, z, e))
@@ -77,7 +77,7 @@ module _ (t : ℕ) where
   returns-2 : Of lts.Need-returns-2
   returns-2 c = done (at-end (c .before .before)) (λ x. refl) (λ x. refl)
 
-  pub spec : {M : Type 1} → lts.Closed claims (inner-at t) Post M
+  pub spec : {M : Type 1} → lts.Closed claims (ranks.inner .at t) Post M
   spec =
-      lts.spec claims (inner-at t) Post
+      lts.spec claims (ranks.inner .at t) Post
       (λ c κs. tt) add-list list-requires (λ c. search needs) returns (λ c κs. tt) stmt-requires (λ c. search needs) returns-2

@@ -12,7 +12,7 @@ use fn.StmtPrints.Equations.{label-print, label-then}
 use fn.StmtPrints.Room.{sooner}
 use fn.statement.+aexpr+block+braces+by_case+choose+cond+forall+inner+label+list-aexprs+list-branches+list-cases+list-list+list-stmts+looped+onward+stmt+var as cycle
 use cycle.Lts-label as lts
-use cycle.Proof.Ranks.{label-at, onward-below}
+use cycle.Proof.Ranks as ranks
 use fn.statement.label.Reads.{Post}
 
 module _ (t : ℕ) where
@@ -22,12 +22,12 @@ module _ (t : ℕ) where
     fn.items.name_head.Reads.Learnt,
     fn.around.is_loop.Reads.Asked,
     fn.around.is_loop.Reads.Learnt,
-    onward-below t,
+    ranks.onward .below t,
     fn.statement.onward.Reads.Post,
   )
 
   abbrev Of : (lts.Claims → In 4 lts.ps → Out 4 lts.ps lts.r → Type 0) → Type 0
-  Of N = N claims (label-at t) Post
+  Of N = N claims (ranks.label .at t) Post
 
   abbrev at-start : Of lts.Start → Place
   at-start c = ahead (seen (begin (aLabelled (c .args .text .now) (c .args .words .now) (c .args .counts .now) (c .args .step) (c .args .at) (c .args .indent)) (c .args .words .now) (c .args .at) (c .args .out .now) (c .args .pos)) _ (λ x. label-print (c .args .text .now) (c .args .step) (x .tree .0) (x .tree .1) (c .args .indent))) 1 _ (λ x. refl)
@@ -49,7 +49,7 @@ module _ (t : ℕ) where
   returns : Of lts.Need-returns
   returns c = done (at-end (c .before .before)) (λ x. refl) (λ x. refl)
 
-  pub spec : {M : Type 1} → lts.Closed claims (label-at t) Post M
+  pub spec : {M : Type 1} → lts.Closed claims (ranks.label .at t) Post M
   spec =
-      lts.spec claims (label-at t) Post
+      lts.spec claims (ranks.label .at t) Post
       (λ c. omega arith) (λ c. search needs) (λ c κs. tt) (λ c κs. tt) onward-requires (λ c. search needs) returns

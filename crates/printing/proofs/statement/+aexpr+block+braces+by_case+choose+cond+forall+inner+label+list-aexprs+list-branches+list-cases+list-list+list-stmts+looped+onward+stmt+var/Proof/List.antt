@@ -7,7 +7,7 @@ use Rattle.printing.proofs as fn
 use fn.StmtPrints.Forms.{by-count}
 use fn.statement.+aexpr+block+braces+by_case+choose+cond+forall+inner+label+list-aexprs+list-branches+list-cases+list-list+list-stmts+looped+onward+stmt+var as cycle
 use cycle.Lts-list-list as lts
-use cycle.Proof.Ranks.{list-at, stmts-below}
+use cycle.Proof.Ranks as ranks
 use fn.statement.list.list.Reads.{Post}
 
 module _ (t : ℕ) where
@@ -15,12 +15,12 @@ module _ (t : ℕ) where
   claims = (
     fn.around.count_at.Reads.Asked,
     fn.around.count_at.Reads.Learnt,
-    stmts-below t,
+    ranks.stmts .below t,
     fn.statement.list.stmts.Reads.Post,
   )
 
   abbrev Of : (lts.Claims → In 4 lts.ps → Out 4 lts.ps lts.r → Type 0) → Type 0
-  Of N = N claims (list-at t) Post
+  Of N = N claims (ranks.list .at t) Post
 
   stmts-requires : Of lts.Need-stmts-requires
   stmts-requires c κs = (omega (arith, c .before .before .before .before .before .before .pre .0), tt)
@@ -31,7 +31,7 @@ module _ (t : ℕ) where
       (c .before .before .before .before .before .before .before .before .before .args .at) (c .before .before .before .before .before .before .before .before .before .args .indent)
       (c .before .before .before .before .count-at .ensures) (c .before .before .stmts .ensures)
 
-  pub spec : {M : Type 1} → lts.Closed claims (list-at t) Post M
+  pub spec : {M : Type 1} → lts.Closed claims (ranks.list .at t) Post M
   spec =
-      lts.spec claims (list-at t) Post
+      lts.spec claims (ranks.list .at t) Post
       (λ c κs. tt) stmts-requires (λ c. search needs) returns

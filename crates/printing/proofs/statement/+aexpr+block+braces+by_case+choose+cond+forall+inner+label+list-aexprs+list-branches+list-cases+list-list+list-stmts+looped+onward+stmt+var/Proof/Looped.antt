@@ -18,7 +18,7 @@ use fn.StmtPrints.Marks.{aexprs-mark}
 use fn.StmtPrints.Room.{small, sooner, deeper-small}
 use fn.statement.+aexpr+block+braces+by_case+choose+cond+forall+inner+label+list-aexprs+list-branches+list-cases+list-list+list-stmts+looped+onward+stmt+var as cycle
 use cycle.Lts-looped as lts
-use cycle.Proof.Ranks.{looped-at, aexprs-below, block-below}
+use cycle.Proof.Ranks as ranks
 use fn.statement.looped.Reads.{Post}
 
 module _ (t : ℕ) where
@@ -32,16 +32,16 @@ module _ (t : ℕ) where
     fn.write.put_either.Reads.Learnt,
     layout.deeper.Reads.Asked,
     layout.deeper.Reads.Learnt,
-    aexprs-below t,
+    ranks.aexprs .below t,
     fn.statement.list.aexprs.Reads.Post,
     fn.write.put_indent_unless.Reads.Asked,
     fn.write.put_indent_unless.Reads.Learnt,
-    block-below t,
+    ranks.block .below t,
     fn.statement.block.Reads.Post,
   )
 
   abbrev Of : (lts.Claims → In 4 lts.ps → Out 4 lts.ps lts.r → Type 0) → Type 0
-  Of N = N claims (looped-at t) Post
+  Of N = N claims (ranks.looped .at t) Post
 
   abbrev at-start : Of lts.After-deeper → Place
   at-start c = ahead (text (text (seen (begin (aLoop
@@ -117,7 +117,7 @@ module _ (t : ℕ) where
     c .before .out6 .given,
   )
 
-  pub spec : {M : Type 1} → lts.Closed claims (looped-at t) Post M
+  pub spec : {M : Type 1} → lts.Closed claims (ranks.looped .at t) Post M
   spec =
-      lts.spec claims (looped-at t) Post
+      lts.spec claims (ranks.looped .at t) Post
       (λ c. omega arith) (λ c κs. tt) (λ c. search needs) (λ c κs. tt) (λ c. search needs) (λ c. search needs) (λ c κs. tt) (λ c. omega arith) (λ c. search needs) (λ c κs. tt) aexprs-requires (λ c κs. tt) block-requires (λ c. search needs) (λ c κs. tt) same-length returns

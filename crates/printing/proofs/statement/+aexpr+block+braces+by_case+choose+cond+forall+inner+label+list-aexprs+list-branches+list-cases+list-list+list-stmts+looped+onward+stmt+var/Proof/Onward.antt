@@ -11,22 +11,22 @@ use fn.StmtPrints.Equations.{onwardPrint, S}
 use fn.StmtPrints.Room.{less-indent}
 use fn.statement.+aexpr+block+braces+by_case+choose+cond+forall+inner+label+list-aexprs+list-branches+list-cases+list-list+list-stmts+looped+onward+stmt+var as cycle
 use cycle.Lts-onward as lts
-use cycle.Proof.Ranks.{onward-at, block-below, stmt-below}
+use cycle.Proof.Ranks as ranks
 use fn.statement.onward.Reads.{Post}
 
 module _ (t : ℕ) where
   abbrev claims : lts.Claims
   claims = (
-    stmt-below t,
+    ranks.stmt .below t,
     fn.statement.stmt.Reads.Post,
-    block-below t,
+    ranks.block .below t,
     fn.statement.block.Reads.Post,
     fn.write.put.Reads.Asked,
     fn.write.put.Reads.Learnt,
   )
 
   abbrev Of : (lts.Claims → In 4 lts.ps → Out 4 lts.ps lts.r → Type 0) → Type 0
-  Of N = N claims (onward-at t) Post
+  Of N = N claims (ranks.onward .at t) Post
 
   abbrev at-stay : Of lts.Then1 → Place
   at-stay c = seen (begin (anOnward (c .before .before .before .before .before .args .text .now) (c .before .before .before .before .before .args .words .now)
@@ -63,7 +63,7 @@ module _ (t : ℕ) where
   returns-2 : Of lts.Need-returns-2
   returns-2 c = done (at-end (c .before .before)) (λ x. refl) (λ x. refl)
 
-  pub spec : {M : Type 1} → lts.Closed claims (onward-at t) Post M
+  pub spec : {M : Type 1} → lts.Closed claims (ranks.onward .at t) Post M
   spec =
-      lts.spec claims (onward-at t) Post
+      lts.spec claims (ranks.onward .at t) Post
       stmt-requires (λ c. search needs) returns block-requires (λ c. search needs) (λ c κs. tt) (λ c. search needs) returns-2

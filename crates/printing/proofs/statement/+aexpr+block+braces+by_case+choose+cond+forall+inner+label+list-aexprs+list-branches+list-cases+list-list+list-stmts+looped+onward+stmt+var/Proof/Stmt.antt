@@ -13,7 +13,7 @@ use fn.PartPrints.Joins.{inside}
 use fn.StmtPrints.Forms.{is-variable, is-block, is-forall, is-choose, is-if, is-cases, is-loop, is-labelled, is-simple}
 use fn.statement.+aexpr+block+braces+by_case+choose+cond+forall+inner+label+list-aexprs+list-branches+list-cases+list-list+list-stmts+looped+onward+stmt+var as cycle
 use cycle.Lts-stmt as lts
-use cycle.Proof.Ranks.{stmt-at, looped-below, braces-below, by-case-below, choose-below, cond-below, forall-below, label-below, var-below}
+use cycle.Proof.Ranks as ranks
 use fn.statement.stmt.Reads.{Post}
 
 module _ (t : ℕ) where
@@ -21,28 +21,28 @@ module _ (t : ℕ) where
   claims = (
     get.Asked,
     get.Learnt,
-    var-below t,
+    ranks.var .below t,
     fn.statement.var.Reads.Post,
-    braces-below t,
+    ranks.braces .below t,
     fn.statement.braces.Reads.Post,
-    forall-below t,
+    ranks.forall .below t,
     fn.statement.forall.Reads.Post,
-    choose-below t,
+    ranks.choose .below t,
     fn.statement.choose.Reads.Post,
-    cond-below t,
+    ranks.cond .below t,
     fn.statement.cond.Reads.Post,
-    by-case-below t,
+    ranks.by-case .below t,
     fn.statement.by_case.Reads.Post,
-    looped-below t,
+    ranks.looped .below t,
     fn.statement.looped.Reads.Post,
-    label-below t,
+    ranks.label .below t,
     fn.statement.label.Reads.Post,
     fn.simple.simple.Reads.Asked,
     fn.simple.simple.Reads.Learnt,
   )
 
   abbrev Of : (lts.Claims → In 4 lts.ps → Out 4 lts.ps lts.r → Type 0) → Type 0
-  Of N = N claims (stmt-at t) Post
+  Of N = N claims (ranks.stmt .at t) Post
 
   is-inside : (c : Of lts.After-get) (k : ℕ) → c .get .result ≡ suc k → c .before .before .before .before .before .args .at < length (c .before .before .before .before .before .args .words .now)
   is-inside c k e = inside (c .before .before .before .before .before .args .words .now) (c .get .ensures) (λ z. omega (arith, z, e))
@@ -149,9 +149,9 @@ module _ (t : ℕ) where
       }) (c .before .before .simple .ensures
       (c .before .before .before .before .before .before .before .before .before .before .args .indent) (c .before .before .before .before .before .before .before .before .before .before .args .followed))
 
-  pub spec : {M : Type 1} → lts.Closed claims (stmt-at t) Post M
+  pub spec : {M : Type 1} → lts.Closed claims (ranks.stmt .at t) Post M
   spec =
-      lts.spec claims (stmt-at t) Post
+      lts.spec claims (ranks.stmt .at t) Post
       (λ c κs. tt) var-requires braces-requires forall-requires choose-requires cond-requires by-case-requires looped-requires label-requires (λ c κs. tt) (λ c. search needs) returns
       (λ c. search needs) returns-2 (λ c. search needs) returns-3 (λ c. search needs) returns-4 (λ c. search needs) returns-5 (λ c. search needs) returns-6 (λ c. search needs) returns-7
       (λ c. search needs) returns-8 (λ c. search needs) returns-9

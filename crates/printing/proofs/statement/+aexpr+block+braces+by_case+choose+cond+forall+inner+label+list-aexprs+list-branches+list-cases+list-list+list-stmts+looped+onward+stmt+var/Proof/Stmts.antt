@@ -21,7 +21,7 @@ use fn.StmtPrints.Marks.{stmtsOf, some-statements, last-is, others-left}
 use fn.StmtPrints.Room.{sooner}
 use fn.statement.+aexpr+block+braces+by_case+choose+cond+forall+inner+label+list-aexprs+list-branches+list-cases+list-list+list-stmts+looped+onward+stmt+var as cycle
 use cycle.Lts-list-stmts as lts
-use cycle.Proof.Ranks.{stmts-at, stmt-below, stmts-below}
+use cycle.Proof.Ranks as ranks
 use fn.statement.list.stmts.Reads.{Post}
 
 module _ (t : ℕ) where
@@ -33,16 +33,16 @@ module _ (t : ℕ) where
     get.Learnt,
     fn.write.put_indent.Reads.Asked,
     fn.write.put_indent.Reads.Learnt,
-    stmt-below t,
+    ranks.stmt .below t,
     fn.statement.stmt.Reads.Post,
     fn.around.fewer.Reads.Asked,
     fn.around.fewer.Reads.Learnt,
-    stmts-below t,
+    ranks.stmts .below t,
     fn.statement.list.stmts.Reads.Post,
   )
 
   abbrev Of : (lts.Claims → In 4 lts.ps → Out 4 lts.ps lts.r → Type 0) → Type 0
-  Of N = N claims (stmts-at t) Post
+  Of N = N claims (ranks.stmts .at t) Post
 
   abbrev list : Of lts.Start → Part
   list c = lastStatements (c .args .text .now) (c .args .words .now) (c .args .counts .now) (c .args .step) (c .args .at) (c .args .indent) (c .args .left)
@@ -99,7 +99,7 @@ module _ (t : ℕ) where
       (c .before .before .before .before .before .before .before .before .before .before .before .before .before .before .get .ensures)
       (c .before .before .before .before .before .before .before .before .before .before .before .before .before .if1 .left) (done (at-end (c .before .before)) (λ x. refl) (λ x. refl))
 
-  pub spec : {M : Type 1} → lts.Closed claims (stmts-at t) Post M
+  pub spec : {M : Type 1} → lts.Closed claims (ranks.stmts .at t) Post M
   spec =
-      lts.spec claims (stmts-at t) Post
+      lts.spec claims (ranks.stmts .at t) Post
       (λ c κs. tt) (λ c κs. tt) returns (λ c κs. tt) stmt-requires (λ c κs. tt) stmts-requires (λ c. search needs) returns-2

@@ -11,7 +11,7 @@ use fn.StmtPrints.Equations.{variable-print}
 use fn.StmtPrints.Room.{small, own-is, own-small, sooner}
 use fn.statement.+aexpr+block+braces+by_case+choose+cond+forall+inner+label+list-aexprs+list-branches+list-cases+list-list+list-stmts+looped+onward+stmt+var as cycle
 use cycle.Lts-var as lts
-use cycle.Proof.Ranks.{var-at, inner-below}
+use cycle.Proof.Ranks as ranks
 use fn.statement.var.Reads.{Post}
 
 module _ (t : ℕ) where
@@ -23,14 +23,14 @@ module _ (t : ℕ) where
     fn.around.open_own.Reads.Learnt,
     fn.around.variable.Reads.Asked,
     fn.around.variable.Reads.Learnt,
-    inner-below t,
+    ranks.inner .below t,
     fn.statement.inner.Reads.Post,
     fn.around.close_own.Reads.Asked,
     fn.around.close_own.Reads.Learnt,
   )
 
   abbrev Of : (lts.Claims → In 4 lts.ps → Out 4 lts.ps lts.r → Type 0) → Type 0
-  Of N = N claims (var-at t) Post
+  Of N = N claims (ranks.var .at t) Post
 
   abbrev at-start : Of lts.After-indent-inside → Place
   at-start c = seen (begin (aVariable (c .before .before .before .before .before .args .text .now) (c .before .before .before .before .before .args .words .now)
@@ -68,7 +68,7 @@ module _ (t : ℕ) where
   returns : Of lts.Need-returns
   returns c = done (at-end (c .before .before)) (λ x. refl) (λ x. refl)
 
-  pub spec : {M : Type 1} → lts.Closed claims (var-at t) Post M
+  pub spec : {M : Type 1} → lts.Closed claims (ranks.var .at t) Post M
   spec =
-      lts.spec claims (var-at t) Post
+      lts.spec claims (ranks.var .at t) Post
       (λ c κs. tt) (λ c κs. tt) (λ c. omega arith) (λ c κs. tt) inner-requires (λ c κs. tt) (λ c. search needs) returns
