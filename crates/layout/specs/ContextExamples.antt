@@ -5,10 +5,10 @@ use mathlib.Core.Bool.{true, false}
 use mathlib.Core.Option.{none}
 use mathlib.Core.List.{[], _∷_}
 use Rattle.lexing.specs.Bytes.{bytes}
-use Rattle.tree.specs.Ast.{binding, IfThenElse, Equiv, LogicalAnd, Plus, Times, LogicalNot, UnaryMinus}
+use Rattle.tree.specs.Ast.{binding, IfThenElse, Equiv, LogicalAnd, Plus, Minus, Times, LogicalNot, UnaryMinus}
 use Rattle.tree.specs.Ast.{Expr, BLiteral, ILiteral, CustomLiteral, IdExpr, OperatorExpr, FunctionCallExpr, LabeledExpr, LetExpr, QuantifierExpr, ClosureExpr}
-use Rattle.tree.specs.Ast.{noPatterns, noClosureBindings, noClosureProperties}
-use Rattle.layout.specs.Examples.{computed, line, lines, list, two, a, b, c}
+use Rattle.tree.specs.Ast.{noPatterns, pattern, noClosureBindings, closureBinding, noClosureProperties, closureProperty}
+use Rattle.layout.specs.Examples.{computed, line, lines, list, one, two, a, b, c}
 
 -- the weakest operator, which needs brackets in any context but the outermost
 abbrev equal : Expr String
@@ -21,6 +21,13 @@ both = two LogicalAnd a b
 abbrev if : Expr String → Expr String → Expr String → Expr String
 if d e f = OperatorExpr IfThenElse (list (d ∷ e ∷ f ∷ []))
 
+abbrev m : Expr String → Expr String
+m e = LabeledExpr "m" e
+
+-- a closure with the same expression in each of its places
+abbrev lift : Expr String → Expr String
+lift e = ClosureExpr (closureBinding "f" [] e noClosureBindings) "r" "t" (closureProperty (pattern (list (e ∷ [])) noPatterns) e noClosureProperties)
+
 -- ---- contexts: brackets around a part, or none
 
 -- the test and the first branch of a conditional stand alone; the other branch does on its right
@@ -29,7 +36,7 @@ unfolding computed
 conditional-parts = refl
 
 -- what takes all that follows it needs no brackets after a sign
-after-a-sign : line (OperatorExpr UnaryMinus (list (LabeledExpr "m" a ∷ []))) ≡ bytes "-m: a"
+after-a-sign : line (one UnaryMinus (m a)) ≡ bytes "-m: a"
 unfolding computed
 after-a-sign = refl
 
@@ -48,6 +55,36 @@ on-the-left : line (two Times (LetExpr "v" none a b) (two Times (QuantifierExpr 
 unfolding computed
 on-the-left = refl
 
+-- arguments, patterns, and all parts of a closure stand alone; a closure has no brackets anywhere
+alone-parts : (line (two Times (FunctionCallExpr "f" (list (equal ∷ []))) c) ≡ bytes "f(a <==> b) * c")
+    × (line (two Times c (QuantifierExpr true (binding "k" "int" ∷ []) (pattern (list (equal ∷ [])) noPatterns) a)) ≡ bytes "c * forall k: int pattern a <==> b a")
+    × (line (two Times (lift equal) (lift equal)) ≡ bytes "lift f := a <==> b into r: t by { trigger a <==> b :: a <==> b } * lift f := a <==> b into r: t by { trigger a <==> b :: a <==> b }")
+unfolding computed
+alone-parts = (refl, refl, refl)
+
+-- ---- contexts inside brackets: what stands outside them no longer counts
+
+inside-on-the-right : line (two Times (two Plus a (m b)) c) ≡ bytes "(a + m: b) * c"
+unfolding computed
+inside-on-the-right = refl
+
+inside-on-the-left : line (two Minus a (two Minus (two Minus b c) a)) ≡ bytes "a - (b - c - a)"
+unfolding computed
+inside-on-the-left = refl
+
+inside-a-label : line (two Times (m (m a)) c) ≡ bytes "(m: m: a) * c"
+unfolding computed
+inside-a-label = refl
+
+-- without brackets it does
+no-brackets-on-the-right : line (two Times (two Times a (m b)) c) ≡ bytes "a * (m: b) * c"
+unfolding computed
+no-brackets-on-the-right = refl
+
+no-brackets-after-a-sign : line (two Times (one UnaryMinus (m a)) c) ≡ bytes "-(m: a) * c"
+unfolding computed
+no-brackets-after-a-sign = refl
+
 -- ---- formats: a part on one line, or on broken lines
 
 -- a conditional's test stays on one line
@@ -55,7 +92,7 @@ broken-test : lines 0 (if both both both) ≡ bytes "if a && b\n   a &&\n   b\ne
 unfolding computed
 broken-test = refl
 
-broken-sign : lines 0 (OperatorExpr LogicalNot (list (both ∷ []))) ≡ bytes "!(a && b)"
+broken-sign : lines 0 (one LogicalNot both) ≡ bytes "!(a && b)"
 unfolding computed
 broken-sign = refl
 
@@ -72,6 +109,26 @@ broken-call : lines 0 (FunctionCallExpr "f" (list (both ∷ []))) ≡ bytes "f(a
 unfolding computed
 broken-call = refl
 
+-- a list of operands
+broken-list : lines 0 (one Plus both) ≡ bytes "+(a && b)"
+unfolding computed
+broken-list = refl
+
+-- a quantifier's patterns stay on one line each, its body is broken
+broken-body : lines 0 (QuantifierExpr true (binding "k" "int" ∷ []) (pattern (list (both ∷ [])) noPatterns) both)
+    ≡ bytes "forall k: int\n   pattern a && b\n   a &&\n   b"
+unfolding computed
+broken-body = refl
+
+broken-label : lines 0 (m both) ≡ bytes "m: a &&\nb"
+unfolding computed
+broken-label = refl
+
+-- all parts of a closure
+broken-closure : lines 0 (lift both) ≡ bytes "lift f := a && b into r: t by { trigger a && b :: a && b }"
+unfolding computed
+broken-closure = refl
+
 -- ---- after `else`
 
 -- any expression but a conditional has a line of its own
@@ -87,3 +144,8 @@ alone : Alone (BLiteral true) "if a\n   b\nelse\n   true"
     × Alone (ClosureExpr noClosureBindings "d" "t" noClosureProperties) "if a\n   b\nelse\n   lift  into d: t by {  }"
 unfolding computed
 alone = (refl, refl, refl, refl, refl, refl, refl)
+
+-- a conditional with another number of operands stays on the line too
+cascading-list : lines 0 (if a b (one IfThenElse c)) ≡ bytes "if a\n   b\nelse if-then-else(c)"
+unfolding computed
+cascading-list = refl

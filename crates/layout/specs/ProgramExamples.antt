@@ -9,7 +9,7 @@ use Rattle.lexing.specs.Bytes.{bytes}
 use Rattle.tree.specs.Ast.{In, InOut, Out, OperatorExpr, LogicalAnd, Exit, aExpr, AAssertion, Check, noAExprs, aExprs, noExprs}
 use Rattle.tree.specs.Ast.{Tagger, FParameter, FunctionDefinition, Function, Axiom, PParameter, Procedure as Proc, Program as Tree}
 use Rattle.layout.specs.Examples.{list as exprs}
-use Rattle.layout.specs.StatementExamples.{statements-computed, v, block}
+use Rattle.layout.specs.StatementExamples.{statements-computed, v, both, block}
 use Rattle.layout.specs.Program.{TypeDecl, TaggerDecl, whenClauses, FunctionDecl, AxiomDecl, Procedure, Program}
 
 -- `unfolding program-computed` opens the prints of programs too
@@ -23,16 +23,16 @@ type-decl = refl
 tagger-decl : TaggerDecl bytes (record { name = "a"; typ = "b" }) [] ≡ bytes "tagger a for b\n"
 tagger-decl = refl
 
--- two parameters, the second injective; a tag; two `when` clauses; the body on broken lines
+-- two parameters, the second injective; a tag; two `when` clauses, each on its line; the body on broken lines
 function-decl : FunctionDecl bytes 3
     (record {
       name = "a";
       parameters = record { name = "b"; injective = false; typ = "c" } ∷ record { name = "d"; injective = true; typ = "e" } ∷ [];
       resultType = "f";
       tag = some "g";
-      definition = some (record { when = exprs (v "h" ∷ v "i" ∷ []); body = OperatorExpr LogicalAnd (exprs (v "j" ∷ v "k" ∷ [])) });
+      definition = some (record { when = exprs (v "h" ∷ both ∷ []); body = OperatorExpr LogicalAnd (exprs (v "j" ∷ v "k" ∷ [])) });
     }) []
-    ≡ bytes "function a(b: c, injective d: e): f tag g\n   when h\n   when i\n{\n   j &&\n   k\n}\n"
+    ≡ bytes "function a(b: c, injective d: e): f tag g\n   when h\n   when a && b\n{\n   j &&\n   k\n}\n"
 unfolding program-computed
 function-decl = refl
 

@@ -6,10 +6,10 @@ use mathlib.Core.Bool.{true, false}
 use mathlib.Core.Option.{Option, none, some}
 use mathlib.Core.List.{List, [], _∷_}
 use Rattle.lexing.specs.Bytes.{bytes}
-use Rattle.tree.specs.Ast.{In, InOut, Out, Variable, CallArgument, Expr, IdExpr}
+use Rattle.tree.specs.Ast.{In, InOut, Out, Variable, CallArgument, Expr, IdExpr, LogicalAnd}
 use Rattle.tree.specs.Ast.{Stmt, VarDecl, Assign, Reinit, Block, Call, Check, Assume, Reach, Assert, AForall, Choose, If, IfCase, Loop, LabeledStmt, Exit, Return, Probe}
 use Rattle.tree.specs.Ast.{Stmts, noStmts, stmts, noCases, case, aExpr, AAssertion, noAExprs, aExprs}
-use Rattle.layout.specs.Examples.{computed}
+use Rattle.layout.specs.Examples.{computed, two}
 use Rattle.layout.specs.Statements.{separated, shown, StatementList, choices, caseList, aexpr, PrintAExprs, Statement}
 
 -- `unfolding statements-computed` opens the prints of statements too
@@ -33,6 +33,10 @@ list (s ∷ ss) = stmts s (list ss)
 
 abbrev pub block : List (Stmt String) → Stmt String
 block ss = Block (list ss)
+
+-- an operator that breaks the line on broken lines
+abbrev pub both : Expr String
+both = two LogicalAnd (v "a") (v "b")
 
 abbrev exit : String → Stmt String
 exit n = Exit (some n)
@@ -235,6 +239,21 @@ labelled-cases = refl
 labelled-other : Prints (LabeledStmt "a" (LabeledStmt "b" (exit "c"))) "    a: {\n       b: {\n          exit c\n       }\n    }\n"
 unfolding statements-computed
 labelled-other = refl
+
+-- expressions in statements stay on their line
+on-their-line : Prints
+    (block
+    (Assign "c" both
+    ∷ Check both
+    ∷ Call "p" (record { mode = Out; arg = both } ∷ [])
+    ∷ If both (block []) (block [])
+    ∷ IfCase (case both (block []) noCases)
+    ∷ Loop (aExprs (aExpr both) noAExprs) (block [])
+    ∷ VarDecl (record { name = "d"; isMutable = true; optionalType = none; optionalAutoInv = some both }) (some both) (block [])
+    ∷ []))
+    "    {\n       c := a && b\n       check a && b\n       p(out a && b)\n       if a && b {\n       }\n       if case a && b {\n       }\n       loop\n          invariant a && b\n       {\n       }\n       var d autoinv a && b := a && b\n    }\n"
+unfolding statements-computed
+on-their-line = refl
 
 -- by upstream's step
 two-spaces : Statement bytes 2 (block (block (exit "a" ∷ []) ∷ [])) 1 false false [] ≡ bytes " {\n   {\n     exit a\n   }\n }\n"

@@ -5,6 +5,7 @@ pub mod ReadBack
 pub mod ReadPrinted
 pub mod Claims
 mod Examples
+mod LimitExamples
 pub mod Trials
 -- print to derivation: the levels of the grammar, and the one table over two operators and a side
 pub mod Levels

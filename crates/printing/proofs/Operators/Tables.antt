@@ -1,15 +1,14 @@
 -- The operators of the words 0 to 16 and above, by their ranges.
-use Prim.Native.Nat.{ℕ, zero, suc, _+_, _/_, _%_, _≤_, _<_}
+use Prim.Native.Nat.{ℕ, zero, suc, _+_, _≤_, _<_}
 use native.Mathlib.Omega.{arith}
-use mathlib.Core.Path.{_≡_, refl, sym, ap, _∙_, subst}
+use mathlib.Core.Path.{_≡_, refl, sym, _∙_, subst}
 use mathlib.Core.Bool.{Bool, true, false}
-use mathlib.Core.List.{List, [], _∷_, _++_}
-use lib.ListN.{getD, List·getD-eq-default}
+use mathlib.Core.List.{List, _++_}
+use lib.ListN.{List·getD-eq-default}
 use lib.Dec.{leb, ltb}
 use borrow.Author.Tests.{leb-true, leb-false, le-ltb}
 use Rattle.lexing.specs.Bytes.{bytes}
 use Rattle.tree.specs.Ast.{Operator, IfThenElse, Equiv, LogicalImp, LogicalAnd, LogicalOr, Eq, Neq, Less, AtMost, Plus, Minus, Times, Div, Mod, LogicalNot, UnaryMinus, ArgumentCount}
-use Rattle.tree.specs.Resolve.{part}
 use Rattle.tree.specs.Words.{operatorWord}
 use Rattle.layout.specs.declared.power.TieBreaker.the-variants.{OperatorWins, ContextWins}
 use Rattle.printing.specs.OperatorWords.{operators, operatorOf}
@@ -50,12 +49,16 @@ each P first (suc n) h w a b = by-test (leb (suc first) w) refl (λ l m. each P 
     by-test true e r = r (leb-true (suc first) w e) (omega arith)
     by-test false e r = let l = leb-false (suc first) w e in let s : first ≡ w = omega arith in subst P s (h .0)
 
+-- what holds of UnaryMinus holds of every word from 16 on
+last-operator : (P : Operator → Type 0) (w : ℕ) → 16 ≤ w → P UnaryMinus → P (operatorOf w)
+last-operator P w h x = subst P (sym (List·getD-eq-default operators UnaryMinus h)) x
+
 -- what holds of the last two operators holds of every word from 15 on
 above : (P : Operator → Type 0) → P LogicalNot → P UnaryMinus → (w : ℕ) → 15 ≤ w → P (operatorOf w)
 above P x y w h = by-test (leb 16 w) refl
   where
     by-test : (t : Bool) → leb 16 w ≡ t → P (operatorOf w)
-    by-test true e = subst P (sym (List·getD-eq-default operators UnaryMinus (leb-true 16 w e))) y
+    by-test true e = last-operator P w (leb-true 16 w e) y
     by-test false e = let l = leb-false 16 w e in let s : 15 ≡ w = omega arith in subst (λ (k : ℕ). P (operatorOf k)) s x
 
 -- what holds of IfThenElse holds of the words 0 and 1
@@ -99,44 +102,14 @@ unary-strength w h = above (λ o. power 80 80 OperatorWins ≡ BindingStrength o
 
 -- ---- spellings
 
--- the code's constants
-abbrev pub spellings : List ℕ
-spellings =
-    0x01b ∷ 0x01b ∷ 0x0d3 ∷ 0x112 ∷ 0x141 ∷ 0x161 ∷ 0x181 ∷ 0x1a1 ∷ 0x1c0 ∷ 0x1d1 ∷ 0x1f0 ∷ 0x200 ∷ 0x210 ∷ 0x222 ∷ 0x252 ∷ 0x280 ∷ []
+-- an operator's spelling was written
+abbrev Spelt : Operator → List ℕ → ℕ → List ℕ → ℕ → Type 0
+Spelt o = Wrote (λ rest. bytes (ToString o) ++ rest)
 
--- the spellings, one after the other
-abbrev pub spellingRow : List ℕ
-spellingRow = bytes "-if-then-else<==>==>&&||==!=<<=+-*divmod!"
+-- IfThenElse's is that of the words 0 and 1
+pub spelt-first : (w : ℕ) {b : List ℕ} {p : ℕ} {b′ : List ℕ} {p′ : ℕ} → w < 2 → Spelt IfThenElse b p b′ p′ → Spelt (operatorOf w) b p b′ p′
+spelt-first w {b} {p} {b′} {p′} h x = first-operator (λ o. Spelt o b p b′ p′) w h x
 
--- an operator's spelling stands at its place of the row
-abbrev Spells : Operator → ℕ → Type 0
-Spells o place = part spellingRow (place / 16) (place % 16 + 1) ≡ bytes (ToString o)
-
--- what holds of the entries of two lists, one beside the other
-abbrev Beside : {A B : Type 0} → (A → B → Type 0) → List A → List B → Type 0
-Beside R [] [] = Unit {0}
-Beside R [] (y ∷ ys) = ⊥
-Beside R (x ∷ xs) [] = ⊥
-Beside R (x ∷ xs) (y ∷ ys) = R x y × Beside R xs ys
-
--- what holds of entries beside each other holds at every place
-beside : {A B : Type 0} (R : A → B → Type 0) (xs : List A) (ys : List B) (d : A) (e : B) → Beside R xs ys → R d e → (i : ℕ) → R (getD xs i d) (getD ys i e)
-beside R [] [] d e h r i = r
-beside R [] (y ∷ ys) d e h r i = absurd h
-beside R (x ∷ xs) [] d e h r i = absurd h
-beside R (x ∷ xs) (y ∷ ys) d e h r zero = h .0
-beside R (x ∷ xs) (y ∷ ys) d e h r (suc i) = beside R xs ys d e (h .1) r i
-
--- each place of the table is that of its operator's spelling
-each-spelling : (w : ℕ) → Spells (operatorOf w) (getD spellings w 0)
-unfolding part
-each-spelling =
-    beside Spells operators spellings UnaryMinus 0
-    (refl, (refl, (refl, (refl, (refl, (refl, (refl, (refl, (refl, (refl, (refl, (refl, (refl, (refl, (refl, (refl, tt)))))))))))))))) refl
-
--- what was written is the operator's spelling
-pub spelt : (w : ℕ) {place : ℕ} {x b : List ℕ} {p : ℕ} {b′ : List ℕ} {p′ : ℕ} → place ≡ getD spellings w 0 → x ≡ part spellingRow (place / 16) (place % 16 + 1)
-    → Wrote (λ rest. x ++ rest) b p b′ p′ → Wrote (λ rest. bytes (ToString (operatorOf w)) ++ rest) b p b′ p′
-spelt w {place} {x} {b} {p} {b′} {p′} e f v =
-    subst (λ (y : List ℕ). Wrote (λ rest. y ++ rest) b p b′ p′)
-    (f ∙ ap (λ (k : ℕ). part spellingRow (k / 16) (k % 16 + 1)) e ∙ each-spelling w) v
+-- UnaryMinus' is that of the words from 16 on
+pub spelt-last : (w : ℕ) {b : List ℕ} {p : ℕ} {b′ : List ℕ} {p′ : ℕ} → 16 ≤ w → Spelt UnaryMinus b p b′ p′ → Spelt (operatorOf w) b p b′ p′
+spelt-last w {b} {p} {b′} {p′} h x = last-operator (λ o. Spelt o b p b′ p′) w h x

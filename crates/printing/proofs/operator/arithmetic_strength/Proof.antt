@@ -6,24 +6,6 @@ use borrow.Author.Needs.{needs}
 use Rattle.printing.proofs.operator.arithmetic_strength.Statement.{statement}
 use Rattle.printing.proofs.operator.arithmetic_strength.Tie as tie
 
-new-requires : tie.Need-new-requires
-new-requires c κs = search needs
-
-new-requires-2 : tie.Need-new-requires-2
-new-requires-2 c κs = search needs
-
-new-requires-3 : tie.Need-new-requires-3
-new-requires-3 c κs = search needs
-
-new-requires-4 : tie.Need-new-requires-4
-new-requires-4 c κs = search needs
-
-new-requires-5 : tie.Need-new-requires-5
-new-requires-5 c κs = search needs
-
-new-requires-6 : tie.Need-new-requires-6
-new-requires-6 c κs = search needs
-
 returns : tie.Need-returns
 returns c = rw (c .before .match .keys1) (c .new .ensures)
 
@@ -46,12 +28,12 @@ pub arithmetic-strength-spec : {M : Type 1} → statement M
 arithmetic-strength-spec =
     tie.close
     (tie.spec
-    new-requires
-    new-requires-2
-    new-requires-3
-    new-requires-4
-    new-requires-5
-    new-requires-6
+    (λ c κs. search needs)
+    (λ c κs. search needs)
+    (λ c κs. search needs)
+    (λ c κs. search needs)
+    (λ c κs. search needs)
+    (λ c κs. search needs)
     returns
     returns-2
     returns-3
