@@ -21,6 +21,7 @@ use Rattle.grammar.specs.Steps.{Reader, after, _or_, mapped, T, Sym, keywordAt,
 use Rattle.grammar.specs.Rules.{opensAt, opensExpr, parseExpr, parseEquivExpr, parsePrimaryExpr, parseAtomicExpr, afterName, afterOld}
 use Rattle.parsing.specs.Arena.{Holds, Builds}
 use Rattle.parsing.specs.Code.{Took, Worded, Alone, span, inner, turns, customExpr, literalExpr, constantExpr, parenExpr}
+use Rattle.parsing.specs.Leads.{Spelt, Passes}
 use Rattle.grammar.specs.Reading.{treeWords}
 use Rattle.tree.specs.Clash.{impossible}
 use Rattle.grammar.specs.Proofs.Bridge.Tests.{Stands, word, digits, other, nowhere, stands}
@@ -115,6 +116,10 @@ module _ (text : List ℕ) (at : ℕ) where
       empty (suc i) (passed k) e = impossible (cc)
       empty (suc i) (unclosed k) e = impossible (cc)
 
+  pub no-name : identifierLength (drop at text) ≡ 0 → parseName text at ≡ Answer.none
+  unfolding after parseId
+  no-name e = rw e refl
+
   -- where one stands, its first byte is no digit, and not `|`
   module _ (some : 0 < identifierLength (drop at text)) where
     no-natural : parseNat text at ≡ Answer.none
@@ -145,7 +150,7 @@ module _ (text : List ℕ) (at : ℕ) where
     abbrev pub Stops : {A : Type 0} → Answer A → Type 0
     Stops r = (r ≡ Answer.none) ⊎ (r ≡ refused number place)
 
-    blanks-refused : moved at (lexeme 0 (identifierLength (drop at text)) (drop at text)) ≡ refused number place
+    pub blanks-refused : moved at (lexeme 0 (identifierLength (drop at text)) (drop at text)) ≡ refused number place
     unfolding after parseId lexeme
     blanks-refused = alike (identifierLength (drop at text)) (W (drop (identifierLength (drop at text)) (drop at text))) e
       where
@@ -210,6 +215,14 @@ some-length (suc i) r p = omega arith
 
 keyword-by : (w s : List ℕ) {n k : ℕ} → parseId s ≡ ok n k → take n s ≡ w → n ≡ length w → keyword w s ≡ ok 0 k
 keyword-by w s p b l = parseId-keyword w s (rw l at p) (rw l at b)
+
+-- a word by its length, and its blanks that were passed
+pub spelt-filled : {text : List ℕ} {at len : ℕ} → Spelt text at len → (len ≡ 0 → ⊥) → 0 < identifierLength (drop at text)
+spelt-filled s f = omega (arith, s .measured)
+
+pub passed-word : {text : List ℕ} {at len v next : ℕ} {r : Lexed} → r ≡ LexedOk v next → Passes text at len r
+    → Worded text (record { at = at; len = len; next = next })
+passed-word e p = rw e at p
 
 -- a name that `name` read
 pub name-worded : {text : List ℕ} {at n next : ℕ} → Took (span at) text at 1 (parseName text at) n next

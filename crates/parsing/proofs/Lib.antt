@@ -11,10 +11,11 @@ pub mod Closures
 pub mod Identifiers
 pub mod Reached
 pub mod Spared
+pub mod WordTables
 pub mod WordPlaces
 pub mod Repetitions
-pub mod StatementRules
 pub mod StatementBranches
+pub mod StatementRules
 pub mod StatementEquations
 pub mod SimpleStatements
 pub mod ChainPlaces

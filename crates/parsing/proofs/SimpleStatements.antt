@@ -1,33 +1,41 @@
 -- Statements that hold no statement, "stmt" where no level is left, and the tokens that tell them.
 use Prim.Native.Nat.{ℕ, _+_, _≤_}
 use Prim.Native.String.{String}
+use native.Mathlib.Nat.{le-refl}
 use native.Mathlib.Omega.{arith}
-use mathlib.Core.Path.{_≡_, refl, sym, ap, _∙_}
+use mathlib.Core.Path.{_≡_, refl, sym, ap, subst, _∙_}
 use mathlib.Core.Bool.{Bool, true, false, _||_}
-use mathlib.Core.List.{List, [], _∷_}
+use mathlib.Core.List.{List, [], _∷_, _++_}
 use mathlib.Core.Logic.{inl, inr}
 use mathlib.Core.Option.{Option, none, some}
-use lib.ListN.{length, drop, take}
-use types.Run.{OneOf}
+use lib.ListN.{length, take, drop}
+use types.Run.{OneOf, miss}
 use denote.Enum.Declared.{tagOf}
-use Rattle.lexing.specs.Answer.{Answer, ok, refused}
+use Rattle.lexing.specs.Answer.{Answer, ok, refused, pick, moved}
 use Rattle.lexing.specs.Bytes.{sameBytes, canStartIdentifierChar, bytes}
+use Rattle.lexing.specs.BlankLaws.{W-closed}
+use Rattle.lexing.specs.Tokens.{closed, lexeme, identifierLength}
 use Rattle.lexing.specs.declared.token.Lexed.{Lexed}
 use Rattle.lexing.specs.declared.token.Lexed.the-variants.{Ok as LexedOk, None as LexedNone, Refused as LexedRefused}
 use Rattle.lexing.proofs.token.Lexed.{the-type as lexed-type}
 use Rattle.tree.specs.Ast.{Span, Expr, Stmt, Exit}
-use Rattle.tree.specs.Clash.{impossible}
-use Rattle.grammar.specs.Steps.{after, must, mapped, _or_, Sym, keywordAt, parseName}
-use Rattle.grammar.specs.Statements.{gallery, atomic, mark, wordOf, tooDeep, statementWords, parseOptionalExitArgument}
+use Rattle.grammar.specs.Steps.{after, must, mapped, _or_, Sym, parseName}
+use Rattle.grammar.specs.Statements.{gallery, atomic, mark, wordOf, tooDeep, simpleWords, statementWords, parseOptionalExitArgument}
 use Rattle.parsing.specs.Arena.{Stopped}
 use Rattle.parsing.specs.Code.{Tells, Worded, span, inner, opened}
-use Rattle.parsing.specs.Statements.{deepAt, Marked, anyWord, optionalExpr, exitStmt}
+use Rattle.parsing.specs.Leads.{Spelt, leads, leadOf}
+use Rattle.parsing.specs.Statements.{deepAt, Marked, optionalExpr, exitStmt}
+use Rattle.parsing.specs.declared.lead.Lead.{Lead}
+use Rattle.parsing.specs.declared.lead.Lead.the-variants.{Name}
 use Rattle.parsing.specs.declared.step.Word.{Word}
 use Rattle.parsing.specs.declared.arena.Built.{Built}
+use Rattle.parsing.proofs.lead.Lead.{the-type as lead-type}
 use Rattle.parsing.proofs.Laws.{after-ok, after-none, after-refused}
-use Rattle.parsing.proofs.Identifiers.{Stops, no-identifier, refused-some, word-stops, identifier-some, word-stands, word-absent}
+use Rattle.parsing.proofs.Identifiers.{no-name, spelt-filled}
 use Rattle.parsing.proofs.Mapping.{must-mapped, opened-expr}
-use Rattle.parsing.proofs.StatementRules.{no-sign, no-keyword, or-none, none-or, atomic-named, atomic-none, atomic-refused}
+use Rattle.parsing.proofs.WordTables.{found, orElse, classed-found, none-found, anyWord, any-found, any-listed, here, blanks, words-tested}
+use Rattle.parsing.proofs.StatementBranches.{leadLeast}
+use Rattle.parsing.proofs.StatementRules.{no-sign, or-none, none-or, atomic-named, atomic-none, atomic-refused}
 
 -- ---- tokens
 
@@ -133,147 +141,78 @@ deep-rule : (text : List ℕ) (at : ℕ)
 unfolding gallery
 deep-rule text at = refl
 
--- no word of a list where no identifier stands
-no-words : (text : List ℕ) (at : ℕ) → parseName text at ≡ Answer.none → wordOf text statementWords at ≡ Answer.none
-unfolding wordOf
-no-words text at e =
-    let n : (b : ℕ) (v : List ℕ) → keywordAt text (b ∷ v) at ≡ Answer.none = λ b v. no-keyword text at b v (no-identifier text at e) in
-    or-none _ (n 118 _)
-    ∙ or-none _ (n 118 _)
-    ∙ or-none _ (n 102 _)
-    ∙ or-none _ (n 99 _)
-    ∙ or-none _ (n 105 _)
-    ∙ or-none _ (n 108 _)
-    ∙ or-none _ (n 114 _)
-    ∙ or-none _ (n 101 _)
-    ∙ or-none _ (n 114 _)
-    ∙ or-none _ (n 99 _)
-    ∙ or-none _ (n 97 _)
-    ∙ or-none _ (n 114 _)
-    ∙ or-none _ (n 97 _)
-    ∙ or-none _ (n 112 _)
-
--- so only a brace can stand there
-pub deep-wordless : (text : List ℕ) (at : ℕ) → parseName text at ≡ Answer.none → opened text 0 .stmt at ≡ tooDeep text at (Sym text "{" at)
+-- only a brace can stand where no identifier does
+pub deep-wordless : (text : List ℕ) (at : ℕ) → identifierLength (drop at text) ≡ 0 → opened text 0 .stmt at ≡ tooDeep text at (Sym text "{" at)
+unfolding sameBytes
 deep-wordless text at e =
+    let h : here text at ≡ [] = rw e refl in
+    let n : wordOf text statementWords at ≡ Answer.none = words-tested text at statementWords ∙ ap (λ b. pick (anyWord statementWords b) (blanks text at) Answer.none) h in
     deep-rule text at
-    ∙ none-or _ (or-none _ (after-none _ _ (no-words text at e)) ∙ after-none _ _ (atomic-none text (mark text) at e))
+    ∙ none-or _ (or-none _ (after-none _ _ n) ∙ after-none _ _ (atomic-none text (mark text) at (no-name text at e)))
 
--- where the word's blanks are refused
-module _ (text : List ℕ) (at : ℕ) {number place : ℕ} (e : parseName text at ≡ refused number place) where
-  abbrev Stop : Answer ℕ → Type 0
-  Stop r = Stops text at e r
+-- one of the words of statements is one of the leads
+any-append : (ws vs : List String) (b : List ℕ) → anyWord (ws ++ vs) b ≡ (anyWord ws b || anyWord vs b)
+any-append [] vs b = refl
+any-append (w ∷ ws) vs b = by-test (sameBytes b (bytes w)) (any-append ws vs b)
+  where
+    by-test : (t : Bool) → anyWord (ws ++ vs) b ≡ (anyWord ws b || anyWord vs b) → (t || anyWord (ws ++ vs) b) ≡ ((t || anyWord ws b) || anyWord vs b)
+    by-test true i = refl
+    by-test false i = i
 
-  choice-stops : (r q : Answer ℕ) → Stop r → Stop q → Stop (r or q)
-  choice-stops r q (inl n) (inl h) = inl (after-none _ _ n ∙ h)
-  choice-stops r q (inl n) (inr h) = inr (after-none _ _ n ∙ h)
-  choice-stops r q (inr n) h = inr (after-refused _ _ n)
+or-swap : (x y : Bool) → (x || y) ≡ (y || x)
+or-swap true true = refl
+or-swap true false = refl
+or-swap false true = refl
+or-swap false false = refl
 
-  words-stop : (ws : List String) → Stop (wordOf text ws at)
-  unfolding wordOf
-  words-stop [] = inl refl
-  words-stop (v ∷ vs) = choice-stops _ _ (word-stops text at e (bytes v)) (words-stop vs)
+statement-words : (b : List ℕ) → anyWord statementWords b ≡ any-found (found leads b)
+statement-words b =
+    let later : List String = "forall" ∷ "choose" ∷ "if" ∷ "loop" ∷ [] in
+    ap (λ t. sameBytes b (bytes "var") || (sameBytes b (bytes "val") || t))
+    (any-append later simpleWords b ∙ or-swap (anyWord later b) (anyWord simpleWords b) ∙ sym (any-append simpleWords later b))
+    ∙ any-listed leads b
 
-  deep-or : (r : Answer ℕ) → Stop r → _≡_ {A = Answer (Stmt Span)} (tooDeep text at r or tooDeep text at (atomic text (mark text) at)) (refused number place)
-  deep-or r (inl n) = or-none _ (after-none _ _ n) ∙ after-refused _ _ (atomic-refused text (mark text) at e)
-  deep-or r (inr n) = after-refused _ _ (after-refused _ _ n)
+-- where an identifier stands, by its lead
+abbrev IsWord : Lead → Type 0
+IsWord k = OneOf (0 ∷ 1 ∷ 2 ∷ 3 ∷ 4 ∷ 5 ∷ 6 ∷ []) (tagOf lead-type k)
 
-  pub deep-refused : opened text 0 .stmt at ≡ refused number place
+module _ {text : List ℕ} {at len : ℕ} (s : Spelt text at len) (f : len ≡ 0 → ⊥) {k : Lead} (e : k ≡ leadOf (take len (drop at text))) where
+  said : k ≡ orElse Name (found leads (here text at))
+  unfolding leadOf
+  said = e ∙ ap (λ n. leadOf (take n (drop at text))) (sym (s .measured)) ∙ classed-found leads Name (here text at)
+
+  no-brace : _≡_ {A = Answer (Stmt Span)} (tooDeep text at (Sym text "{" at)) Answer.none
   unfolding canStartIdentifierChar
-  deep-refused =
+  no-brace = after-none _ _ (no-sign text at 123 refl (spelt-filled s f))
+
+  deep-words : (b : Bool) → any-found (found leads (here text at)) ≡ b
+      → opened text 0 .stmt at ≡ (tooDeep text at (pick b (blanks text at) Answer.none) or tooDeep text at (atomic text (mark text) at))
+  deep-words b h =
       deep-rule text at
-      ∙ or-none _ (after-none _ _ (no-sign text at 123 refl (refused-some text at e)))
-      ∙ deep-or (wordOf text statementWords at) (words-stop statementWords)
-
--- where a word stands: whether it is one of a list, and so what is refused
-module _ {text : List ℕ} {w : Word} (d : Worded text w) where
-  abbrev here : List ℕ
-  here = take (w .len) (drop (w .at) text)
-
-  word-found : (ws : List String) → anyWord ws here ≡ true → wordOf text ws (w .at) ≡ ok 0 (w .next)
-  unfolding wordOf
-  word-found [] h = impossible (cc)
-  word-found (v ∷ vs) h = by-test (sameBytes here (bytes v)) refl h (word-found vs)
-    where
-      by-test : (b : Bool) → sameBytes here (bytes v) ≡ b → (b || anyWord vs here) ≡ true → (anyWord vs here ≡ true → wordOf text vs (w .at) ≡ ok 0 (w .next))
-          → (keywordAt text (bytes v) (w .at) or wordOf text vs (w .at)) ≡ ok 0 (w .next)
-      by-test true e h more = after-ok _ _ (word-stands d (bytes v) (sym e) refl)
-      by-test false e h more = after-none _ _ (word-absent d (bytes v) (sym e) refl) ∙ more h
-
-  word-missed : (ws : List String) → anyWord ws here ≡ false → wordOf text ws (w .at) ≡ Answer.none
-  unfolding wordOf
-  word-missed [] h = refl
-  word-missed (v ∷ vs) h = by-test (sameBytes here (bytes v)) refl h (word-missed vs)
-    where
-      by-test : (b : Bool) → sameBytes here (bytes v) ≡ b → (b || anyWord vs here) ≡ false → (anyWord vs here ≡ false → wordOf text vs (w .at) ≡ Answer.none)
-          → (keywordAt text (bytes v) (w .at) or wordOf text vs (w .at)) ≡ Answer.none
-      by-test true e h more = impossible (cc)
-      by-test false e h more = after-none _ _ (word-absent d (bytes v) (sym e) refl) ∙ more h
-
-  no-brace : _≡_ {A = Answer (Stmt Span)} (tooDeep text (w .at) (Sym text "{" (w .at))) Answer.none
-  unfolding canStartIdentifierChar
-  no-brace = after-none _ _ (no-sign text (w .at) 123 refl (identifier-some d))
-
-  pub deep-word : {r : Bool} → r ≡ anyWord statementWords here → r ≡ true → opened text 0 .stmt (w .at) ≡ refused 3 (w .at)
-  deep-word e h = deep-rule text (w .at) ∙ or-none _ no-brace ∙ after-refused _ _ (after-ok _ _ (word-found statementWords (sym e ∙ h)))
-
-  pub deep-named : {r : Bool} → r ≡ anyWord statementWords here → r ≡ false → opened text 0 .stmt (w .at) ≡ tooDeep text (w .at) (mark text (w .next))
-  deep-named e h =
-      deep-rule text (w .at)
       ∙ or-none _ no-brace
-      ∙ or-none _ (after-none _ _ (word-missed statementWords (sym e ∙ h)))
-      ∙ atomic-named text (mark text) (w .at) _ (d .said)
+      ∙ ap (λ r. tooDeep text at r or tooDeep text at (atomic text (mark text) at))
+      (words-tested text at statementWords ∙ ap (λ t. pick t (blanks text at) Answer.none) (statement-words (here text at) ∙ h))
 
--- ---- tests, one after another
+  -- a word; its blanks play no part, as they are never refused
+  pub deep-lead : IsWord k → opened text 0 .stmt at ≡ refused 3 at
+  unfolding lexeme
+  deep-lead w =
+      deep-words true (by-entry (found leads (here text at)) said)
+      ∙ after-refused _ _ (after-ok _ _ (ap (λ r. moved at (closed 0 (identifierLength (drop at text)) r)) (W-closed (drop (identifierLength (drop at text)) (drop at text)))))
+    where
+      by-entry : (o : Option Lead) → k ≡ orElse Name o → any-found o ≡ true
+      by-entry none h = absurd (miss (0 ∷ 1 ∷ 2 ∷ 3 ∷ 4 ∷ 5 ∷ 6 ∷ []) 7 tt (subst IsWord h w))
+      by-entry (some k) h = refl
 
--- a test that holds, one that fails before others; two as one, and none after one
-pub test-here : {x r : Bool} (q : Bool) → r ≡ x → r ≡ true → true ≡ (x || q)
-test-here q e h = rw (sym e ∙ h) refl
+  -- a name
+  module _ (h : k ≡ Name) where
+    deep-name : opened text 0 .stmt at ≡ tooDeep text at (atomic text (mark text) at)
+    deep-name =
+        deep-words false (ap any-found (none-found leadLeast leads Name (here text at) refl (le-refl 1) (sym h ∙ said ∙ sym (classed-found leads Name (here text at)))))
+        ∙ or-none _ (after-none _ _ refl)
 
-pub test-next : {x r q t : Bool} → r ≡ x → r ≡ false → t ≡ q → t ≡ (x || q)
-test-next e h n = rw (sym e ∙ h) n
+    pub deep-named : {n : Span} {next : ℕ} → parseName text at ≡ ok n next → opened text 0 .stmt at ≡ tooDeep text at (mark text next)
+    deep-named d = deep-name ∙ atomic-named text (mark text) at _ d
 
-either-first : (x y q : Bool) → (x || (y || q)) ≡ ((x || y) || q)
-either-first true y q = refl
-either-first false y q = refl
-
-or-false : (x : Bool) → x ≡ (x || false)
-or-false true = refl
-or-false false = refl
-
--- the words of a list that the bytes are no other of than the rest's
-pub record Tests : Type 0 where
-  pub whole : List String
-  pub bytes-here : List ℕ
-  pub rest : List String
-  pub says : anyWord whole bytes-here ≡ anyWord rest bytes-here
-
-abbrev pub no-test : List String → List ℕ → Tests
-no-test ws b = record { whole = ws; bytes-here = b; rest = ws; says = refl }
-
-module _ (p : Tests) where
-  abbrev pub Either : String → String → Bool
-  Either v u = sameBytes (p .bytes-here) (bytes v) || sameBytes (p .bytes-here) (bytes u)
-
-  pub rest-is : (v u : String) (vs : List String) → p .rest ≡ v ∷ u ∷ vs → anyWord (p .whole) (p .bytes-here) ≡ (Either v u || anyWord vs (p .bytes-here))
-  rest-is v u vs o =
-      p .says
-      ∙ ap (λ ws. anyWord ws (p .bytes-here)) o
-      ∙ either-first (sameBytes (p .bytes-here) (bytes v)) (sameBytes (p .bytes-here) (bytes u)) (anyWord vs (p .bytes-here))
-
-  -- they are none of the next two, one of them, or the two are the last
-  module _ {v u : String} {vs : List String} {r : Bool} (o : p .rest ≡ v ∷ u ∷ vs) (e : r ≡ Either v u) where
-    abbrev pub neither : r ≡ false → Tests
-    neither h =
-        record {
-          whole = p .whole;
-          bytes-here = p .bytes-here;
-          rest = vs;
-          says = rest-is v u vs o ∙ ap (λ x. x || anyWord vs (p .bytes-here)) (sym e ∙ h);
-        }
-
-    pub one-of-two : r ≡ true → true ≡ anyWord (p .whole) (p .bytes-here)
-    one-of-two h = sym (rest-is v u vs o ∙ ap (λ x. x || anyWord vs (p .bytes-here)) (sym e ∙ h))
-
-  pub last-two : {v u : String} {r : Bool} → p .rest ≡ v ∷ u ∷ [] → r ≡ Either v u → r ≡ anyWord (p .whole) (p .bytes-here)
-  last-two {v} {u} o e = e ∙ or-false (Either v u) ∙ sym (rest-is v u [] o)
+    pub deep-refused : {number place : ℕ} → parseName text at ≡ refused number place → opened text 0 .stmt at ≡ refused number place
+    deep-refused d = deep-name ∙ after-refused _ _ (atomic-refused text (mark text) at d)

@@ -10,14 +10,13 @@ use lib.ListN.{length}
 use lib.Dec.{leb}
 use borrow.Author.Tests.{leb-true}
 use Rattle.lexing.specs.Answer.{Answer, ok}
-use Rattle.grammar.specs.Steps.{after, _or_}
+use Rattle.grammar.specs.Steps.{after}
 use Rattle.parsing.specs.Arena.{Run, Found, Builds}
 use Rattle.parsing.specs.Code.{Took, Four}
 use Rattle.parsing.specs.Statements.{Leaves}
 use Rattle.parsing.specs.declared.arena.Built.{Built}
 use Rattle.parsing.specs.declared.arena.Built.the-variants.{Ok, None, Refused}
 use Rattle.parsing.proofs.Laws.{kept-refl, kept-next, after-ok, after-none, after-refused, found, builds-node, builds-from}
-use Rattle.parsing.proofs.Branches.{Keeps, branch, no-branch}
 use Rattle.parsing.proofs.Reached.{Reached, Stand, Standing, Advance, words-advance, four-standing, step, with-node, skipped}
 
 -- the four words that a rule leaves, given away
@@ -59,20 +58,11 @@ module _ {A : Type 0} (p : Reached A) where
   abbrev pub resaid : (rest₁ : Answer A) → p .rest ≡ rest₁ → Reached A
   resaid rest₁ e = skipped p rest₁ e kept-refl
 
-  -- a rule that kept nothing, and a first token that is not there
+  -- a rule that kept nothing
   abbrev pub passed : {B : Type 0} {words : B → Run} {later : List ℕ} {at₁ least credit : ℕ} {answer : Answer B} {r : Built} (stop : Answer A)
       (go : B → ℕ → Answer A) → p .rest ≡ after answer stop go → r ≡ None → Builds words (p .text) (p .arena) later at₁ (p .top) least credit answer r
       → Reached A
   passed stop go e o b = skipped p stop (e ∙ after-none stop go (none-of o b)) (b .kept)
-
-  abbrev pub left-out : {B : Type 0} {s : Answer B} (go : B → ℕ → Answer A) (q : Answer A) → p .rest ≡ (after s Answer.none go or q) → s ≡ Answer.none → Reached A
-  left-out go q e s = skipped p q (e ∙ no-branch go q s) kept-refl
-
-  -- the branch whose first token, of `least` bytes, stands
-  abbrev pub entered : {B : Type 0} {s : Answer B} {b : B} {next : ℕ} (go : B → ℕ → Answer A) (q : Answer A) (least : ℕ) → p .rest ≡ (after s Answer.none go or q)
-      → s ≡ ok b next → Keeps (go b next) → p .at + least ≤ next → next ≤ length (p .text) → Reached A
-  entered {b = b} {next} go q least e s k l i =
-      step p (p .arena) least next (p .top) (p .spare + 8 * least) (go b next) (e ∙ branch go q s k) kept-refl (go-on least l i)
 
   -- the nodes of `four` over runs that stand
   abbrev pub four-over : {later : List ℕ} {a b c d : ℕ} {f g h i : Run} → Four (p .arena) later (p .top) a b c d → Standing (p .arena) (p .top) a f
@@ -110,11 +100,6 @@ module _ {A : Type 0} (p : Reached A) where
       → Builds words (p .text) (p .first) later from (p .free) least credit (p .answer) (Refused number place)
   passes-on stop go e o b =
       record { kept = kept-next (p .above) (p .kept) (b .kept); agrees = p .says ∙ e ∙ after-refused stop go (rw o at (b .agrees)) }
-
-  -- with nothing kept
-  pub keeps-none : {words : A → Run} {from least credit : ℕ} → p .rest ≡ Answer.none
-      → Builds words (p .text) (p .first) (p .arena) from (p .free) least credit (p .answer) None
-  keeps-none e = record { kept = p .kept; agrees = p .says ∙ e }
 
   -- with the last node that was made, and four words left
   pub spared : {words : A → Run} {n : ℕ} {ns : List (ℕ × Run)} {r : Built} {v : A} → p .rest ≡ ok v (p .at) → p .made ≡ (n, words v) ∷ ns

@@ -1,5 +1,5 @@
 -- The branches of a statement that begin with a word: each keeps something, and a variable declaration has a blank after its word.
-use Prim.Native.Nat.{ℕ, zero, suc, _+_, _-_, _<_}
+use Prim.Native.Nat.{ℕ, zero, suc, _+_, _-_, _≤_, _<_}
 use native.Mathlib.Omega.{arith}
 use mathlib.Core.Path.{_≡_, refl, sym, ap, _∙_}
 use mathlib.Core.Bool.{Bool, true, false}
@@ -8,7 +8,7 @@ use lib.ListN.{drop, getD}
 use lib.Seq.{getD-drop}
 use Rattle.lexing.specs.Answer.{Answer, ok, refused}
 use Rattle.lexing.specs.Bytes.{canStartIdentifierChar, identifierChar}
-use Rattle.lexing.specs.Tokens.{identifierLength, parseId}
+use Rattle.lexing.specs.Tokens.{identifierLength}
 use Rattle.lexing.specs.TokenLaws.{identifier-starts, identifier-maximal}
 use Rattle.tree.specs.Ast.{Span, Stmt}
 use Rattle.tree.specs.Words.{stmtWords}
@@ -17,13 +17,18 @@ use Rattle.grammar.specs.Statements.{Gallery, parseVariableDeclaration, afterFo
 use Rattle.tree.specs.Clash.{impossible}
 use Rattle.parsing.specs.Arena.{Agrees, Builds}
 use Rattle.parsing.specs.Code.{Worded, same}
+use Rattle.parsing.specs.Leads.{loopBody, simpleRule, leadRule}
 use Rattle.parsing.specs.Statements.{Leaves}
+use Rattle.parsing.specs.declared.lead.Lead.{Lead}
+use Rattle.parsing.specs.declared.lead.Lead.the-variants as lead
+use Rattle.parsing.specs.declared.lead.Simple.{Simple}
+use Rattle.parsing.specs.declared.lead.Simple.the-variants as simple
 use Rattle.parsing.specs.declared.step.Word.{Word}
 use Rattle.parsing.specs.declared.arena.Built.{Built}
 use Rattle.parsing.specs.declared.arena.Built.the-variants.{Ok, None, Refused}
 use Rattle.parsing.proofs.Laws.{after-none, after-refused}
 use Rattle.parsing.proofs.Branches.{Keeps, needed-keeps}
-use Rattle.parsing.proofs.Identifiers.{identifier-some, identifier-is}
+use Rattle.parsing.proofs.Identifiers.{no-name, identifier-some, identifier-is}
 
 -- ---- what keeps something
 
@@ -49,13 +54,45 @@ module _ (text : List ℕ) (m : ℕ) (c : Gallery) (at : ℕ) where
   unfolding afterChoose
   choose-keeps = needed-keeps _ _ _ (λ s at₁. needed-keeps _ _ _ (λ ss at₂. ok-keeps _ _))
 
+-- what follows each word of a statement; a name may be followed by nothing
+pub loop-keeps : (text : List ℕ) (depth start at : ℕ) → Keeps (loopBody text depth start at)
+loop-keeps text zero start at = record { some = refl }
+loop-keeps text (suc d) start at = needed-keeps _ _ _ (λ is at₁. must-keeps _ _)
+
+simple-keeps : (kind : Simple) (text : List ℕ) (depth at : ℕ) → Keeps (simpleRule kind text depth at)
+simple-keeps simple.Reinit text depth at = must-keeps _ _
+simple-keeps simple.Exit text depth at = must-keeps _ _
+simple-keeps simple.Return text depth at = ok-keeps _ _
+simple-keeps simple.Check text depth at = must-keeps _ _
+simple-keeps simple.Assume text depth at = must-keeps _ _
+simple-keeps simple.Reach text depth at = must-keeps _ _
+simple-keeps simple.Assert text depth at = must-keeps _ _
+simple-keeps simple.Probe text depth at = must-keeps _ _
+
+-- the least bytes of a lead's word
+abbrev pub leadLeast : Lead → ℕ
+leadLeast lead.Var = 3
+leadLeast lead.Val = 3
+leadLeast (lead.Simple kind) = 4
+leadLeast lead.Forall = 6
+leadLeast lead.Choose = 6
+leadLeast lead.If = 2
+leadLeast lead.Loop = 4
+leadLeast lead.Name = 1
+
+pub lead-keeps : (k : Lead) → 2 ≤ leadLeast k → (text : List ℕ) (depth : ℕ) (w : Word) → Keeps (leadRule k text depth w)
+lead-keeps lead.Var l text depth w = var-keeps text _ _ _ true
+lead-keeps lead.Val l text depth w = var-keeps text _ _ _ false
+lead-keeps (lead.Simple kind) l text depth w = simple-keeps kind text depth (w .next)
+lead-keeps lead.Forall l text depth w = forall-keeps text _ _ _
+lead-keeps lead.Choose l text depth w = choose-keeps text _ _ _
+lead-keeps lead.If l text depth w = must-keeps _ _
+lead-keeps lead.Loop l text depth w = loop-keeps text depth (w .at) (w .next)
+lead-keeps lead.Name l text depth w = absurd (omega arith)
+
 -- ---- two identifiers do not touch
 
 -- a name that is read has bytes
-no-name : (text : List ℕ) (at : ℕ) → identifierLength (drop at text) ≡ 0 → parseName text at ≡ Answer.none
-unfolding after parseId
-no-name text at e = rw e refl
-
 name-some : (text : List ℕ) (at : ℕ) {n : Span} {next : ℕ} → parseName text at ≡ ok n next → 0 < identifierLength (drop at text)
 name-some text at {n} {next} e = by-length (identifierLength (drop at text)) refl
   where
@@ -99,7 +136,7 @@ declared text m c isMutable at {s} {next} e = by-name (parseName text at) refl
     by-name (refused number place) h = let q : refused number place ≡ ok s next = sym (after-refused _ _ h) ∙ e in impossible (cc)
 
 -- after `var` or `val`: the blank before the name gives eight words more
-pub declaration-leaves : {text arena later : List ℕ} {w : Word} {top : ℕ} (m : ℕ) (c : Gallery) (isMutable : Bool) (r : Built) → Worded text w → w .len ≡ 3
+pub declaration-leaves : {text arena later : List ℕ} {w : Word} {top : ℕ} (m : ℕ) (c : Gallery) (isMutable : Bool) (r : Built) → Worded text w → 3 ≤ w .len
     → Builds (stmtWords same) text arena later (w .next) top 1 24 (parseVariableDeclaration text m c isMutable (w .next)) r
     → Leaves (stmtWords same) text arena later (w .at) top (parseVariableDeclaration text m c isMutable (w .next)) r
 declaration-leaves {text} {arena} {later} {w} {top} m c isMutable r d l b = record { kept = b .kept; agrees = by-answer r (b .agrees) }

@@ -1,7 +1,8 @@
 -- What the code of declarations and programs promises, in terms of the rules.
 use Prim.Native.Nat.{ℕ, _+_, _≤_}
+use Prim.Native.String.{String}
 use mathlib.Core.Path.{_≡_}
-use mathlib.Core.List.{List, _∷_}
+use mathlib.Core.List.{List, [], _∷_}
 use mathlib.Core.Option.{Option, none, some}
 use lib.ListN.{length}
 use Rattle.tree.specs.Tags.{noMore}
@@ -16,11 +17,14 @@ use Rattle.grammar.specs.Rules.{parseListed}
 use Rattle.grammar.specs.Declarations.{TopLevelDecl, TType, TTagger, TFunction, TAxiom, TProc, afterType, afterTagger, afterFunction, afterAxiom, afterProcedure, parseTopLevelDecl}
 use Rattle.parsing.specs.Arena.{Run, Based, Holds, mostArena}
 use Rattle.parsing.specs.Code.{ListOf, sequenceOf, listWords, itemRule, same, turns, opened}
+use Rattle.parsing.specs.Leads.{classed}
 use Rattle.parsing.specs.declared.arena.Built.{Built}
 use Rattle.parsing.specs.declared.arena.Built.the-variants.{Ok, None, Refused}
 use Rattle.parsing.specs.declared.expr.seq.Kind.{Kind}
 use Rattle.parsing.specs.declared.program.DeclKind.{DeclKind}
 use Rattle.parsing.specs.declared.program.DeclKind.the-variants.{Types, Taggers, Functions, Axioms, Procedures}
+use Rattle.parsing.specs.declared.program.Head.{Head}
+use Rattle.parsing.specs.declared.program.Head.the-variants.{Of, None as HeadNone}
 use Rattle.parsing.specs.declared.program.Led.{Led}
 use Rattle.parsing.specs.declared.program.Led.the-variants.{Ok as LedOk, None as LedNone, Refused as LedRefused}
 use Rattle.parsing.specs.declared.program.Lists.{Lists}
@@ -84,7 +88,14 @@ topLevel Procedures = TProc
 abbrev pub declaration : List ℕ → ℕ → Reader TopLevelDecl
 declaration text depth = parseTopLevelDecl text (turns text) (opened text depth)
 
--- a declaration's word, as the code of each kind reads it
+-- the words that begin declarations, in the order of `parseTopLevelDecl`
+abbrev pub heads : List (String × Head)
+heads = ("type", Of Types) ∷ ("tagger", Of Taggers) ∷ ("function", Of Functions) ∷ ("axiom", Of Axioms) ∷ ("procedure", Of Procedures) ∷ []
+
+unfoldable pub headOf : List ℕ → Head
+headOf b = classed heads HeadNone b
+
+-- a declaration's word, with its blanks
 abbrev pub ledBy : DeclKind → Lexed → Led
 ledBy s (LexedOk v next) = LedOk s next
 ledBy s LexedNone = LedNone

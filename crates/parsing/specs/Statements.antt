@@ -1,21 +1,20 @@
 -- What the code of the statement rules promises, in terms of the rules.
 use Prim.Native.Nat.{ℕ, _+_, _≤_}
-use Prim.Native.String.{String}
-use mathlib.Core.Bool.{Bool, false, _||_}
+use mathlib.Core.Bool.{Bool}
 use mathlib.Core.List.{List, [], _∷_}
 use mathlib.Core.Option.{Option, none, some}
 use lib.ListN.{length}
 use Rattle.tree.specs.Tags.{varDeclTag}
 use Rattle.lexing.specs.Answer.{Answer, ok, levelTooDeep}
-use Rattle.lexing.specs.Bytes.{sameBytes, bytes}
+use Rattle.lexing.specs.Bytes.{bytes}
 use Rattle.lexing.specs.CodeAnswers.{answerOf}
 use Rattle.lexing.specs.declared.token.Lexed.{Lexed}
 use Rattle.lexing.specs.declared.token.Lexed.the-variants.{Ok as LexedOk, None as LexedNone, Refused as LexedRefused}
-use Rattle.tree.specs.Ast.{Span, Expr, Exprs, Variable, Stmt, Reinit, Check, Assume, Reach, Assert, Exit, Return, Probe, If, Stmts, Cases, AExpr, AExprs}
+use Rattle.tree.specs.Ast.{Span, Expr, Exprs, Variable, Stmt, Reinit, Exit, If, Stmts, Cases, AExpr, AExprs}
 use Rattle.tree.specs.Words.{optionWords, variableWords, exprWords, exprsWords, stmtWords, stmtsWords, casesWords, aExprWords, aExprsWords}
 use Rattle.grammar.specs.Steps.{Reader, after, need, must, mapped, _or_, Sym, parseName}
 use Rattle.grammar.specs.Rules.{Sequence, exprs, parseOptionalType, parseNonemptyCommaDelimitedSeq}
-use Rattle.grammar.specs.Statements.{names, statements, cases, aexprs, led, theExpr, parseOptionalAutoInvariant, parseInit, parseOptionalExitArgument, parseAExpr, parseOr, parseCase, parseElse, parseStmt, afterAssign, afterLabel, afterCall}
+use Rattle.grammar.specs.Statements.{names, statements, cases, aexprs, parseOptionalAutoInvariant, parseInit, parseOptionalExitArgument, parseAExpr, parseOr, parseCase, parseElse, parseStmt, afterAssign, afterLabel, afterCall}
 use Rattle.grammar.specs.Declarations.{parseWhenClause}
 use Rattle.parsing.specs.Arena.{Run, Builds}
 use Rattle.parsing.specs.Code.{same, turns, inner, opened, span}
@@ -39,11 +38,6 @@ Marked text at (LexedOk v next) = (at + 1 ≤ next) × (next ≤ length text)
 Marked text at LexedNone = Unit {0}
 Marked text at (LexedRefused number place) = Unit {0}
 
--- the bytes are one of the words
-abbrev pub anyWord : List String → List ℕ → Bool
-anyWord [] w = false
-anyWord (v ∷ vs) w = sameBytes w (bytes v) || anyWord vs w
-
 -- ---- rules
 
 -- what a rule ensures that keeps two bytes at least and leaves four of their words, for the node of a sequence's item
@@ -61,11 +55,6 @@ caseWords k r = exprWords same (k .0) (stmtWords same (k .1) r)
 -- an expression after a token that may have been read
 abbrev pub optionalExpr : List ℕ → ℕ → ℕ → Lexed → Answer (Option (Expr Span))
 optionalExpr text depth at mark = after (answerOf mark) (ok none at) (λ _ at₁. must at₁ (mapped some (inner text depth at₁)))
-
--- the branches of a choice, and what stands where each keeps nothing
-abbrev pub firstOf : {A : Type 0} → List (Answer A) → Answer A → Answer A
-firstOf [] q = q
-firstOf (r ∷ rs) q = r or firstOf rs q
 
 -- after `var` or `val`: what is declared, and its first value
 abbrev pub declaration : List ℕ → ℕ → Bool → Reader (Variable Span × Option (Expr Span))
@@ -88,28 +77,6 @@ abbrev pub reinitStmt : List ℕ → Reader (Stmt Span)
 reinitStmt text at = must at (mapped Reinit (parseNonemptyCommaDelimitedSeq text (turns text) names (parseName text) at))
 
 module _ (text : List ℕ) (depth : ℕ) where
-  abbrev statement : (Expr Span → Stmt Span) → Reader (Stmt Span)
-  statement f at = theExpr text (turns text) (opened text depth) f at
-
-  abbrev branch : String → Reader (Stmt Span) → Reader (Stmt Span)
-  branch w p at = led text (turns text) (opened text depth) w p at
-
-  -- the statements that begin with a word and hold no statement
-  abbrev pub simpleBranches : ℕ → List (Answer (Stmt Span))
-  simpleBranches at =
-      branch "reinit" (λ at₁. reinitStmt text at₁) at
-      ∷ branch "exit" (λ at₁. exitStmt text at₁) at
-      ∷ branch "return" (λ at₁. ok Return at₁) at
-      ∷ branch "check" (statement Check) at
-      ∷ branch "assume" (statement Assume) at
-      ∷ branch "reach" (statement Reach) at
-      ∷ branch "assert" (statement Assert) at
-      ∷ branch "probe" (statement Probe) at
-      ∷ []
-
-  abbrev pub simpleStmt : Reader (Stmt Span)
-  simpleStmt at = firstOf (simpleBranches at) Answer.none
-
   -- after the name w: `:=`, `:` or `(`
   abbrev pub assignStmt : Word → Answer (Stmt Span)
   assignStmt w =

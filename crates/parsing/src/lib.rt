@@ -4,6 +4,7 @@ mod build;
 mod decl;
 mod entry;
 mod expr;
+mod lead;
 mod leaf;
 mod program;
 mod sign;

@@ -11,16 +11,20 @@ use crate::decl::proc_decl;
 use crate::decl::tagger_decl;
 use crate::decl::type_decl;
 use crate::leaf::needed;
-use crate::step::keyword;
+use crate::step::after_word;
+use crate::step::word_length;
 use lexing::Lexed;
+use lexing::same_bytes;
 ghost use mathlib.Core.Path.{_≡_};
 ghost use Prim.Native.Nat.{_≤_};
 ghost use lib.ListN.{length};
+ghost use Rattle.lexing.specs.Answer.{pick};
+ghost use Rattle.lexing.specs.Bytes.{sameBytes};
 ghost use Rattle.tree.specs.Words.{programWords};
 ghost use Rattle.grammar.specs.Declarations.{TopLevel};
 ghost use Rattle.parsing.specs.Arena.{Run, Kept, Room, Builds};
 ghost use Rattle.parsing.specs.Code.{same, turns, opened};
-ghost use Rattle.parsing.specs.Declarations.{declWords, declRule, ledBy, Leads, lastOf, withLast, Endable, Open, joinedRun, Joins};
+ghost use Rattle.parsing.specs.Declarations.{declWords, declRule, headOf, ledBy, Leads, lastOf, withLast, Endable, Open, joinedRun, Joins};
 
 // The kinds of declarations.
 pub(crate) enum DeclKind {
@@ -29,6 +33,14 @@ pub(crate) enum DeclKind {
     Functions,
     Axioms,
     Procedures,
+}
+
+// What a word begins.
+pub(crate) enum Head {
+    // A declaration of this kind.
+    Of(DeclKind),
+    // No declaration.
+    None,
 }
 
 // The word that begins a declaration.
@@ -55,23 +67,34 @@ fn begin(text: &[u8], at: usize) -> Led
     requires { ⌜ at ≤ length (now text) ⌝ }
     ensures { λ r. ⌜ Leads (now (text .entry)) at r ⌝ }
 {
-    let types = keyword(text, at, b"type");
-    let Lexed::None = types else {
-        return begun(DeclKind::Types, types);
-    };
-    let taggers = keyword(text, at, b"tagger");
-    let Lexed::None = taggers else {
-        return begun(DeclKind::Taggers, taggers);
-    };
-    let functions = keyword(text, at, b"function");
-    let Lexed::None = functions else {
-        return begun(DeclKind::Functions, functions);
-    };
-    let axioms = keyword(text, at, b"axiom");
-    let Lexed::None = axioms else {
-        return begun(DeclKind::Axioms, axioms);
-    };
-    begun(DeclKind::Procedures, keyword(text, at, b"procedure"))
+    let len = word_length(text, at);
+    let end = at + len;
+    match head_of(&text[at..end]) {
+        Head::Of(sort) => begun(sort, after_word(text, at, len)),
+        Head::None => Led::None,
+    }
+}
+
+// The kind of declaration that a word's bytes begin.
+fn head_of(word: &[u8]) -> Head
+    ensures { λ r. ⌜ r ≡ headOf (now (word .entry)) ⌝ }
+{
+    let head = known(word, b"procedure", DeclKind::Procedures, Head::None);
+    let head = known(word, b"axiom", DeclKind::Axioms, head);
+    let head = known(word, b"function", DeclKind::Functions, head);
+    let head = known(word, b"tagger", DeclKind::Taggers, head);
+    known(word, b"type", DeclKind::Types, head)
+}
+
+// `sort` where the bytes are the word `w`, or else `other`.
+fn known(word: &[u8], w: &[u8], sort: DeclKind, other: Head) -> Head
+    ensures { λ r. ⌜ r ≡ pick (sameBytes (now (word .entry)) (now (w .entry))) (Head.Of sort) other ⌝ }
+{
+    if same_bytes(word, w) {
+        Head::Of(sort)
+    } else {
+        other
+    }
 }
 
 // A declaration of the kind `sort`, if its word was read.

@@ -13,16 +13,20 @@ use crate::expr::expr;
 use crate::expr::seq::Kind;
 use crate::expr::seq::items;
 use crate::expr::seq::list;
+use crate::lead::Lead;
+use crate::lead::Simple;
+use crate::lead::lead_at;
 use crate::leaf::missing;
 use crate::leaf::needed;
 use crate::leaf::optional_type;
 use crate::leaf::untaken;
 use crate::step;
 use crate::step::Word;
-use crate::step::is_word;
+use crate::step::after_word;
 use crate::step::keyword;
 use crate::step::mark;
 use crate::step::sym;
+use crate::step::word_length;
 use lexing::Lexed;
 use lexing::refusal::LEVEL_TOO_DEEP;
 use tree::word::ASSERT;
@@ -39,19 +43,17 @@ use tree::word::REINIT;
 use tree::word::RETURN;
 use tree::word::VAR_DECL;
 ghost use mathlib.Core.Path.{_≡_};
-ghost use mathlib.Core.Bool.{_||_};
 ghost use mathlib.Core.Option.{Option};
-ghost use Prim.Native.Nat.{_+_, _≤_};
-ghost use lib.ListN.{length, take, drop};
-ghost use Rattle.lexing.specs.Bytes.{sameBytes};
+ghost use Prim.Native.Nat.{_≤_};
+ghost use lib.ListN.{length};
 ghost use Rattle.tree.specs.Words.{optionWords, stmtWords};
 ghost use Rattle.grammar.specs.Reading.{treeWords};
 ghost use Rattle.grammar.specs.Steps.{must};
-ghost use Rattle.grammar.specs.Statements.{simpleWords, statementWords};
 ghost use Rattle.grammar.specs.Declarations.{parseWhenClause};
 ghost use Rattle.parsing.specs.Arena.{Room, Builds, Stopped};
 ghost use Rattle.parsing.specs.Code.{inner, same, turns, opened, boolOf, Worded};
-ghost use Rattle.parsing.specs.Statements.{Leaves, deepAt, Marked, anyWord, headed, declaration, declarationWords, optionalExpr, reinitStmt, exitStmt, assignStmt, callStmt, simpleStmt};
+ghost use Rattle.parsing.specs.Leads.{simpleRule};
+ghost use Rattle.parsing.specs.Statements.{Leaves, deepAt, Marked, headed, declaration, declarationWords, optionalExpr, reinitStmt, exitStmt, assignStmt, callStmt};
 
 // The word `tag` and an expression, which must follow.
 pub(crate) fn stated(
@@ -140,37 +142,28 @@ pub(crate) fn when(text: &[u8], at: usize, arena: &mut [u32], top: usize, depth:
     needed(expr(text, at1, arena, top, depth), at1)
 }
 
-// A statement that begins with the word `w` and holds no statement.
-pub(crate) fn simple(text: &[u8], w: Word, arena: &mut [u32], top: usize, depth: usize) -> Built
-    requires { ⌜ Room (now text) (now arena) (w .at) top 0 ⌝ }
-    requires { ⌜ Worded (now text) w ⌝ }
-    ensures { λ r. ⌜ Leaves (stmtWords same) (now (text .entry)) (now (arena .entry)) (now (arena .exit)) (w .at) top (simpleStmt (now (text .entry)) depth (w .at)) r ⌝ }
+// After the word that begins a statement that holds no statement.
+pub(crate) fn simple(
+    text: &[u8],
+    at: usize,
+    arena: &mut [u32],
+    top: usize,
+    depth: usize,
+    kind: Simple,
+) -> Built
+    requires { ⌜ Room (now text) (now arena) at top 16 ⌝ }
+    ensures { λ r. ⌜ Builds (stmtWords same) (now (text .entry)) (now (arena .entry)) (now (arena .exit)) at top 0 16 (simpleRule kind (now (text .entry)) depth at) r ⌝ }
 {
-    if is_word(text, w, b"reinit") {
-        return reinit(text, w.next, arena, top, depth);
+    match kind {
+        Simple::Reinit => reinit(text, at, arena, top, depth),
+        Simple::Exit => exit(text, at, arena, top),
+        Simple::Return => over(arena, top, ONE, RETURN, 0, 0, at),
+        Simple::Check => stated(text, at, arena, top, depth, CHECK),
+        Simple::Assume => stated(text, at, arena, top, depth, ASSUME),
+        Simple::Reach => stated(text, at, arena, top, depth, REACH),
+        Simple::Assert => stated(text, at, arena, top, depth, ASSERT),
+        Simple::Probe => stated(text, at, arena, top, depth, PROBE),
     }
-    if is_word(text, w, b"exit") {
-        return exit(text, w.next, arena, top);
-    }
-    if is_word(text, w, b"return") {
-        return over(arena, top, ONE, RETURN, 0, 0, w.next);
-    }
-    if is_word(text, w, b"check") {
-        return stated(text, w.next, arena, top, depth, CHECK);
-    }
-    if is_word(text, w, b"assume") {
-        return stated(text, w.next, arena, top, depth, ASSUME);
-    }
-    if is_word(text, w, b"reach") {
-        return stated(text, w.next, arena, top, depth, REACH);
-    }
-    if is_word(text, w, b"assert") {
-        return stated(text, w.next, arena, top, depth, ASSERT);
-    }
-    if is_word(text, w, b"probe") {
-        return stated(text, w.next, arena, top, depth, PROBE);
-    }
-    Built::None
 }
 
 // After `reinit`.
@@ -261,29 +254,19 @@ pub(crate) fn too_deep(text: &[u8], at: usize) -> Built
     requires { ⌜ at ≤ length (now text) ⌝ }
     ensures { λ r. ⌜ Stopped (opened (now (text .entry)) 0 .stmt at) r ⌝ }
 {
-    match step::name(text, at) {
-        Lexed::Ok(n, next) => {
-            let w = Word {
-                at: at,
-                len: n as usize,
-                next: next,
-            };
-            word_too_deep(text, w)
-        }
-        Lexed::None => deep(sym(text, at, b"{"), at),
+    let len = word_length(text, at);
+    if len == 0 {
+        return deep(sym(text, at, b"{"), at);
+    }
+    let lead = lead_at(text, at, len);
+    let Lead::Name = lead else {
+        return Built::Refused(LEVEL_TOO_DEEP, at);
+    };
+    match after_word(text, at, len) {
+        Lexed::Ok(_, next) => deep(mark(text, next), at),
+        Lexed::None => Built::None,
         Lexed::Refused(number, place) => Built::Refused(number, place),
     }
-}
-
-// The same, where the word `w` stands.
-fn word_too_deep(text: &[u8], w: Word) -> Built
-    requires { ⌜ Worded (now text) w ⌝ }
-    ensures { λ r. ⌜ Stopped (opened (now (text .entry)) 0 .stmt (w .at)) r ⌝ }
-{
-    if begins_stmt(text, w) {
-        return Built::Refused(LEVEL_TOO_DEEP, w.at);
-    }
-    deep(mark(text, w.next), w.at)
 }
 
 // Refusal 3 at `at`, where a token was read.
@@ -295,49 +278,4 @@ fn deep(r: Lexed, at: usize) -> Built
         Lexed::None => Built::None,
         Lexed::Refused(number, place) => Built::Refused(number, place),
     }
-}
-
-// Whether `w` is a word that begins a statement.
-fn begins_stmt(text: &[u8], w: Word) -> bool
-    requires { ⌜ w .at + w .len ≤ length (now text) ⌝ }
-    ensures { λ r. ⌜ r ≡ anyWord statementWords (take (w .len) (drop (w .at) (now (text .entry)))) ⌝ }
-{
-    if either(text, w, b"var", b"val") {
-        return true;
-    }
-    if either(text, w, b"forall", b"choose") {
-        return true;
-    }
-    if either(text, w, b"if", b"loop") {
-        return true;
-    }
-    begins_simple(text, w)
-}
-
-// Whether `w` is a word that begins a statement that holds no statement.
-fn begins_simple(text: &[u8], w: Word) -> bool
-    requires { ⌜ w .at + w .len ≤ length (now text) ⌝ }
-    ensures { λ r. ⌜ r ≡ anyWord simpleWords (take (w .len) (drop (w .at) (now (text .entry)))) ⌝ }
-{
-    if either(text, w, b"reinit", b"exit") {
-        return true;
-    }
-    if either(text, w, b"return", b"check") {
-        return true;
-    }
-    if either(text, w, b"assume", b"reach") {
-        return true;
-    }
-    either(text, w, b"assert", b"probe")
-}
-
-// Whether the bytes of `w` are one of the two words.
-fn either(text: &[u8], w: Word, a: &[u8], b: &[u8]) -> bool
-    requires { ⌜ w .at + w .len ≤ length (now text) ⌝ }
-    ensures { λ r. ⌜ r ≡ (sameBytes (take (w .len) (drop (w .at) (now (text .entry)))) (now (a .entry)) || sameBytes (take (w .len) (drop (w .at) (now (text .entry)))) (now (b .entry))) ⌝ }
-{
-    if is_word(text, w, a) {
-        return true;
-    }
-    is_word(text, w, b)
 }

@@ -1,7 +1,7 @@
 // Token readers at a place of the text.
 use lexing::Lexed;
 ghost use mathlib.Core.Path.{_≡_};
-ghost use Prim.Native.Nat.{_+_, _≤_};
+ghost use Prim.Native.Nat.{_+_, _≤_, _<_};
 ghost use lib.ListN.{length, take, drop};
 ghost use Rattle.lexing.specs.Answer.{moved as movedBy};
 ghost use Rattle.lexing.specs.Bytes.{sameBytes};
@@ -9,6 +9,7 @@ ghost use Rattle.lexing.specs.Tokens.{signNotPrefix};
 ghost use Rattle.grammar.specs.Steps.{keywordAt, signAt, parseName, parseLiteralText};
 ghost use Rattle.grammar.specs.Statements.{mark as markRule};
 ghost use Rattle.parsing.specs.Code.{Tells, span, movedOf, placed};
+ghost use Rattle.parsing.specs.Leads.{Spelt, Passes};
 
 // A word or name at `at`, of `len` bytes, and the place after its blanks.
 pub(crate) struct Word {
@@ -71,6 +72,23 @@ pub(crate) fn name(text: &[u8], at: usize) -> Lexed
     ensures { λ r. ⌜ Tells (span at) (now (text .entry)) at 1 (parseName (now (text .entry)) at) r ⌝ }
 {
     moved(at, lexing::parse_id(&text[at..]))
+}
+
+// How many bytes the word or name at `at` has, 0 where there is none.
+pub(crate) fn word_length(text: &[u8], at: usize) -> usize
+    requires { ⌜ at ≤ length (now text) ⌝ }
+    ensures { λ r. ⌜ Spelt (now (text .entry)) at r ⌝ }
+{
+    lexing::identifier_length(&text[at..])
+}
+
+// The word or name of `len` bytes at `at`, with the blanks after it.
+pub(crate) fn after_word(text: &[u8], at: usize, len: usize) -> Lexed
+    requires { ⌜ Spelt (now text) at len ⌝ }
+    requires { ⌜ 0 < len ⌝ }
+    ensures { λ r. ⌜ Passes (now (text .entry)) at len r ⌝ }
+{
+    moved(at, lexing::lexeme(&text[at..], 0, len))
 }
 
 pub(crate) fn literal_text(text: &[u8], at: usize) -> Lexed

@@ -9,16 +9,18 @@ use crate::arena::THREE;
 use crate::arena::node;
 use crate::build::close;
 use crate::build::over;
+use crate::lead::Lead;
+use crate::lead::lead_at;
 use crate::leaf;
 use crate::leaf::missing;
 use crate::leaf::needed;
 use crate::leaf::untaken;
 use crate::simple;
-use crate::step;
 use crate::step::Word;
-use crate::step::is_word;
+use crate::step::after_word;
 use crate::step::keyword;
 use crate::step::sym;
+use crate::step::word_length;
 use lexing::Lexed;
 use lexing::refusal::LEVEL_TOO_DEEP;
 use tree::word::A_ASSERTION;
@@ -29,12 +31,14 @@ use tree::word::FALSE;
 use tree::word::LABELED_STMT;
 use tree::word::LOOP;
 use tree::word::TRUE;
+ghost use mathlib.Core.Path.{_≡_};
 ghost use Prim.Native.Nat.{_≤_};
-ghost use lib.ListN.{length};
+ghost use lib.ListN.{length, take, drop};
 ghost use Rattle.tree.specs.Words.{stmtWords, aExprWords};
 ghost use Rattle.grammar.specs.Statements.{rep, parseStmt, parseVariableDeclaration, afterForall, parseAExpr};
 ghost use Rattle.parsing.specs.Arena.{Room, Builds};
 ghost use Rattle.parsing.specs.Code.{same, turns, opened, Worded, boolOf};
+ghost use Rattle.parsing.specs.Leads.{leadOf, loopBody};
 ghost use Rattle.parsing.specs.Statements.{Leaves, labelStmt, namedStmt, scopeStmt, repeated, repeatedWords, repetitionWords, repeatedRule};
 
 // What is repeated.
@@ -121,28 +125,31 @@ pub(crate) fn block(text: &[u8], at: usize, arena: &mut [u32], top: usize, depth
     over(arena, top1, HEADED, BLOCK, stmts, 0, at3)
 }
 
-// "loop" of `stmtGallery`.
-fn looped(text: &[u8], at: usize, arena: &mut [u32], top: usize, depth: usize) -> Built
-    requires { ⌜ Room (now text) (now arena) at top 0 ⌝ }
-    ensures { λ r. ⌜ Leaves (stmtWords same) (now (text .entry)) (now (arena .entry)) (now (arena .exit)) at top (opened (now (text .entry)) depth .loop at) r ⌝ }
+// After `loop`, which stands at `start`: its invariants and its body.
+fn looped(
+    text: &[u8],
+    at: usize,
+    arena: &mut [u32],
+    top: usize,
+    depth: usize,
+    start: usize,
+) -> Built
+    requires { ⌜ Room (now text) (now arena) at top 12 ⌝ }
+    ensures { λ r. ⌜ Builds (stmtWords same) (now (text .entry)) (now (arena .entry)) (now (arena .exit)) at top 1 12 (loopBody (now (text .entry)) depth start at) r ⌝ }
 {
-    let word = keyword(text, at, b"loop");
-    let Lexed::Ok(_, at1) = word else {
-        return untaken(word);
-    };
     if depth == 0 {
-        return Built::Refused(LEVEL_TOO_DEEP, at);
+        return Built::Refused(LEVEL_TOO_DEEP, start);
     }
-    let marked = many(text, at1, arena, top, depth - 1, Repeated::Invariants);
-    let Built::Ok(invariants, at2, top1) = marked else {
-        return needed(marked, at1);
+    let marked = many(text, at, arena, top, depth - 1, Repeated::Invariants);
+    let Built::Ok(invariants, at1, top1) = marked else {
+        return needed(marked, at);
     };
     node(arena, top1, HEADED, LOOP, invariants, 0);
-    let body = block(text, at2, arena, top1 + 4, depth - 1);
-    let Built::Ok(s, at3, top2) = body else {
-        return needed(body, at2);
+    let body = block(text, at1, arena, top1 + 4, depth - 1);
+    let Built::Ok(s, at2, top2) = body else {
+        return needed(body, at1);
     };
-    over(arena, top2, PAIR, 0, top1 as u32, s, at3)
+    over(arena, top2, PAIR, 0, top1 as u32, s, at2)
 }
 
 // "stmt" of `stmtGallery`.
@@ -161,50 +168,42 @@ fn stmt(text: &[u8], at: usize, arena: &mut [u32], top: usize, depth: usize) -> 
     requires { ⌜ Room (now text) (now arena) at top 0 ⌝ }
     ensures { λ r. ⌜ Leaves (stmtWords same) (now (text .entry)) (now (arena .entry)) (now (arena .exit)) at top (parseStmt (now (text .entry)) (turns (now (text .entry))) (opened (now (text .entry)) depth) at) r ⌝ }
 {
-    match step::name(text, at) {
-        Lexed::Ok(n, next) => {
+    let len = word_length(text, at);
+    if len == 0 {
+        return block(text, at, arena, top, depth);
+    }
+    let lead = lead_at(text, at, len);
+    match after_word(text, at, len) {
+        Lexed::Ok(_, next) => {
             let w = Word {
                 at: at,
-                len: n as usize,
+                len: len,
                 next: next,
             };
-            word(text, w, arena, top, depth)
+            word(text, w, arena, top, depth, lead)
         }
-        Lexed::None => block(text, at, arena, top, depth),
+        Lexed::None => Built::None,
         Lexed::Refused(number, place) => Built::Refused(number, place),
     }
 }
 
-// A statement that begins with the word `w`.
-fn word(text: &[u8], w: Word, arena: &mut [u32], top: usize, depth: usize) -> Built
+// A statement that begins with the word `w`, by its lead.
+fn word(text: &[u8], w: Word, arena: &mut [u32], top: usize, depth: usize, lead: Lead) -> Built
     requires { ⌜ Room (now text) (now arena) (w .at) top 0 ⌝ }
     requires { ⌜ Worded (now text) w ⌝ }
+    requires { ⌜ lead ≡ leadOf (take (w .len) (drop (w .at) (now text))) ⌝ }
     ensures { λ r. ⌜ Leaves (stmtWords same) (now (text .entry)) (now (arena .entry)) (now (arena .exit)) (w .at) top (parseStmt (now (text .entry)) (turns (now (text .entry))) (opened (now (text .entry)) depth) (w .at)) r ⌝ }
 {
-    if is_word(text, w, b"var") {
-        return var(text, w.next, arena, top, depth, TRUE);
+    match lead {
+        Lead::Var => var(text, w.next, arena, top, depth, TRUE),
+        Lead::Val => var(text, w.next, arena, top, depth, FALSE),
+        Lead::Simple(kind) => simple::simple(text, w.next, arena, top, depth, kind),
+        Lead::Forall => forall(text, w.next, arena, top, depth),
+        Lead::Choose => alt::choose(text, w.next, arena, top, depth),
+        Lead::If => needed(alt::cont(text, w.next, arena, top, depth), w.next),
+        Lead::Loop => looped(text, w.next, arena, top, depth, w.at),
+        Lead::Name => named(text, w, arena, top, depth),
     }
-    if is_word(text, w, b"val") {
-        return var(text, w.next, arena, top, depth, FALSE);
-    }
-    let plain = simple::simple(text, w, arena, top, depth);
-    let Built::None = plain else {
-        return plain;
-    };
-    if is_word(text, w, b"forall") {
-        return forall(text, w.next, arena, top, depth);
-    }
-    if is_word(text, w, b"choose") {
-        return alt::choose(text, w.next, arena, top, depth);
-    }
-    if is_word(text, w, b"if") {
-        return needed(alt::cont(text, w.next, arena, top, depth), w.next);
-    }
-    let again = looped(text, w.at, arena, top, depth);
-    let Built::None = again else {
-        return again;
-    };
-    named(text, w, arena, top, depth)
 }
 
 // A statement that begins with the name `w` and a mark.
@@ -251,7 +250,11 @@ fn scope(text: &[u8], at: usize, arena: &mut [u32], top: usize, depth: usize) ->
     let Built::None = r else {
         return r;
     };
-    looped(text, at, arena, top, depth)
+    let word = keyword(text, at, b"loop");
+    let Lexed::Ok(_, at1) = word else {
+        return untaken(word);
+    };
+    looped(text, at1, arena, top, depth, at)
 }
 
 // After `var` or `val`.

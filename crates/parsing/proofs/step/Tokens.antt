@@ -1,22 +1,24 @@
 -- Tokens at a place of the text, as the functions of `step` read them by those of `lexing`.
-use Prim.Native.Nat.{ℕ, zero, suc, _-_, _^_, _≤_, _<_, zero-le}
+use Prim.Native.Nat.{ℕ, zero, suc, _+_, _-_, _^_, _≤_, _<_, zero-le}
 use native.Mathlib.Nat.{le-of-eq, le-refl}
 use native.Mathlib.Omega.{arith}
 use mathlib.Core.Path.{_≡_, refl, sym, ap, subst, _∙_}
 use mathlib.Core.List.{List}
 use lib.ListN.{length, take, drop, length-drop}
 use lib.Seq.{take-all}
-use Rattle.lexing.specs.Answer.{Answer, ok, refused, moved}
+use Rattle.lexing.specs.Answer.{Answer, ok, refused, moved, unclosedComment}
 use Rattle.lexing.specs.Bytes.{startsWith, sameBytes, run, customLiteralChar}
 use Rattle.lexing.specs.Blanks.{Blanks, passed, unclosed, W}
 use Rattle.lexing.specs.Tokens.{closed, lexeme, unlessEmpty, identifierLength, keyword, sign, signNotPrefix, parseId, parseCustomLiteral}
 use Rattle.lexing.specs.CodeAnswers.{answerOf}
 use Rattle.lexing.specs.RunLaws.{pick-case}
-use Rattle.lexing.specs.TokenLaws.{Within, keyword-within, sign-within, signNotPrefix-within, parseId-within, parseCustomLiteral-within}
+use Rattle.lexing.specs.TokenLaws.{Within, lexeme-within, identifier-inside, unlessEmpty-some, keyword-within, sign-within, signNotPrefix-within, parseId-within, parseCustomLiteral-within}
 use Rattle.lexing.specs.declared.token.Lexed.{Lexed}
 use Rattle.lexing.specs.declared.token.Lexed.the-variants.{Ok as LexedOk, None as LexedNone, Refused as LexedRefused}
-use Rattle.grammar.specs.Steps.{mapped}
+use Rattle.tree.specs.Clash.{impossible}
+use Rattle.grammar.specs.Steps.{after, mapped, spanned, parseName}
 use Rattle.parsing.specs.Code.{Tells, span, movedOf, placed}
+use Rattle.parsing.specs.Leads.{Spelt, Passes}
 use Rattle.parsing.proofs.Laws.{after-ok, after-none, after-refused}
 
 -- ---- the value of a token is at most its length
@@ -119,3 +121,46 @@ module _ {reader : List ℕ → Answer ℕ} {k : ℕ} (o : Reads reader k) (text
 
   pub token-spans : {q : Lexed} → q ≡ movedOf at r → Tells (span at) text at k (mapped (span at) (moved at (reader (drop at text)))) q
   token-spans {q} m = tells-mapped (span at) text at k _ q (token-tells m)
+
+-- ---- a word, and the blanks after it
+
+-- the identifier at a place, as it is measured
+pub word-spelt : (text : List ℕ) (at : ℕ) {n : ℕ} → at ≤ length text → n ≡ identifierLength (take (length text - at) (drop at text)) → Spelt text at n
+word-spelt text at {n} h e =
+    let m : identifierLength (drop at text) ≡ n = sym (e ∙ ap identifierLength (suffix text at)) in
+    record { measured = m; inside = omega (arith, identifier-inside (drop at text), length-drop at text) }
+
+module _ {text : List ℕ} {at len : ℕ} (s : Spelt text at len) (filled : 0 < len) (r : Lexed)
+    (e : answerOf r ≡ lexeme 0 len (take (length text - at) (drop at text))) where
+  blanks-here : answerOf r ≡ lexeme 0 len (drop at text)
+  blanks-here = e ∙ ap (lexeme 0 len) (suffix text at)
+
+  blanks-within : Within len (length (drop at text)) (answerOf r)
+  blanks-within =
+      subst (Within len (length (drop at text))) (sym blanks-here)
+      (lexeme-within 0 len len (drop at text) (le-refl _) (omega (arith, s .inside, length-drop at text)))
+
+  pub word-placed : length text < 2 ^ 63 → placed at r
+  word-placed l = within-placed text at len r (omega (arith, s .inside)) l blanks-within
+
+  name-closed : parseName text at ≡ spanned text at (moved at (closed len len (W (drop len (drop at text)))))
+  unfolding after parseId lexeme
+  name-closed = rw (s .measured) (ap (λ r. spanned text at (moved at r)) (sym (unlessEmpty-some len _ (λ z. omega arith))))
+
+  pub word-passes : {q : Lexed} → q ≡ movedOf at r → Passes text at len q
+  unfolding after lexeme
+  word-passes m = rw m (by-blanks (W (drop len (drop at text))) r blanks-here name-closed blanks-within)
+    where
+      by-blanks : (b : Blanks) (r : Lexed) → answerOf r ≡ closed 0 len b → parseName text at ≡ spanned text at (moved at (closed len len b))
+          → Within len (length (drop at text)) (answerOf r) → Passes text at len (movedOf at r)
+      by-blanks (passed k) (LexedOk v n) a p w =
+          let h : len + k ≡ n = cc in
+          record { said = p ∙ ap (λ n. ok (span at len) (at + n)) h; past = omega arith; inside = omega (arith, length-drop at text, s .inside) }
+      by-blanks (passed k) LexedNone a p w = impossible (cc)
+      by-blanks (passed k) (LexedRefused number place) a p w = impossible (cc)
+      by-blanks (unclosed k) (LexedOk v n) a p w = impossible (cc)
+      by-blanks (unclosed k) LexedNone a p w = impossible (cc)
+      by-blanks (unclosed k) (LexedRefused number place) a p w =
+          let h : unclosedComment ≡ number = cc in
+          let l : len + k ≡ place = cc in
+          p ∙ rw (h, l) refl

@@ -33,33 +33,33 @@ mod Word
 pub +call+chain+cond+expr+imp+juct+label+left+logic+paren+primary+right+seq·arg+seq·bind+seq·item+seq·items+seq·lift+seq·list+seq·marks+seq·param+seq·params+seq·prop+seq·quant+tight+unary+val+word-spec : {M : Type 1} → statement M
 +call+chain+cond+expr+imp+juct+label+left+logic+paren+primary+right+seq·arg+seq·bind+seq·item+seq·items+seq·lift+seq·list+seq·marks+seq·param+seq·params+seq·prop+seq·quant+tight+unary+val+word-spec =
     close
-    Ranks.μ-call
-    Ranks.μ-chain
-    Ranks.μ-cond
-    Ranks.μ-expr
-    Ranks.μ-imp
-    Ranks.μ-juct
-    Ranks.μ-label
-    Ranks.μ-left
-    Ranks.μ-logic
-    Ranks.μ-paren
-    Ranks.μ-primary
-    Ranks.μ-right
-    Ranks.μ-arg
-    Ranks.μ-bind
-    Ranks.μ-item
-    Ranks.μ-items
-    Ranks.μ-lift
-    Ranks.μ-list
-    Ranks.μ-marks
-    Ranks.μ-param
-    Ranks.μ-params
-    Ranks.μ-prop
-    Ranks.μ-quant
-    Ranks.μ-tight
-    Ranks.μ-unary
-    Ranks.μ-val
-    Ranks.μ-word
+    (Ranks.call .μ)
+    (Ranks.chain .μ)
+    (Ranks.cond .μ)
+    (Ranks.expr .μ)
+    (Ranks.imp .μ)
+    (Ranks.juct .μ)
+    (Ranks.label .μ)
+    (Ranks.left .μ)
+    (Ranks.logic .μ)
+    (Ranks.paren .μ)
+    (Ranks.primary .μ)
+    (Ranks.right .μ)
+    (Ranks.arg .μ)
+    (Ranks.bind .μ)
+    (Ranks.item .μ)
+    (Ranks.items .μ)
+    (Ranks.lift .μ)
+    (Ranks.list .μ)
+    (Ranks.marks .μ)
+    (Ranks.param .μ)
+    (Ranks.params .μ)
+    (Ranks.prop .μ)
+    (Ranks.quant .μ)
+    (Ranks.tight .μ)
+    (Ranks.unary .μ)
+    (Ranks.val .μ)
+    (Ranks.word .μ)
     (λ t. Call.spec t)
     (λ t. Chain.spec t)
     (λ t. Cond.spec t)

@@ -41,29 +41,8 @@ alone-read arena top n {colon} {v} {next} c =
     read-refused : {number place : ℕ} → LexedOk v next ≡ LexedRefused number place → ⊥
     read-refused q = let z : _≡_ {A = ℕ} 0 1 = cc in omega arith
 
-enum-told : tie.Need-enum-told
-enum-told c = search needs
-
-enum-told-2 : tie.Need-enum-told-2
-enum-told-2 c = search needs
-
-cast-over : tie.Need-cast-over
-cast-over c = search needs
-
-cast-over-2 : tie.Need-cast-over-2
-cast-over-2 c = search needs
-
-over-requires : tie.Need-over-requires
-over-requires c κs = search needs
-
-enum-known-colon : tie.Need-enum-known-colon
-enum-known-colon c = search needs
-
 returns : tie.Need-returns
 returns c = alone-read _ _ _ (c .enum-told .given .1)
-
-same-length : tie.Need-same-length
-same-length c = search needs
 
 returns-2 : tie.Need-returns-2
 returns-2 c = alone-none (c .before .before .before .before .before .before .enum-told2 .given .1) (c .before .before .over .ensures .0) (c .before .before .over .ensures .1)
@@ -75,13 +54,13 @@ pub alone-spec : {M : Type 1} → statement M
 alone-spec =
     tie.close
     (tie.spec
-    enum-told
-    enum-told-2
-    cast-over
-    cast-over-2
-    over-requires
-    enum-known-colon
+    (λ c. search needs)
+    (λ c. search needs)
+    (λ c. search needs)
+    (λ c. search needs)
+    (λ c κs. search needs)
+    (λ c. search needs)
     returns
-    same-length
+    (λ c. search needs)
     returns-2
     returns-3)

@@ -26,26 +26,26 @@ mod Word
 pub +aexpr+alt·branch+alt·case+alt·choose+alt·cond+alt·cont+alt·els+alt·elsif+block+forall+label+looped+many+named+nested+one+scope+stmt+var+word-spec : {M : Type 1} → statement M
 +aexpr+alt·branch+alt·case+alt·choose+alt·cond+alt·cont+alt·els+alt·elsif+block+forall+label+looped+many+named+nested+one+scope+stmt+var+word-spec =
     close
-    Ranks.μ-aexpr
-    Ranks.μ-branch
-    Ranks.μ-case
-    Ranks.μ-choose
-    Ranks.μ-cond
-    Ranks.μ-cont
-    Ranks.μ-els
-    Ranks.μ-elsif
-    Ranks.μ-block
-    Ranks.μ-forall
-    Ranks.μ-label
-    Ranks.μ-looped
-    Ranks.μ-many
-    Ranks.μ-named
-    Ranks.μ-nested
-    Ranks.μ-one
-    Ranks.μ-scope
-    Ranks.μ-stmt
-    Ranks.μ-var
-    Ranks.μ-word
+    (Ranks.aexpr .μ)
+    (Ranks.branch .μ)
+    (Ranks.case .μ)
+    (Ranks.choose .μ)
+    (Ranks.cond .μ)
+    (Ranks.cont .μ)
+    (Ranks.els .μ)
+    (Ranks.elsif .μ)
+    (Ranks.block .μ)
+    (Ranks.forall .μ)
+    (Ranks.label .μ)
+    (Ranks.looped .μ)
+    (Ranks.many .μ)
+    (Ranks.named .μ)
+    (Ranks.nested .μ)
+    (Ranks.one .μ)
+    (Ranks.scope .μ)
+    (Ranks.stmt .μ)
+    (Ranks.var .μ)
+    (Ranks.word .μ)
     (λ t. Aexpr.spec t)
     (λ t. Branch.spec t)
     (λ t. Case.spec t)

@@ -19,7 +19,7 @@ use Rattle.parsing.proofs.Reached.{Reached, begin, built, skipped, head
 use Rattle.parsing.proofs as fn
 use fn.expr.+call+chain+cond+expr+imp+juct+label+left+logic+paren+primary+right+seq-arg+seq-bind+seq-item+seq-items+seq-lift+seq-list+seq-marks+seq-param+seq-params+seq-prop+seq-quant+tight+unary+val+word as cycle
 use cycle.Lts-seq-arg as lts
-use cycle.Proof.Ranks.{arg-at, expr-below}
+use cycle.Proof.Ranks as ranks
 use fn.expr.seq.arg.Reads.{Post}
 
 rule : (text : List ℕ) (depth at : ℕ)
@@ -34,10 +34,10 @@ rule text depth at =
 
 module _ (t : ℕ) where
   abbrev claims : lts.Claims
-  claims = (fn.leaf.by_name.Reads.Asked, fn.leaf.by_name.Reads.Learnt, expr-below t, fn.expr.expr.Reads.Post, fn.build.over.Reads.Asked, fn.build.over.Reads.Learnt)
+  claims = (fn.leaf.by_name.Reads.Asked, fn.leaf.by_name.Reads.Learnt, ranks.expr .below t, fn.expr.expr.Reads.Post, fn.build.over.Reads.Asked, fn.build.over.Reads.Learnt)
 
   abbrev Of : (lts.Claims → In 2 lts.ps → Out 2 lts.ps lts.r → Type 0) → Type 0
-  Of N = N claims (arg-at t) Post
+  Of N = N claims (ranks.arg .at t) Post
 
   abbrev at-start : Of lts.Start → Reached (CallArgument Span)
   at-start c = begin (c .args .depth) 1 (rule (c .args .text .now) (c .args .depth) (c .args .at)) (c .pre .0) (c .pre .1)
@@ -81,9 +81,9 @@ module _ (t : ℕ) where
   returns-3 : Of lts.Need-returns-3
   returns-3 c = done (at-over (c .before .before)) refl refl (c .before .before .over .ensures .0) refl refl
 
-  pub spec : {M : Type 1} → lts.Closed claims (arg-at t) Post M
+  pub spec : {M : Type 1} → lts.Closed claims (ranks.arg .at t) Post M
   spec =
-      lts.spec claims (arg-at t) Post
+      lts.spec claims (ranks.arg .at t) Post
       by-name-requires
       (λ c. search needs)
       same-length

@@ -16,7 +16,7 @@ use Rattle.parsing.proofs.Reached.{Reached, begin, token, built, noted,
 use Rattle.parsing.proofs as fn
 use fn.expr.+call+chain+cond+expr+imp+juct+label+left+logic+paren+primary+right+seq-arg+seq-bind+seq-item+seq-items+seq-lift+seq-list+seq-marks+seq-param+seq-params+seq-prop+seq-quant+tight+unary+val+word as cycle
 use cycle.Lts-seq-bind as lts
-use cycle.Proof.Ranks.{bind-at, params-below, expr-below}
+use cycle.Proof.Ranks as ranks
 use fn.expr.seq.bind.Reads.{Post}
 
 rule : (text : List ℕ) (m : ℕ) (c : Reader (Expr Span)) (at : ℕ)
@@ -36,7 +36,7 @@ module _ (t : ℕ) where
     fn.leaf.untaken.Reads.Learnt,
     fn.arena.node.Reads.Asked,
     fn.arena.node.Reads.Learnt,
-    params-below t,
+    ranks.params .below t,
     fn.expr.seq.params.Reads.Post,
     fn.leaf.needed.Reads.Asked,
     fn.leaf.needed.Reads.Learnt,
@@ -44,14 +44,14 @@ module _ (t : ℕ) where
     fn.step.sym.Reads.Learnt,
     fn.leaf.missing.Reads.Asked,
     fn.leaf.missing.Reads.Learnt,
-    expr-below t,
+    ranks.expr .below t,
     fn.expr.expr.Reads.Post,
     fn.build.over.Reads.Asked,
     fn.build.over.Reads.Learnt,
   )
 
   abbrev Of : (lts.Claims → In 2 lts.ps → Out 2 lts.ps lts.r → Type 0) → Type 0
-  Of N = N claims (bind-at t) Post
+  Of N = N claims (ranks.bind .at t) Post
 
   abbrev at-start : Of lts.Start → Reached ClosureItem
   at-start c = begin (c .args .depth) 5 (rule (c .args .text .now) (turns (c .args .text .now)) (inner (c .args .text .now) (c .args .depth)) (c .args .at)) (c .pre .0) (c .pre .1)
@@ -143,9 +143,9 @@ module _ (t : ℕ) where
   returns-5 : Of lts.Need-returns-5
   returns-5 c = done (at-over (c .before .before)) refl refl (c .before .before .over .ensures .0) refl refl
 
-  pub spec : {M : Type 1} → lts.Closed claims (bind-at t) Post M
+  pub spec : {M : Type 1} → lts.Closed claims (ranks.bind .at t) Post M
   spec =
-      lts.spec claims (bind-at t) Post
+      lts.spec claims (ranks.bind .at t) Post
       name-requires
       (λ c. search needs)
       (λ c κs. search needs)

@@ -16,7 +16,7 @@ use Rattle.parsing.proofs.Reached.{Reached, begin, built, noted, paired
 use Rattle.parsing.proofs as fn
 use fn.expr.+call+chain+cond+expr+imp+juct+label+left+logic+paren+primary+right+seq-arg+seq-bind+seq-item+seq-items+seq-lift+seq-list+seq-marks+seq-param+seq-params+seq-prop+seq-quant+tight+unary+val+word as cycle
 use cycle.Lts-call as lts
-use cycle.Proof.Ranks.{call-at, list-below}
+use cycle.Proof.Ranks as ranks
 use fn.expr.call.Reads.{Post}
 
 rule : (text : List ℕ) (m : ℕ) (c : Reader (Expr Span)) (n : Span) (at : ℕ)
@@ -26,10 +26,10 @@ rule text m c n at = refl
 
 module _ (t : ℕ) where
   abbrev claims : lts.Claims
-  claims = (fn.arena.node.Reads.Asked, fn.arena.node.Reads.Learnt, list-below t, fn.expr.seq.list.Reads.Post, fn.leaf.needed.Reads.Asked, fn.leaf.needed.Reads.Learnt, fn.build.over.Reads.Asked, fn.build.over.Reads.Learnt)
+  claims = (fn.arena.node.Reads.Asked, fn.arena.node.Reads.Learnt, ranks.list .below t, fn.expr.seq.list.Reads.Post, fn.leaf.needed.Reads.Asked, fn.leaf.needed.Reads.Learnt, fn.build.over.Reads.Asked, fn.build.over.Reads.Learnt)
 
   abbrev Of : (lts.Claims → In 2 lts.ps → Out 2 lts.ps lts.r → Type 0) → Type 0
-  Of N = N claims (call-at t) Post
+  Of N = N claims (ranks.call .at t) Post
 
   abbrev at-start : Of lts.Start → Reached (Expr Span)
   at-start c =
@@ -79,9 +79,9 @@ module _ (t : ℕ) where
   returns-2 : Of lts.Need-returns-2
   returns-2 c = done (at-over (c .before .before)) refl refl (c .before .before .over .ensures .0) refl refl
 
-  pub spec : {M : Type 1} → lts.Closed claims (call-at t) Post M
+  pub spec : {M : Type 1} → lts.Closed claims (ranks.call .at t) Post M
   spec =
-      lts.spec claims (call-at t) Post
+      lts.spec claims (ranks.call .at t) Post
       cast-node
       cast-node-2
       node-requires

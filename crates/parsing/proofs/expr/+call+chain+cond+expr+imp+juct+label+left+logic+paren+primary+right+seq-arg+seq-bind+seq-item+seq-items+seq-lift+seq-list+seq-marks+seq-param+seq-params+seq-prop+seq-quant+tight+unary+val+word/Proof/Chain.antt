@@ -13,15 +13,16 @@ use Rattle.parsing.proofs.ChainPlaces.{followed}
 use Rattle.parsing.proofs as fn
 use fn.expr.+call+chain+cond+expr+imp+juct+label+left+logic+paren+primary+right+seq-arg+seq-bind+seq-item+seq-items+seq-lift+seq-list+seq-marks+seq-param+seq-params+seq-prop+seq-quant+tight+unary+val+word as cycle
 use cycle.Lts-chain as lts
-use cycle.Proof.Ranks.{levelRank, chain-at, tight-below, left-below}
+use cycle.Proof.Ranks as ranks
+use cycle.Proof.Ranks.{levelRank}
 use fn.expr.chain.Reads.{Post}
 
 module _ (t : ℕ) where
   abbrev claims : lts.Claims
-  claims = (tight-below t, fn.expr.tight.Reads.Post, left-below t, fn.expr.left.Reads.Post)
+  claims = (ranks.tight .below t, fn.expr.tight.Reads.Post, ranks.left .below t, fn.expr.left.Reads.Post)
 
   abbrev Of : (lts.Claims → In 2 lts.ps → Out 2 lts.ps lts.r → Type 0) → Type 0
-  Of N = N claims (chain-at t) Post
+  Of N = N claims (ranks.chain .at t) Post
 
   abbrev at-start : Of lts.Start → Reached (Expr Span)
   at-start c =
@@ -48,9 +49,9 @@ module _ (t : ℕ) where
   returns-2 : Of lts.Need-returns-2
   returns-2 c = followed (at-operand (c .before .before .before .before .before)) (sym (after-ok _ _ (found (c .before .before .before .before .before .r .given .1) (c .before .before .before .before .before .before .before .before .before .tight .ensures) .says))) (c .before .before .left .ensures) refl refl
 
-  pub spec : {M : Type 1} → lts.Closed claims (chain-at t) Post M
+  pub spec : {M : Type 1} → lts.Closed claims (ranks.chain .at t) Post M
   spec =
-      lts.spec claims (chain-at t) Post
+      lts.spec claims (ranks.chain .at t) Post
       tight-requires
       (λ c. search needs)
       same-length

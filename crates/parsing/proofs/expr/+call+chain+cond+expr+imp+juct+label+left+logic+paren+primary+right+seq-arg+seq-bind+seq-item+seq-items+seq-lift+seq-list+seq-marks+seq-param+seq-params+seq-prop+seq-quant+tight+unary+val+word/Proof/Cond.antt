@@ -15,7 +15,7 @@ use Rattle.parsing.proofs.Reached.{Reached, begin, token, built, choice
 use Rattle.parsing.proofs as fn
 use fn.expr.+call+chain+cond+expr+imp+juct+label+left+logic+paren+primary+right+seq-arg+seq-bind+seq-item+seq-items+seq-lift+seq-list+seq-marks+seq-param+seq-params+seq-prop+seq-quant+tight+unary+val+word as cycle
 use cycle.Lts-cond as lts
-use cycle.Proof.Ranks.{cond-at, expr-below}
+use cycle.Proof.Ranks as ranks
 use fn.expr.cond.Reads.{Post}
 
 rule : (text : List ℕ) (c : Reader (Expr Span)) (at : ℕ)
@@ -30,7 +30,7 @@ rule text c at = refl
 module _ (t : ℕ) where
   abbrev claims : lts.Claims
   claims = (
-    expr-below t,
+    ranks.expr .below t,
     fn.expr.expr.Reads.Post,
     fn.leaf.needed.Reads.Asked,
     fn.leaf.needed.Reads.Learnt,
@@ -43,7 +43,7 @@ module _ (t : ℕ) where
   )
 
   abbrev Of : (lts.Claims → In 2 lts.ps → Out 2 lts.ps lts.r → Type 0) → Type 0
-  Of N = N claims (cond-at t) Post
+  Of N = N claims (ranks.cond .at t) Post
 
   abbrev at-start : Of lts.Start → Reached (Expr Span)
   at-start c = begin (c .args .depth) 1 (rule (c .args .text .now) (inner (c .args .text .now) (c .args .depth)) (c .args .at)) (c .pre .0) (c .pre .1)
@@ -108,9 +108,9 @@ module _ (t : ℕ) where
   returns-5 : Of lts.Need-returns-5
   returns-5 c = done (at-choice (c .before .before)) refl refl (c .before .before .choice .ensures .0) refl refl
 
-  pub spec : {M : Type 1} → lts.Closed claims (cond-at t) Post M
+  pub spec : {M : Type 1} → lts.Closed claims (ranks.cond .at t) Post M
   spec =
-      lts.spec claims (cond-at t) Post
+      lts.spec claims (ranks.cond .at t) Post
       expr-requires
       (λ c. search needs)
       (λ c κs. search needs)

@@ -18,7 +18,7 @@ use Rattle.parsing.proofs.ChainPlaces.{followed, stops}
 use Rattle.parsing.proofs as fn
 use fn.expr.+call+chain+cond+expr+imp+juct+label+left+logic+paren+primary+right+seq-arg+seq-bind+seq-item+seq-items+seq-lift+seq-list+seq-marks+seq-param+seq-params+seq-prop+seq-quant+tight+unary+val+word as cycle
 use cycle.Lts-imp as lts
-use cycle.Proof.Ranks.{imp-at, logic-below, right-below, left-below}
+use cycle.Proof.Ranks as ranks
 use fn.expr.imp.Reads.{Post}
 
 -- `parseImpExpExpr` by its first operand and the chains that may follow it
@@ -33,10 +33,10 @@ rule text depth at = refl
 
 module _ (t : ℕ) where
   abbrev claims : lts.Claims
-  claims = (logic-below t, fn.expr.logic.Reads.Post, fn.sign.operator.Reads.Asked, fn.sign.operator.Reads.Learnt, right-below t, fn.expr.right.Reads.Post, left-below t, fn.expr.left.Reads.Post)
+  claims = (ranks.logic .below t, fn.expr.logic.Reads.Post, fn.sign.operator.Reads.Asked, fn.sign.operator.Reads.Learnt, ranks.right .below t, fn.expr.right.Reads.Post, ranks.left .below t, fn.expr.left.Reads.Post)
 
   abbrev Of : (lts.Claims → In 2 lts.ps → Out 2 lts.ps lts.r → Type 0) → Type 0
-  Of N = N claims (imp-at t) Post
+  Of N = N claims (ranks.imp .at t) Post
 
   abbrev at-start : Of lts.Start → Reached (Expr Span)
   at-start c = begin (c .args .depth) 28 (rule (c .args .text .now) (c .args .depth) (c .args .at)) (c .pre .0) (c .pre .1)
@@ -86,9 +86,9 @@ module _ (t : ℕ) where
   returns-4 : Of lts.Need-returns-4
   returns-4 c = stops (at-operand (c .before .before .before .before .before)) (after-refused _ _ (rw (c .before .number .given .1) at (c .before .before .before .operator .ensures)))
 
-  pub spec : {M : Type 1} → lts.Closed claims (imp-at t) Post M
+  pub spec : {M : Type 1} → lts.Closed claims (ranks.imp .at t) Post M
   spec =
-      lts.spec claims (imp-at t) Post
+      lts.spec claims (ranks.imp .at t) Post
       logic-requires
       (λ c. search needs)
       same-length

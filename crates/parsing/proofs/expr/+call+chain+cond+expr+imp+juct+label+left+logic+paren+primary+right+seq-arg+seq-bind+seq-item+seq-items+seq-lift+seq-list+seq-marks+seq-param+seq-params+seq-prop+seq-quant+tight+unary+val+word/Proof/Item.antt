@@ -9,32 +9,33 @@ use Rattle.parsing.proofs.Rooms.{room-on}
 use Rattle.parsing.proofs as fn
 use fn.expr.+call+chain+cond+expr+imp+juct+label+left+logic+paren+primary+right+seq-arg+seq-bind+seq-item+seq-items+seq-lift+seq-list+seq-marks+seq-param+seq-params+seq-prop+seq-quant+tight+unary+val+word as cycle
 use cycle.Lts-seq-item as lts
-use cycle.Proof.Ranks.{itemRank, item-at, expr-below, bind-below, prop-below, param-below, arg-below}
+use cycle.Proof.Ranks as ranks
+use cycle.Proof.Ranks.{itemRank}
 use fn.expr.seq.item.Reads.{Post}
 
 module _ (t : ℕ) where
   abbrev claims : lts.Claims
   claims = (
-    expr-below t,
+    ranks.expr .below t,
     fn.expr.expr.Reads.Post,
     fn.leaf.id_type.Reads.Asked,
     fn.leaf.id_type.Reads.Learnt,
-    bind-below t,
+    ranks.bind .below t,
     fn.expr.seq.bind.Reads.Post,
-    prop-below t,
+    ranks.prop .below t,
     fn.expr.seq.prop.Reads.Post,
     fn.leaf.identifier.Reads.Asked,
     fn.leaf.identifier.Reads.Learnt,
     fn.leaf.formal.Reads.Asked,
     fn.leaf.formal.Reads.Learnt,
-    param-below t,
+    ranks.param .below t,
     fn.expr.seq.param.Reads.Post,
-    arg-below t,
+    ranks.arg .below t,
     fn.expr.seq.arg.Reads.Post,
   )
 
   abbrev Of : (lts.Claims → In 2 lts.ps → Out 2 lts.ps lts.r → Type 0) → Type 0
-  Of N = N claims (item-at t) Post
+  Of N = N claims (ranks.item .at t) Post
 
   expr-requires : Of lts.Need-expr-requires
   expr-requires c κs = (omega (arith, c .before .before .before .before .before .pre .0, ap itemRank (c .before .enum-told .given .1)), room-on (c .before .before .before .before .before .pre .1) kept-refl (omega arith) (c .before .before .before .before .before .pre .1 .inside) (omega arith))
@@ -108,9 +109,9 @@ module _ (t : ℕ) where
   returns-8 : Of lts.Need-returns-8
   returns-8 c = rw (c .before .before .before .before .enum-told8 .given .1) (builds-from (c .before .before .arg .ensures .kept) (omega arith) (omega arith) (omega arith) (c .before .before .arg .ensures))
 
-  pub spec : {M : Type 1} → lts.Closed claims (item-at t) Post M
+  pub spec : {M : Type 1} → lts.Closed claims (ranks.item .at t) Post M
   spec =
-      lts.spec claims (item-at t) Post
+      lts.spec claims (ranks.item .at t) Post
       (λ c. search needs)
       expr-requires
       (λ c. search needs)

@@ -16,7 +16,7 @@ use Rattle.parsing.proofs.Closing.{closes-kept}
 use Rattle.parsing.proofs as fn
 use fn.expr.+call+chain+cond+expr+imp+juct+label+left+logic+paren+primary+right+seq-arg+seq-bind+seq-item+seq-items+seq-lift+seq-list+seq-marks+seq-param+seq-params+seq-prop+seq-quant+tight+unary+val+word as cycle
 use cycle.Lts-seq-items as lts
-use cycle.Proof.Ranks.{items-at, item-below}
+use cycle.Proof.Ranks as ranks
 use fn.expr.seq.items.Reads.{Post}
 
 abbrev Inv-loop : lts.InvT-loop
@@ -27,10 +27,10 @@ abbrev μ-loop : lts.MeasureT-loop
 
 module _ (t : ℕ) where
   abbrev claims : lts.Claims
-  claims = (item-below t, fn.expr.seq.item.Reads.Post, fn.arena.node.Reads.Asked, fn.arena.node.Reads.Learnt, fn.step.sym.Reads.Asked, fn.step.sym.Reads.Learnt, fn.leaf.needed.Reads.Asked, fn.leaf.needed.Reads.Learnt, fn.build.close.Reads.Asked, fn.build.close.Reads.Learnt)
+  claims = (ranks.item .below t, fn.expr.seq.item.Reads.Post, fn.arena.node.Reads.Asked, fn.arena.node.Reads.Learnt, fn.step.sym.Reads.Asked, fn.step.sym.Reads.Learnt, fn.leaf.needed.Reads.Asked, fn.leaf.needed.Reads.Learnt, fn.build.close.Reads.Asked, fn.build.close.Reads.Learnt)
 
   abbrev Of : (lts.Claims → In 2 lts.ps → Out 2 lts.ps lts.r → lts.InvT-loop → lts.MeasureT-loop → Type 0) → Type 0
-  Of N = N claims (items-at t) Post Inv-loop μ-loop
+  Of N = N claims (ranks.items .at t) Post Inv-loop μ-loop
 
   item-requires : Of lts.Need-item-requires
   item-requires c κs = (omega (arith, c .before .before .before .pre .0), room-on (c .before .before .before .pre .1) kept-refl (omega arith) (c .before .before .before .pre .1 .inside) (omega arith))
@@ -237,9 +237,9 @@ module _ (t : ℕ) where
       let i = c .before .before .before .before .before .loop .inv in
       gathering-refused (comma-repetition _ (c .before .before .before .before .before .before .before .before .before .before .before .before .before .before .before .before .before .before .before .args .kind) _) (i .gathering) (rw (c .before .number .given .1) at (c .before .before .before .sym .ensures)) k0
 
-  pub spec : {M : Type 1} → lts.Closed claims (items-at t) Post M
+  pub spec : {M : Type 1} → lts.Closed claims (ranks.items .at t) Post M
   spec =
-      lts.spec claims (items-at t) Post Inv-loop μ-loop
+      lts.spec claims (ranks.items .at t) Post Inv-loop μ-loop
       item-requires
       (λ c. search needs)
       same-length

@@ -17,7 +17,7 @@ use Rattle.parsing.proofs.ChainPlaces.{sign-took, combined, stops}
 use Rattle.parsing.proofs as fn
 use fn.expr.+call+chain+cond+expr+imp+juct+label+left+logic+paren+primary+right+seq-arg+seq-bind+seq-item+seq-items+seq-lift+seq-list+seq-marks+seq-param+seq-params+seq-prop+seq-quant+tight+unary+val+word as cycle
 use cycle.Lts-juct as lts
-use cycle.Proof.Ranks.{juct-at, chain-below}
+use cycle.Proof.Ranks as ranks
 use fn.expr.juct.Reads.{Post}
 
 -- `parseJuctExpr` by its two operands, each a chain
@@ -31,10 +31,10 @@ rule text depth at = refl
 
 module _ (t : ℕ) where
   abbrev claims : lts.Claims
-  claims = (chain-below t, fn.expr.chain.Reads.Post, fn.sign.operator.Reads.Asked, fn.sign.operator.Reads.Learnt, fn.leaf.needed.Reads.Asked, fn.leaf.needed.Reads.Learnt, fn.build.combine.Reads.Asked, fn.build.combine.Reads.Learnt)
+  claims = (ranks.chain .below t, fn.expr.chain.Reads.Post, fn.sign.operator.Reads.Asked, fn.sign.operator.Reads.Learnt, fn.leaf.needed.Reads.Asked, fn.leaf.needed.Reads.Learnt, fn.build.combine.Reads.Asked, fn.build.combine.Reads.Learnt)
 
   abbrev Of : (lts.Claims → In 2 lts.ps → Out 2 lts.ps lts.r → Type 0) → Type 0
-  Of N = N claims (juct-at t) Post
+  Of N = N claims (ranks.juct .at t) Post
 
   abbrev at-start : Of lts.Start → Reached (Expr Span)
   at-start c = begin (c .args .depth) 20 (rule (c .args .text .now) (c .args .depth) (c .args .at)) (c .pre .0) (c .pre .1)
@@ -103,9 +103,9 @@ module _ (t : ℕ) where
   returns-5 : Of lts.Need-returns-5
   returns-5 c = stops (at-first (c .before .before .before .before .before)) (after-refused _ _ (rw (c .before .number .given .1) at (c .before .before .before .operator .ensures)))
 
-  pub spec : {M : Type 1} → lts.Closed claims (juct-at t) Post M
+  pub spec : {M : Type 1} → lts.Closed claims (ranks.juct .at t) Post M
   spec =
-      lts.spec claims (juct-at t) Post
+      lts.spec claims (ranks.juct .at t) Post
       chain-requires
       (λ c. search needs)
       same-length

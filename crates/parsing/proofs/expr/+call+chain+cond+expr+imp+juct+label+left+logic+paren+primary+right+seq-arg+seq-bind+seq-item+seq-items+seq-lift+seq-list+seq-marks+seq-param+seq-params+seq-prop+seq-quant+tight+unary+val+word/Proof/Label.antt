@@ -18,7 +18,7 @@ use Rattle.parsing.proofs.Reached.{Reached, begin, token, built, noted,
 use Rattle.parsing.proofs as fn
 use fn.expr.+call+chain+cond+expr+imp+juct+label+left+logic+paren+primary+right+seq-arg+seq-bind+seq-item+seq-items+seq-lift+seq-list+seq-marks+seq-param+seq-params+seq-prop+seq-quant+tight+unary+val+word as cycle
 use cycle.Lts-label as lts
-use cycle.Proof.Ranks.{label-at, expr-below}
+use cycle.Proof.Ranks as ranks
 use fn.expr.label.Reads.{Post}
 
 rule : (text : List ℕ) (c : Reader (Expr Span)) (n : Span) (at : ℕ)
@@ -35,7 +35,7 @@ module _ (t : ℕ) where
     fn.leaf.alone.Reads.Learnt,
     fn.arena.node.Reads.Asked,
     fn.arena.node.Reads.Learnt,
-    expr-below t,
+    ranks.expr .below t,
     fn.expr.expr.Reads.Post,
     fn.leaf.needed.Reads.Asked,
     fn.leaf.needed.Reads.Learnt,
@@ -44,7 +44,7 @@ module _ (t : ℕ) where
   )
 
   abbrev Of : (lts.Claims → In 2 lts.ps → Out 2 lts.ps lts.r → Type 0) → Type 0
-  Of N = N claims (label-at t) Post
+  Of N = N claims (ranks.label .at t) Post
 
   abbrev at-start : Of lts.Start → Reached (Expr Span)
   at-start c = begin (c .args .depth) 1 (rule (c .args .text .now) (inner (c .args .text .now) (c .args .depth)) (span (c .args .l .at) (c .args .l .len)) (c .args .l .next)) (c .pre .0) (c .pre .1 .0)
@@ -108,9 +108,9 @@ module _ (t : ℕ) where
   returns-3 : Of lts.Need-returns-3
   returns-3 c = done (at-over (c .before .before)) refl refl (c .before .before .over .ensures .0) refl refl
 
-  pub spec : {M : Type 1} → lts.Closed claims (label-at t) Post M
+  pub spec : {M : Type 1} → lts.Closed claims (ranks.label .at t) Post M
   spec =
-      lts.spec claims (label-at t) Post
+      lts.spec claims (ranks.label .at t) Post
       (λ c. search needs)
       sym-requires
       (λ c. search needs)

@@ -15,7 +15,8 @@ use Rattle.parsing.proofs.LeftChains.{Leaning, leaning-start, leaning-p
 use Rattle.parsing.proofs as fn
 use fn.expr.+call+chain+cond+expr+imp+juct+label+left+logic+paren+primary+right+seq-arg+seq-bind+seq-item+seq-items+seq-lift+seq-list+seq-marks+seq-param+seq-params+seq-prop+seq-quant+tight+unary+val+word as cycle
 use cycle.Lts-left as lts
-use cycle.Proof.Ranks.{levelRank, left-at, tight-below}
+use cycle.Proof.Ranks as ranks
+use cycle.Proof.Ranks.{levelRank}
 use fn.expr.left.Reads.{Post}
 
 abbrev Inv-loop : lts.InvT-loop
@@ -26,10 +27,10 @@ abbrev μ-loop : lts.MeasureT-loop
 
 module _ (t : ℕ) where
   abbrev claims : lts.Claims
-  claims = (fn.sign.operator.Reads.Asked, fn.sign.operator.Reads.Learnt, tight-below t, fn.expr.tight.Reads.Post, fn.leaf.needed.Reads.Asked, fn.leaf.needed.Reads.Learnt, fn.build.combine.Reads.Asked, fn.build.combine.Reads.Learnt)
+  claims = (fn.sign.operator.Reads.Asked, fn.sign.operator.Reads.Learnt, ranks.tight .below t, fn.expr.tight.Reads.Post, fn.leaf.needed.Reads.Asked, fn.leaf.needed.Reads.Learnt, fn.build.combine.Reads.Asked, fn.build.combine.Reads.Learnt)
 
   abbrev Of : (lts.Claims → In 2 lts.ps → Out 2 lts.ps lts.r → lts.InvT-loop → lts.MeasureT-loop → Type 0) → Type 0
-  Of N = N claims (left-at t) Post Inv-loop μ-loop
+  Of N = N claims (ranks.left .at t) Post Inv-loop μ-loop
 
   abbrev at-loop : Of lts.At-loop → Reached (Expr Span)
   at-loop c = leaning-place (c .loop .inv) (levelRank (c .before .before .before .args .level) + 1) (c .before .before .before .pre .0) (c .before .before .before .pre .1 .0)
@@ -92,9 +93,9 @@ module _ (t : ℕ) where
   returns-3 : Of lts.Need-returns-3
   returns-3 c = stops (at-loop (c .before .before .before .before)) (after-refused _ _ (rw (c .before .number .given .1) at (c .before .before .before .operator .ensures)))
 
-  pub spec : {M : Type 1} → lts.Closed claims (left-at t) Post M
+  pub spec : {M : Type 1} → lts.Closed claims (ranks.left .at t) Post M
   spec =
-      lts.spec claims (left-at t) Post Inv-loop μ-loop
+      lts.spec claims (ranks.left .at t) Post Inv-loop μ-loop
       loop-holds
       operator-requires
       (λ c. search needs)

@@ -13,7 +13,7 @@ use Rattle.parsing.proofs.Reached.{Reached, begin, token, built, noted,
 use Rattle.parsing.proofs as fn
 use fn.expr.+call+chain+cond+expr+imp+juct+label+left+logic+paren+primary+right+seq-arg+seq-bind+seq-item+seq-items+seq-lift+seq-list+seq-marks+seq-param+seq-params+seq-prop+seq-quant+tight+unary+val+word as cycle
 use cycle.Lts-seq-lift as lts
-use cycle.Proof.Ranks.{lift-at, items-below, list-below}
+use cycle.Proof.Ranks as ranks
 use fn.expr.seq.lift.Reads.{Post}
 
 module _ (t : ℕ) where
@@ -21,7 +21,7 @@ module _ (t : ℕ) where
   claims = (
     fn.arena.node.Reads.Asked,
     fn.arena.node.Reads.Learnt,
-    items-below t,
+    ranks.items .below t,
     fn.expr.seq.items.Reads.Post,
     fn.leaf.needed.Reads.Asked,
     fn.leaf.needed.Reads.Learnt,
@@ -33,14 +33,14 @@ module _ (t : ℕ) where
     fn.leaf.id_type.Reads.Learnt,
     fn.step.sym.Reads.Asked,
     fn.step.sym.Reads.Learnt,
-    list-below t,
+    ranks.list .below t,
     fn.expr.seq.list.Reads.Post,
     fn.build.four.Reads.Asked,
     fn.build.four.Reads.Learnt,
   )
 
   abbrev Of : (lts.Claims → In 2 lts.ps → Out 2 lts.ps lts.r → Type 0) → Type 0
-  Of N = N claims (lift-at t) Post
+  Of N = N claims (ranks.lift .at t) Post
 
   abbrev at-start : Of lts.Start → Reached (Expr Span)
   at-start c = begin (c .args .depth) 9 (lift-bound (c .args .text .now) (turns (c .args .text .now)) (inner (c .args .text .now) (c .args .depth)) (c .args .at)) (c .pre .0) (c .pre .1)
@@ -142,9 +142,9 @@ module _ (t : ℕ) where
   returns-7 : Of lts.Need-returns-7
   returns-7 c = done (at-four (c .before .before)) refl refl (c .before .before .four .ensures .0) refl refl
 
-  pub spec : {M : Type 1} → lts.Closed claims (lift-at t) Post M
+  pub spec : {M : Type 1} → lts.Closed claims (ranks.lift .at t) Post M
   spec =
-      lts.spec claims (lift-at t) Post
+      lts.spec claims (ranks.lift .at t) Post
       node-requires
       add-items
       items-requires

@@ -12,15 +12,15 @@ use Rattle.parsing.proofs.Sequences.{listed-some, listed-none, listed-r
 use Rattle.parsing.proofs as fn
 use fn.expr.+call+chain+cond+expr+imp+juct+label+left+logic+paren+primary+right+seq-arg+seq-bind+seq-item+seq-items+seq-lift+seq-list+seq-marks+seq-param+seq-params+seq-prop+seq-quant+tight+unary+val+word as cycle
 use cycle.Lts-seq-list as lts
-use cycle.Proof.Ranks.{list-at, items-below}
+use cycle.Proof.Ranks as ranks
 use fn.expr.seq.list.Reads.{Post}
 
 module _ (t : ℕ) where
   abbrev claims : lts.Claims
-  claims = (items-below t, fn.expr.seq.items.Reads.Post, fn.leaf.shut.Reads.Asked, fn.leaf.shut.Reads.Learnt)
+  claims = (ranks.items .below t, fn.expr.seq.items.Reads.Post, fn.leaf.shut.Reads.Asked, fn.leaf.shut.Reads.Learnt)
 
   abbrev Of : (lts.Claims → In 3 lts.ps → Out 3 lts.ps lts.r → Type 0) → Type 0
-  Of N = N claims (list-at t) Post
+  Of N = N claims (ranks.list .at t) Post
 
   items-requires : Of lts.Need-items-requires
   items-requires c κs = (omega (arith, c .before .before .before .before .pre .0), c .before .before .before .before .pre .1 .0)
@@ -64,9 +64,9 @@ module _ (t : ℕ) where
         agrees = listed-refused _ _ (sequenceOf (c .before .before .before .before .before .before .before .before .before .before .args .kind)) _ _ _ (rw (c .before .number .given .1) at (c .before .before .before .before .before .items .ensures .agrees));
       }
 
-  pub spec : {M : Type 1} → lts.Closed claims (list-at t) Post M
+  pub spec : {M : Type 1} → lts.Closed claims (ranks.list .at t) Post M
   spec =
-      lts.spec claims (list-at t) Post
+      lts.spec claims (ranks.list .at t) Post
       items-requires
       (λ c. search needs)
       shut-requires

@@ -15,7 +15,7 @@ use Rattle.parsing.proofs.Closing.{closes-kept}
 use Rattle.parsing.proofs as fn
 use fn.expr.+call+chain+cond+expr+imp+juct+label+left+logic+paren+primary+right+seq-arg+seq-bind+seq-item+seq-items+seq-lift+seq-list+seq-marks+seq-param+seq-params+seq-prop+seq-quant+tight+unary+val+word as cycle
 use cycle.Lts-seq-marks as lts
-use cycle.Proof.Ranks.{marks-at, items-below}
+use cycle.Proof.Ranks as ranks
 use fn.expr.seq.marks.Reads.{Post}
 
 abbrev Inv-loop : lts.InvT-loop
@@ -26,10 +26,10 @@ abbrev μ-loop : lts.MeasureT-loop
 
 module _ (t : ℕ) where
   abbrev claims : lts.Claims
-  claims = (fn.step.keyword.Reads.Asked, fn.step.keyword.Reads.Learnt, items-below t, fn.expr.seq.items.Reads.Post, fn.leaf.needed.Reads.Asked, fn.leaf.needed.Reads.Learnt, fn.arena.node.Reads.Asked, fn.arena.node.Reads.Learnt, fn.build.close.Reads.Asked, fn.build.close.Reads.Learnt)
+  claims = (fn.step.keyword.Reads.Asked, fn.step.keyword.Reads.Learnt, ranks.items .below t, fn.expr.seq.items.Reads.Post, fn.leaf.needed.Reads.Asked, fn.leaf.needed.Reads.Learnt, fn.arena.node.Reads.Asked, fn.arena.node.Reads.Learnt, fn.build.close.Reads.Asked, fn.build.close.Reads.Learnt)
 
   abbrev Of : (lts.Claims → In 3 lts.ps → Out 3 lts.ps lts.r → lts.InvT-loop → lts.MeasureT-loop → Type 0) → Type 0
-  Of N = N claims (marks-at t) Post Inv-loop μ-loop
+  Of N = N claims (ranks.marks .at t) Post Inv-loop μ-loop
 
   loop-holds : Of lts.Need-loop-holds
   loop-holds c =
@@ -137,9 +137,9 @@ module _ (t : ℕ) where
       let i = c .before .before .before .before .loop .inv in
       gathering-refused (marked-repetition _ _ _ _) (i .gathering) (rw (c .before .number .given .1) at (c .before .before .before .keyword .ensures)) kept-refl
 
-  pub spec : {M : Type 1} → lts.Closed claims (marks-at t) Post M
+  pub spec : {M : Type 1} → lts.Closed claims (ranks.marks .at t) Post M
   spec =
-      lts.spec claims (marks-at t) Post Inv-loop μ-loop
+      lts.spec claims (ranks.marks .at t) Post Inv-loop μ-loop
       loop-holds
       keyword-requires
       (λ c. search needs)

@@ -18,7 +18,7 @@ use Rattle.parsing.proofs.Reached.{Reached, begin, token, built, skippe
 use Rattle.parsing.proofs as fn
 use fn.expr.+call+chain+cond+expr+imp+juct+label+left+logic+paren+primary+right+seq-arg+seq-bind+seq-item+seq-items+seq-lift+seq-list+seq-marks+seq-param+seq-params+seq-prop+seq-quant+tight+unary+val+word as cycle
 use cycle.Lts-seq-param as lts
-use cycle.Proof.Ranks.{param-at, expr-below}
+use cycle.Proof.Ranks as ranks
 use fn.expr.seq.param.Reads.{Post}
 
 abbrev with-invariant : PParameter Span → Option (Expr Span) → PParameter Span
@@ -41,7 +41,7 @@ module _ (t : ℕ) where
     fn.leaf.moded.Reads.Learnt,
     fn.step.keyword.Reads.Asked,
     fn.step.keyword.Reads.Learnt,
-    expr-below t,
+    ranks.expr .below t,
     fn.expr.expr.Reads.Post,
     fn.leaf.needed.Reads.Asked,
     fn.leaf.needed.Reads.Learnt,
@@ -52,7 +52,7 @@ module _ (t : ℕ) where
   )
 
   abbrev Of : (lts.Claims → In 2 lts.ps → Out 2 lts.ps lts.r → Type 0) → Type 0
-  Of N = N claims (param-at t) Post
+  Of N = N claims (ranks.param .at t) Post
 
   abbrev at-start : Of lts.Start → Reached (PParameter Span)
   at-start c = begin (c .args .depth) 1 (rule (c .args .text .now) (c .args .depth) (c .args .at)) (c .pre .0) (c .pre .1)
@@ -133,9 +133,9 @@ module _ (t : ℕ) where
   returns-5 : Of lts.Need-returns-5
   returns-5 c = refuses (at-bound (c .before .before .before .before .before .before)) (optional-rest _ _ _ _ _ _ ∙ after-refused _ _ (rw (c .before .number .given .1) at (c .before .before .before .keyword .ensures)))
 
-  pub spec : {M : Type 1} → lts.Closed claims (param-at t) Post M
+  pub spec : {M : Type 1} → lts.Closed claims (ranks.param .at t) Post M
   spec =
-      lts.spec claims (param-at t) Post
+      lts.spec claims (ranks.param .at t) Post
       moded-requires
       (λ c. search needs)
       same-length

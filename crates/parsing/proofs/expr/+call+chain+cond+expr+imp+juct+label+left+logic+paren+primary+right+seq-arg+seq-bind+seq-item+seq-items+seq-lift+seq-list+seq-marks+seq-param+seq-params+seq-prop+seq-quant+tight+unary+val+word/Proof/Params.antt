@@ -12,15 +12,15 @@ use Rattle.parsing.specs.declared.expr.seq.Kind.the-variants.{Bindings a
 use Rattle.parsing.proofs as fn
 use fn.expr.+call+chain+cond+expr+imp+juct+label+left+logic+paren+primary+right+seq-arg+seq-bind+seq-item+seq-items+seq-lift+seq-list+seq-marks+seq-param+seq-params+seq-prop+seq-quant+tight+unary+val+word as cycle
 use cycle.Lts-seq-params as lts
-use cycle.Proof.Ranks.{params-at, list-below}
+use cycle.Proof.Ranks as ranks
 use fn.expr.seq.params.Reads.{Post}
 
 module _ (t : ℕ) where
   abbrev claims : lts.Claims
-  claims = (fn.step.sym.Reads.Asked, fn.step.sym.Reads.Learnt, list-below t, fn.expr.seq.list.Reads.Post)
+  claims = (fn.step.sym.Reads.Asked, fn.step.sym.Reads.Learnt, ranks.list .below t, fn.expr.seq.list.Reads.Post)
 
   abbrev Of : (lts.Claims → In 2 lts.ps → Out 2 lts.ps lts.r → Type 0) → Type 0
-  Of N = N claims (params-at t) Post
+  Of N = N claims (ranks.params .at t) Post
 
   sym-requires : Of lts.Need-sym-requires
   sym-requires c κs = c .before .before .before .pre .1 .inside
@@ -49,9 +49,9 @@ module _ (t : ℕ) where
   unfolding parseParameters
   returns-3 c = record { kept = kept-refl; agrees = after-refused _ _ (rw (c .before .number .given .1) at (c .before .before .before .sym .ensures)) }
 
-  pub spec : {M : Type 1} → lts.Closed claims (params-at t) Post M
+  pub spec : {M : Type 1} → lts.Closed claims (ranks.params .at t) Post M
   spec =
-      lts.spec claims (params-at t) Post
+      lts.spec claims (ranks.params .at t) Post
       (λ c. search needs)
       sym-requires
       (λ c. search needs)

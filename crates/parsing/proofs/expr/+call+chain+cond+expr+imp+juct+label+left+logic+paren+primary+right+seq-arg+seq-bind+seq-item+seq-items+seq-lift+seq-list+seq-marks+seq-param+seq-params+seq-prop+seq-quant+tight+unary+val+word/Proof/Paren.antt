@@ -16,7 +16,7 @@ use Rattle.parsing.proofs.Closing.{shut-done}
 use Rattle.parsing.proofs as fn
 use fn.expr.+call+chain+cond+expr+imp+juct+label+left+logic+paren+primary+right+seq-arg+seq-bind+seq-item+seq-items+seq-lift+seq-list+seq-marks+seq-param+seq-params+seq-prop+seq-quant+tight+unary+val+word as cycle
 use cycle.Lts-paren as lts
-use cycle.Proof.Ranks.{paren-at, expr-below}
+use cycle.Proof.Ranks as ranks
 use fn.expr.paren.Reads.{Post}
 
 rule : (text : List ℕ) (c : Reader (Expr Span)) (at : ℕ)
@@ -27,10 +27,10 @@ rule text c at = refl
 
 module _ (t : ℕ) where
   abbrev claims : lts.Claims
-  claims = (fn.step.sym.Reads.Asked, fn.step.sym.Reads.Learnt, fn.leaf.untaken.Reads.Asked, fn.leaf.untaken.Reads.Learnt, expr-below t, fn.expr.expr.Reads.Post, fn.leaf.needed.Reads.Asked, fn.leaf.needed.Reads.Learnt, fn.leaf.shut.Reads.Asked, fn.leaf.shut.Reads.Learnt)
+  claims = (fn.step.sym.Reads.Asked, fn.step.sym.Reads.Learnt, fn.leaf.untaken.Reads.Asked, fn.leaf.untaken.Reads.Learnt, ranks.expr .below t, fn.expr.expr.Reads.Post, fn.leaf.needed.Reads.Asked, fn.leaf.needed.Reads.Learnt, fn.leaf.shut.Reads.Asked, fn.leaf.shut.Reads.Learnt)
 
   abbrev Of : (lts.Claims → In 2 lts.ps → Out 2 lts.ps lts.r → Type 0) → Type 0
-  Of N = N claims (paren-at t) Post
+  Of N = N claims (ranks.paren .at t) Post
 
   abbrev at-start : Of lts.Start → Reached (Expr Span)
   at-start c = begin (c .args .depth) 1 (rule (c .args .text .now) (inner (c .args .text .now) (c .args .depth)) (c .args .at)) (c .pre .0) (c .pre .1)
@@ -65,9 +65,9 @@ module _ (t : ℕ) where
   returns-3 : Of lts.Need-returns-3
   returns-3 c = shut-done (at-body (c .before .before .before)) _ _ (c .shut .result) refl refl (c .shut .ensures) refl refl
 
-  pub spec : {M : Type 1} → lts.Closed claims (paren-at t) Post M
+  pub spec : {M : Type 1} → lts.Closed claims (ranks.paren .at t) Post M
   spec =
-      lts.spec claims (paren-at t) Post
+      lts.spec claims (ranks.paren .at t) Post
       (λ c. search needs)
       sym-requires
       (λ c. search needs)

@@ -11,15 +11,15 @@ use Rattle.parsing.proofs.Identifiers.{name-worded, primary-refused, wo
 use Rattle.parsing.proofs as fn
 use fn.expr.+call+chain+cond+expr+imp+juct+label+left+logic+paren+primary+right+seq-arg+seq-bind+seq-item+seq-items+seq-lift+seq-list+seq-marks+seq-param+seq-params+seq-prop+seq-quant+tight+unary+val+word as cycle
 use cycle.Lts-primary as lts
-use cycle.Proof.Ranks.{primary-at, word-below, paren-below}
+use cycle.Proof.Ranks as ranks
 use fn.expr.primary.Reads.{Post}
 
 module _ (t : ℕ) where
   abbrev claims : lts.Claims
-  claims = (fn.step.name.Reads.Asked, fn.step.name.Reads.Learnt, word-below t, fn.expr.word.Reads.Post, fn.leaf.literal.Reads.Asked, fn.leaf.literal.Reads.Learnt, paren-below t, fn.expr.paren.Reads.Post)
+  claims = (fn.step.name.Reads.Asked, fn.step.name.Reads.Learnt, ranks.word .below t, fn.expr.word.Reads.Post, fn.leaf.literal.Reads.Asked, fn.leaf.literal.Reads.Learnt, ranks.paren .below t, fn.expr.paren.Reads.Post)
 
   abbrev Of : (lts.Claims → In 2 lts.ps → Out 2 lts.ps lts.r → Type 0) → Type 0
-  Of N = N claims (primary-at t) Post
+  Of N = N claims (ranks.primary .at t) Post
 
   name-requires : Of lts.Need-name-requires
   name-requires c κs = c .before .before .pre .1 .inside
@@ -68,9 +68,9 @@ module _ (t : ℕ) where
   returns-4 : Of lts.Need-returns-4
   returns-4 c = record { kept = kept-refl; agrees = primary-refused (c .before .before .before .before .before .before .args .text .now) (c .before .before .before .before .before .before .args .at) (rw (c .before .number .given .1) at (c .before .before .before .name .ensures)) _ _ }
 
-  pub spec : {M : Type 1} → lts.Closed claims (primary-at t) Post M
+  pub spec : {M : Type 1} → lts.Closed claims (ranks.primary .at t) Post M
   spec =
-      lts.spec claims (primary-at t) Post
+      lts.spec claims (ranks.primary .at t) Post
       name-requires
       (λ c. search needs)
       word-requires

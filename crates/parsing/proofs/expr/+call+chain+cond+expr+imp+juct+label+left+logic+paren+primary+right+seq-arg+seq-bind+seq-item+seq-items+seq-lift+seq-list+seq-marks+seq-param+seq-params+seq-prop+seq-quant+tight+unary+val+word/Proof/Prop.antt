@@ -18,7 +18,7 @@ use Rattle.parsing.proofs.Reached.{Reached, begin, built, room-for, len
 use Rattle.parsing.proofs as fn
 use fn.expr.+call+chain+cond+expr+imp+juct+label+left+logic+paren+primary+right+seq-arg+seq-bind+seq-item+seq-items+seq-lift+seq-list+seq-marks+seq-param+seq-params+seq-prop+seq-quant+tight+unary+val+word as cycle
 use cycle.Lts-seq-prop as lts
-use cycle.Proof.Ranks.{prop-at, marks-below, expr-below}
+use cycle.Proof.Ranks as ranks
 use fn.expr.seq.prop.Reads.{Post}
 
 rule : (text : List ℕ) (m : ℕ) (c : Reader (Expr Span)) (at : ℕ)
@@ -28,10 +28,10 @@ rule text m c at = refl
 
 module _ (t : ℕ) where
   abbrev claims : lts.Claims
-  claims = (fn.step.keyword.Reads.Asked, fn.step.keyword.Reads.Learnt, marks-below t, fn.expr.seq.marks.Reads.Post, expr-below t, fn.expr.expr.Reads.Post, fn.leaf.needed_if.Reads.Asked, fn.leaf.needed_if.Reads.Learnt, fn.build.over.Reads.Asked, fn.build.over.Reads.Learnt)
+  claims = (fn.step.keyword.Reads.Asked, fn.step.keyword.Reads.Learnt, ranks.marks .below t, fn.expr.seq.marks.Reads.Post, ranks.expr .below t, fn.expr.expr.Reads.Post, fn.leaf.needed_if.Reads.Asked, fn.leaf.needed_if.Reads.Learnt, fn.build.over.Reads.Asked, fn.build.over.Reads.Learnt)
 
   abbrev Of : (lts.Claims → In 2 lts.ps → Out 2 lts.ps lts.r → Type 0) → Type 0
-  Of N = N claims (prop-at t) Post
+  Of N = N claims (ranks.prop .at t) Post
 
   abbrev at-start : Of lts.Start → Reached PropertyItem
   at-start c =
@@ -84,9 +84,9 @@ module _ (t : ℕ) where
       (c .before .before .before .before .before .before .before .before .before .expr .ensures) (c .before .before .over .ensures .0)
       (c .before .before .over .ensures .1) refl
 
-  pub spec : {M : Type 1} → lts.Closed claims (prop-at t) Post M
+  pub spec : {M : Type 1} → lts.Closed claims (ranks.prop .at t) Post M
   spec =
-      lts.spec claims (prop-at t) Post
+      lts.spec claims (ranks.prop .at t) Post
       (λ c. search needs)
       keyword-requires
       (λ c. search needs)

@@ -17,7 +17,7 @@ use Rattle.parsing.proofs.Reached.{Reached, begin, built, noted, four-m
 use Rattle.parsing.proofs as fn
 use fn.expr.+call+chain+cond+expr+imp+juct+label+left+logic+paren+primary+right+seq-arg+seq-bind+seq-item+seq-items+seq-lift+seq-list+seq-marks+seq-param+seq-params+seq-prop+seq-quant+tight+unary+val+word as cycle
 use cycle.Lts-seq-quant as lts
-use cycle.Proof.Ranks.{quant-at, items-below, marks-below, expr-below}
+use cycle.Proof.Ranks as ranks
 use fn.expr.seq.quant.Reads.{Post}
 
 rule : (text : List ℕ) (m : ℕ) (c : Reader (Expr Span)) (universal : Bool) (at : ℕ)
@@ -33,20 +33,20 @@ module _ (t : ℕ) where
   claims = (
     fn.arena.node.Reads.Asked,
     fn.arena.node.Reads.Learnt,
-    items-below t,
+    ranks.items .below t,
     fn.expr.seq.items.Reads.Post,
     fn.leaf.needed.Reads.Asked,
     fn.leaf.needed.Reads.Learnt,
-    marks-below t,
+    ranks.marks .below t,
     fn.expr.seq.marks.Reads.Post,
-    expr-below t,
+    ranks.expr .below t,
     fn.expr.expr.Reads.Post,
     fn.build.four.Reads.Asked,
     fn.build.four.Reads.Learnt,
   )
 
   abbrev Of : (lts.Claims → In 2 lts.ps → Out 2 lts.ps lts.r → Type 0) → Type 0
-  Of N = N claims (quant-at t) Post
+  Of N = N claims (ranks.quant .at t) Post
 
   abbrev at-start : Of lts.Start → Reached (Expr Span)
   at-start c = begin (c .args .depth) 4 (rule (c .args .text .now) (turns (c .args .text .now)) (inner (c .args .text .now) (c .args .depth)) (boolOf (c .args .universal)) (c .args .at)) (c .pre .0) (c .pre .1 .0)
@@ -111,9 +111,9 @@ module _ (t : ℕ) where
   returns-4 : Of lts.Need-returns-4
   returns-4 c = done (at-four (c .before .before)) refl refl (c .before .before .four .ensures .0) refl refl
 
-  pub spec : {M : Type 1} → lts.Closed claims (quant-at t) Post M
+  pub spec : {M : Type 1} → lts.Closed claims (ranks.quant .at t) Post M
   spec =
-      lts.spec claims (quant-at t) Post
+      lts.spec claims (ranks.quant .at t) Post
       node-requires
       add-items
       items-requires

@@ -10,7 +10,7 @@ use Rattle.parsing.proofs.RightChains.{Waiting, waiting-start, waiting-
 use Rattle.parsing.proofs as fn
 use fn.expr.+call+chain+cond+expr+imp+juct+label+left+logic+paren+primary+right+seq-arg+seq-bind+seq-item+seq-items+seq-lift+seq-list+seq-marks+seq-param+seq-params+seq-prop+seq-quant+tight+unary+val+word as cycle
 use cycle.Lts-right as lts
-use cycle.Proof.Ranks.{right-at, logic-below}
+use cycle.Proof.Ranks as ranks
 use fn.expr.right.Reads.{Post}
 
 abbrev Inv-loop : lts.InvT-loop
@@ -21,10 +21,10 @@ abbrev μ-loop : lts.MeasureT-loop
 
 module _ (t : ℕ) where
   abbrev claims : lts.Claims
-  claims = (fn.sign.operator.Reads.Asked, fn.sign.operator.Reads.Learnt, fn.arena.node.Reads.Asked, fn.arena.node.Reads.Learnt, logic-below t, fn.expr.logic.Reads.Post, fn.leaf.needed.Reads.Asked, fn.leaf.needed.Reads.Learnt, fn.build.fold.Reads.Asked, fn.build.fold.Reads.Learnt)
+  claims = (fn.sign.operator.Reads.Asked, fn.sign.operator.Reads.Learnt, fn.arena.node.Reads.Asked, fn.arena.node.Reads.Learnt, ranks.logic .below t, fn.expr.logic.Reads.Post, fn.leaf.needed.Reads.Asked, fn.leaf.needed.Reads.Learnt, fn.build.fold.Reads.Asked, fn.build.fold.Reads.Learnt)
 
   abbrev Of : (lts.Claims → In 2 lts.ps → Out 2 lts.ps lts.r → lts.InvT-loop → lts.MeasureT-loop → Type 0) → Type 0
-  Of N = N claims (right-at t) Post Inv-loop μ-loop
+  Of N = N claims (ranks.right .at t) Post Inv-loop μ-loop
 
   loop-holds : Of lts.Need-loop-holds
   loop-holds c = waiting-start (c .before .before .pre .1 .1) (c .before .before .pre .1 .0)
@@ -87,9 +87,9 @@ module _ (t : ℕ) where
   returns-3 : Of lts.Need-returns-3
   returns-3 c = waiting-refused (c .before .before .before .before .loop .inv) (rw (c .before .number .given .1) at (c .before .before .before .operator .ensures))
 
-  pub spec : {M : Type 1} → lts.Closed claims (right-at t) Post M
+  pub spec : {M : Type 1} → lts.Closed claims (ranks.right .at t) Post M
   spec =
-      lts.spec claims (right-at t) Post Inv-loop μ-loop
+      lts.spec claims (ranks.right .at t) Post Inv-loop μ-loop
       loop-holds
       operator-requires
       (λ c. search needs)

@@ -8,15 +8,16 @@ use Rattle.grammar.specs.Rules.{parseFactorExpr, parseTermExpr}
 use Rattle.parsing.proofs as fn
 use fn.expr.+call+chain+cond+expr+imp+juct+label+left+logic+paren+primary+right+seq-arg+seq-bind+seq-item+seq-items+seq-lift+seq-list+seq-marks+seq-param+seq-params+seq-prop+seq-quant+tight+unary+val+word as cycle
 use cycle.Lts-tight as lts
-use cycle.Proof.Ranks.{levelRank, tight-at, unary-below, chain-below, juct-below, logic-below, imp-below}
+use cycle.Proof.Ranks as ranks
+use cycle.Proof.Ranks.{levelRank}
 use fn.expr.tight.Reads.{Post}
 
 module _ (t : ℕ) where
   abbrev claims : lts.Claims
-  claims = (unary-below t, fn.expr.unary.Reads.Post, chain-below t, fn.expr.chain.Reads.Post, juct-below t, fn.expr.juct.Reads.Post, logic-below t, fn.expr.logic.Reads.Post, imp-below t, fn.expr.imp.Reads.Post)
+  claims = (ranks.unary .below t, fn.expr.unary.Reads.Post, ranks.chain .below t, fn.expr.chain.Reads.Post, ranks.juct .below t, fn.expr.juct.Reads.Post, ranks.logic .below t, fn.expr.logic.Reads.Post, ranks.imp .below t, fn.expr.imp.Reads.Post)
 
   abbrev Of : (lts.Claims → In 2 lts.ps → Out 2 lts.ps lts.r → Type 0) → Type 0
-  Of N = N claims (tight-at t) Post
+  Of N = N claims (ranks.tight .at t) Post
 
   unary-requires : Of lts.Need-unary-requires
   unary-requires c κs = (omega (arith, c .before .before .before .before .before .pre .0, ap levelRank (c .before .enum-told .given .1)), c .before .before .before .before .before .pre .1)
@@ -92,9 +93,9 @@ module _ (t : ℕ) where
   returns-8 : Of lts.Need-returns-8
   returns-8 c = rw (c .before .before .before .before .enum-told8 .given .1) (c .before .before .imp .ensures)
 
-  pub spec : {M : Type 1} → lts.Closed claims (tight-at t) Post M
+  pub spec : {M : Type 1} → lts.Closed claims (ranks.tight .at t) Post M
   spec =
-      lts.spec claims (tight-at t) Post
+      lts.spec claims (ranks.tight .at t) Post
       (λ c. search needs)
       unary-requires
       (λ c. search needs)

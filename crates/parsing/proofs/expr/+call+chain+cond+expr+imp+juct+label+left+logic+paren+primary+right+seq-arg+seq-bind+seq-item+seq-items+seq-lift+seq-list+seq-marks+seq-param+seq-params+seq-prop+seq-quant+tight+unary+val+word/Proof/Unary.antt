@@ -10,7 +10,7 @@ use Rattle.parsing.proofs.UnaryChains.{Signed, signed-start, signed-roo
 use Rattle.parsing.proofs as fn
 use fn.expr.+call+chain+cond+expr+imp+juct+label+left+logic+paren+primary+right+seq-arg+seq-bind+seq-item+seq-items+seq-lift+seq-list+seq-marks+seq-param+seq-params+seq-prop+seq-quant+tight+unary+val+word as cycle
 use cycle.Lts-unary as lts
-use cycle.Proof.Ranks.{unary-at, primary-below}
+use cycle.Proof.Ranks as ranks
 use fn.expr.unary.Reads.{Post}
 
 abbrev Inv-loop : lts.InvT-loop
@@ -21,10 +21,10 @@ abbrev μ-loop : lts.MeasureT-loop
 
 module _ (t : ℕ) where
   abbrev claims : lts.Claims
-  claims = (fn.sign.unary_operator.Reads.Asked, fn.sign.unary_operator.Reads.Learnt, fn.arena.node.Reads.Asked, fn.arena.node.Reads.Learnt, primary-below t, fn.expr.primary.Reads.Post, fn.leaf.needed.Reads.Asked, fn.leaf.needed.Reads.Learnt, fn.build.fold.Reads.Asked, fn.build.fold.Reads.Learnt)
+  claims = (fn.sign.unary_operator.Reads.Asked, fn.sign.unary_operator.Reads.Learnt, fn.arena.node.Reads.Asked, fn.arena.node.Reads.Learnt, ranks.primary .below t, fn.expr.primary.Reads.Post, fn.leaf.needed.Reads.Asked, fn.leaf.needed.Reads.Learnt, fn.build.fold.Reads.Asked, fn.build.fold.Reads.Learnt)
 
   abbrev Of : (lts.Claims → In 2 lts.ps → Out 2 lts.ps lts.r → lts.InvT-loop → lts.MeasureT-loop → Type 0) → Type 0
-  Of N = N claims (unary-at t) Post Inv-loop μ-loop
+  Of N = N claims (ranks.unary .at t) Post Inv-loop μ-loop
 
   loop-holds : Of lts.Need-loop-holds
   loop-holds c = signed-start (c .before .before .pre .1)
@@ -96,9 +96,9 @@ module _ (t : ℕ) where
       (c .before .before .before .before .before .before .before .before .before .before .before .before .before .before .before .before .before .pre .1)
       (c .before .before .fold .ensures .0) (c .before .before .fold .ensures .1)
 
-  pub spec : {M : Type 1} → lts.Closed claims (unary-at t) Post M
+  pub spec : {M : Type 1} → lts.Closed claims (ranks.unary .at t) Post M
   spec =
-      lts.spec claims (unary-at t) Post Inv-loop μ-loop
+      lts.spec claims (ranks.unary .at t) Post Inv-loop μ-loop
       loop-holds
       unary-operator-requires
       (λ c. search needs)

@@ -16,7 +16,7 @@ use Rattle.parsing.proofs.Reached.{Reached, begin, token, built, noted,
 use Rattle.parsing.proofs as fn
 use fn.expr.+call+chain+cond+expr+imp+juct+label+left+logic+paren+primary+right+seq-arg+seq-bind+seq-item+seq-items+seq-lift+seq-list+seq-marks+seq-param+seq-params+seq-prop+seq-quant+tight+unary+val+word as cycle
 use cycle.Lts-val as lts
-use cycle.Proof.Ranks.{val-at, expr-below}
+use cycle.Proof.Ranks as ranks
 use fn.expr.val.Reads.{Post}
 
 rule : (text : List ℕ) (c : Reader (Expr Span)) (at : ℕ)
@@ -43,14 +43,14 @@ module _ (t : ℕ) where
     fn.leaf.needed.Reads.Learnt,
     fn.step.sym.Reads.Asked,
     fn.step.sym.Reads.Learnt,
-    expr-below t,
+    ranks.expr .below t,
     fn.expr.expr.Reads.Post,
     fn.build.four.Reads.Asked,
     fn.build.four.Reads.Learnt,
   )
 
   abbrev Of : (lts.Claims → In 2 lts.ps → Out 2 lts.ps lts.r → Type 0) → Type 0
-  Of N = N claims (val-at t) Post
+  Of N = N claims (ranks.val .at t) Post
 
   abbrev at-start : Of lts.Start → Reached (Expr Span)
   at-start c = begin (c .args .depth) 1 (rule (c .args .text .now) (inner (c .args .text .now) (c .args .depth)) (c .args .at)) (c .pre .0) (c .pre .1)
@@ -142,9 +142,9 @@ module _ (t : ℕ) where
   returns-6 : Of lts.Need-returns-6
   returns-6 c = done (at-four (c .before .before)) refl refl (c .before .before .four .ensures .0) refl refl
 
-  pub spec : {M : Type 1} → lts.Closed claims (val-at t) Post M
+  pub spec : {M : Type 1} → lts.Closed claims (ranks.val .at t) Post M
   spec =
-      lts.spec claims (val-at t) Post
+      lts.spec claims (ranks.val .at t) Post
       name-requires
       (λ c. search needs)
       (λ c κs. search needs)

@@ -13,7 +13,7 @@ use Rattle.parsing.proofs.Identifiers.{word-past, word-long, word-stand
 use Rattle.parsing.proofs as fn
 use fn.expr.+call+chain+cond+expr+imp+juct+label+left+logic+paren+primary+right+seq-arg+seq-bind+seq-item+seq-items+seq-lift+seq-list+seq-marks+seq-param+seq-params+seq-prop+seq-quant+tight+unary+val+word as cycle
 use cycle.Lts-word as lts
-use cycle.Proof.Ranks.{word-at, cond-below, val-below, quant-below, lift-below, call-below, label-below}
+use cycle.Proof.Ranks as ranks
 use fn.expr.word.Reads.{Post}
 
 module _ (t : ℕ) where
@@ -21,26 +21,26 @@ module _ (t : ℕ) where
   claims = (
     fn.step.is_word.Reads.Asked,
     fn.step.is_word.Reads.Learnt,
-    cond-below t,
+    ranks.cond .below t,
     fn.expr.cond.Reads.Post,
-    val-below t,
+    ranks.val .below t,
     fn.expr.val.Reads.Post,
-    quant-below t,
+    ranks.quant .below t,
     fn.expr.seq.quant.Reads.Post,
-    lift-below t,
+    ranks.lift .below t,
     fn.expr.seq.lift.Reads.Post,
     fn.leaf.constant.Reads.Asked,
     fn.leaf.constant.Reads.Learnt,
     fn.step.sym.Reads.Asked,
     fn.step.sym.Reads.Learnt,
-    call-below t,
+    ranks.call .below t,
     fn.expr.call.Reads.Post,
-    label-below t,
+    ranks.label .below t,
     fn.expr.label.Reads.Post,
   )
 
   abbrev Of : (lts.Claims → In 2 lts.ps → Out 2 lts.ps lts.r → Type 0) → Type 0
-  Of N = N claims (word-at t) Post
+  Of N = N claims (ranks.word .at t) Post
 
   is-word-requires : Of lts.Need-is-word-requires
   is-word-requires c κs = omega (arith, c .before .before .before .pre .1 .1)
@@ -283,9 +283,9 @@ module _ (t : ℕ) where
       (builds-else _ _ (rw (c .before .before .before .before .before .enum-told .given .1) at (c .before .before .before .before .before .before .before .before .before .constant .ensures .agrees))
       (record { kept = c .before .before .before .before .before .before .before .before .before .constant .ensures .kept; agrees = after-refused _ _ (rw (c .before .number .given .1) at (c .before .before .before .sym .ensures)) })))))))
 
-  pub spec : {M : Type 1} → lts.Closed claims (word-at t) Post M
+  pub spec : {M : Type 1} → lts.Closed claims (ranks.word .at t) Post M
   spec =
-      lts.spec claims (word-at t) Post
+      lts.spec claims (ranks.word .at t) Post
       (λ c. search needs)
       is-word-requires
       cond-requires

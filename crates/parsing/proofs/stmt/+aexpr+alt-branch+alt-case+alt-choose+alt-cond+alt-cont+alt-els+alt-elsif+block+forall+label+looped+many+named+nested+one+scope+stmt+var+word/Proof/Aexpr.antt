@@ -13,15 +13,15 @@ use Rattle.parsing.proofs.StatementEquations.{aexpr-rule}
 use Rattle.parsing.proofs as fn
 use fn.stmt.+aexpr+alt-branch+alt-case+alt-choose+alt-cond+alt-cont+alt-els+alt-elsif+block+forall+label+looped+many+named+nested+one+scope+stmt+var+word as cycle
 use cycle.Lts-aexpr as lts
-use cycle.Proof.Ranks.{aexpr-at, block-below}
+use cycle.Proof.Ranks as ranks
 use fn.stmt.aexpr.Reads.{Post}
 
 module _ (t : ℕ) where
   abbrev claims : lts.Claims
-  claims = (fn.step.keyword.Reads.Asked, fn.step.keyword.Reads.Learnt, fn.leaf.untaken.Reads.Asked, fn.leaf.untaken.Reads.Learnt, block-below t, fn.stmt.block.Reads.Post, fn.build.over.Reads.Asked, fn.build.over.Reads.Learnt, fn.simple.stated.Reads.Asked, fn.simple.stated.Reads.Learnt)
+  claims = (fn.step.keyword.Reads.Asked, fn.step.keyword.Reads.Learnt, fn.leaf.untaken.Reads.Asked, fn.leaf.untaken.Reads.Learnt, ranks.block .below t, fn.stmt.block.Reads.Post, fn.build.over.Reads.Asked, fn.build.over.Reads.Learnt, fn.simple.stated.Reads.Asked, fn.simple.stated.Reads.Learnt)
 
   abbrev Of : (lts.Claims → In 3 lts.ps → Out 3 lts.ps lts.r → Type 0) → Type 0
-  Of N = N claims (aexpr-at t) Post
+  Of N = N claims (ranks.aexpr .at t) Post
 
   abbrev at-start : Of lts.Start → Reached (AExpr Span)
   at-start c = begin (c .args .depth) 1 (aexpr-rule (c .args .text .now) (c .args .depth) (c .args .w .now) (c .args .at)) (c .pre .0) (c .pre .1 .0)
@@ -71,9 +71,9 @@ module _ (t : ℕ) where
   returns-4 : Of lts.Need-returns-4
   returns-4 c = passes-on (at-word (c .before .before .before .before .before .before .before .before)) _ _ refl (c .before .number .given .1) (c .before .before .before .before .before .block .ensures)
 
-  pub spec : {M : Type 1} → lts.Closed claims (aexpr-at t) Post M
+  pub spec : {M : Type 1} → lts.Closed claims (ranks.aexpr .at t) Post M
   spec =
-      lts.spec claims (aexpr-at t) Post
+      lts.spec claims (ranks.aexpr .at t) Post
       keyword-requires
       (λ c. search needs)
       (λ c κs. search needs)

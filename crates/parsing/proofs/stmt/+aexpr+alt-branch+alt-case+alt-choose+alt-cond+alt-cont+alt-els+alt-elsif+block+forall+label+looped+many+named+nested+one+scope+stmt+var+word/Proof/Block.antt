@@ -12,15 +12,15 @@ use Rattle.parsing.proofs.StatementRules.{block-rule, block-deep, block
 use Rattle.parsing.proofs as fn
 use fn.stmt.+aexpr+alt-branch+alt-case+alt-choose+alt-cond+alt-cont+alt-els+alt-elsif+block+forall+label+looped+many+named+nested+one+scope+stmt+var+word as cycle
 use cycle.Lts-block as lts
-use cycle.Proof.Ranks.{block-at, many-below}
+use cycle.Proof.Ranks as ranks
 use fn.stmt.block.Reads.{Post}
 
 module _ (t : ℕ) where
   abbrev claims : lts.Claims
-  claims = (fn.step.sym.Reads.Asked, fn.step.sym.Reads.Learnt, fn.leaf.untaken.Reads.Asked, fn.leaf.untaken.Reads.Learnt, many-below t, fn.stmt.many.Reads.Post, fn.leaf.needed.Reads.Asked, fn.leaf.needed.Reads.Learnt, fn.leaf.missing.Reads.Asked, fn.leaf.missing.Reads.Learnt, fn.build.over.Reads.Asked, fn.build.over.Reads.Learnt)
+  claims = (fn.step.sym.Reads.Asked, fn.step.sym.Reads.Learnt, fn.leaf.untaken.Reads.Asked, fn.leaf.untaken.Reads.Learnt, ranks.many .below t, fn.stmt.many.Reads.Post, fn.leaf.needed.Reads.Asked, fn.leaf.needed.Reads.Learnt, fn.leaf.missing.Reads.Asked, fn.leaf.missing.Reads.Learnt, fn.build.over.Reads.Asked, fn.build.over.Reads.Learnt)
 
   abbrev Of : (lts.Claims → In 2 lts.ps → Out 2 lts.ps lts.r → Type 0) → Type 0
-  Of N = N claims (block-at t) Post
+  Of N = N claims (ranks.block .at t) Post
 
   abbrev at-start : Of lts.Start → Reached (Stmt Span)
   at-start c = begin (c .args .depth) 0 (block-rule (c .args .text .now) (c .args .depth) (c .args .at)) (c .pre .0) (c .pre .1)
@@ -79,9 +79,9 @@ module _ (t : ℕ) where
   returns-5 : Of lts.Need-returns-5
   returns-5 c = spared (at-over (c .before .before)) refl refl (c .before .before .over .ensures .0) refl refl
 
-  pub spec : {M : Type 1} → lts.Closed claims (block-at t) Post M
+  pub spec : {M : Type 1} → lts.Closed claims (ranks.block .at t) Post M
   spec =
-      lts.spec claims (block-at t) Post
+      lts.spec claims (ranks.block .at t) Post
       (λ c. search needs)
       sym-requires
       (λ c. search needs)

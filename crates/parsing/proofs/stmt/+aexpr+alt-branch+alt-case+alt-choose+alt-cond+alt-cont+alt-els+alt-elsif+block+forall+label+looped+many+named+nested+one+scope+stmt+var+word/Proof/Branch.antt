@@ -13,15 +13,15 @@ use Rattle.parsing.proofs.StatementEquations.{or-rule, or-body}
 use Rattle.parsing.proofs as fn
 use fn.stmt.+aexpr+alt-branch+alt-case+alt-choose+alt-cond+alt-cont+alt-els+alt-elsif+block+forall+label+looped+many+named+nested+one+scope+stmt+var+word as cycle
 use cycle.Lts-alt-branch as lts
-use cycle.Proof.Ranks.{branch-at, block-below}
+use cycle.Proof.Ranks as ranks
 use fn.stmt.alt.branch.Reads.{Post}
 
 module _ (t : ℕ) where
   abbrev claims : lts.Claims
-  claims = (fn.step.keyword.Reads.Asked, fn.step.keyword.Reads.Learnt, fn.leaf.untaken.Reads.Asked, fn.leaf.untaken.Reads.Learnt, block-below t, fn.stmt.block.Reads.Post, fn.leaf.needed.Reads.Asked, fn.leaf.needed.Reads.Learnt)
+  claims = (fn.step.keyword.Reads.Asked, fn.step.keyword.Reads.Learnt, fn.leaf.untaken.Reads.Asked, fn.leaf.untaken.Reads.Learnt, ranks.block .below t, fn.stmt.block.Reads.Post, fn.leaf.needed.Reads.Asked, fn.leaf.needed.Reads.Learnt)
 
   abbrev Of : (lts.Claims → In 2 lts.ps → Out 2 lts.ps lts.r → Type 0) → Type 0
-  Of N = N claims (branch-at t) Post
+  Of N = N claims (ranks.branch .at t) Post
 
   abbrev at-start : Of lts.Start → Reached (Stmt Span)
   at-start c = begin (c .args .depth) 1 (or-rule (c .args .text .now) (c .args .depth) (c .args .at)) (c .pre .0) (c .pre .1)
@@ -44,9 +44,9 @@ module _ (t : ℕ) where
   returns-2 : Of lts.Need-returns-2
   returns-2 c = leaves-as (at-word (c .before .before .before .before .before .before)) (or-body _ _) (leaves-builds (builds-must _ (c .before .before .before .block .result) (c .needed .ensures) (c .before .before .before .block .ensures))) refl refl
 
-  pub spec : {M : Type 1} → lts.Closed claims (branch-at t) Post M
+  pub spec : {M : Type 1} → lts.Closed claims (ranks.branch .at t) Post M
   spec =
-      lts.spec claims (branch-at t) Post
+      lts.spec claims (ranks.branch .at t) Post
       (λ c. search needs)
       keyword-requires
       (λ c. search needs)

@@ -13,15 +13,15 @@ use Rattle.parsing.proofs.StatementEquations.{case-rule}
 use Rattle.parsing.proofs as fn
 use fn.stmt.+aexpr+alt-branch+alt-case+alt-choose+alt-cond+alt-cont+alt-els+alt-elsif+block+forall+label+looped+many+named+nested+one+scope+stmt+var+word as cycle
 use cycle.Lts-alt-case as lts
-use cycle.Proof.Ranks.{case-at, block-below}
+use cycle.Proof.Ranks as ranks
 use fn.stmt.alt.case.Reads.{Post}
 
 module _ (t : ℕ) where
   abbrev claims : lts.Claims
-  claims = (fn.step.keyword.Reads.Asked, fn.step.keyword.Reads.Learnt, fn.leaf.untaken.Reads.Asked, fn.leaf.untaken.Reads.Learnt, fn.expr.expr.Reads.Asked, fn.expr.expr.Reads.Learnt, fn.leaf.needed.Reads.Asked, fn.leaf.needed.Reads.Learnt, block-below t, fn.stmt.block.Reads.Post, fn.build.over.Reads.Asked, fn.build.over.Reads.Learnt)
+  claims = (fn.step.keyword.Reads.Asked, fn.step.keyword.Reads.Learnt, fn.leaf.untaken.Reads.Asked, fn.leaf.untaken.Reads.Learnt, fn.expr.expr.Reads.Asked, fn.expr.expr.Reads.Learnt, fn.leaf.needed.Reads.Asked, fn.leaf.needed.Reads.Learnt, ranks.block .below t, fn.stmt.block.Reads.Post, fn.build.over.Reads.Asked, fn.build.over.Reads.Learnt)
 
   abbrev Of : (lts.Claims → In 2 lts.ps → Out 2 lts.ps lts.r → Type 0) → Type 0
-  Of N = N claims (case-at t) Post
+  Of N = N claims (ranks.case .at t) Post
 
   abbrev at-start : Of lts.Start → Reached (Expr Span × Stmt Span)
   at-start c = begin (c .args .depth) 1 (case-rule (c .args .text .now) (c .args .depth) (c .args .at)) (c .pre .0) (c .pre .1)
@@ -71,9 +71,9 @@ module _ (t : ℕ) where
   returns-4 : Of lts.Need-returns-4
   returns-4 c = spared (at-over (c .before .before)) refl refl (c .before .before .over .ensures .0) refl refl
 
-  pub spec : {M : Type 1} → lts.Closed claims (case-at t) Post M
+  pub spec : {M : Type 1} → lts.Closed claims (ranks.case .at t) Post M
   spec =
-      lts.spec claims (case-at t) Post
+      lts.spec claims (ranks.case .at t) Post
       (λ c. search needs)
       keyword-requires
       (λ c. search needs)

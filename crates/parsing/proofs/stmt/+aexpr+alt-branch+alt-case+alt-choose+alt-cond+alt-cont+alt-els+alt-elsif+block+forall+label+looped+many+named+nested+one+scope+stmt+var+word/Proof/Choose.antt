@@ -11,15 +11,15 @@ use Rattle.parsing.proofs.StatementEquations.{choose-rule}
 use Rattle.parsing.proofs as fn
 use fn.stmt.+aexpr+alt-branch+alt-case+alt-choose+alt-cond+alt-cont+alt-els+alt-elsif+block+forall+label+looped+many+named+nested+one+scope+stmt+var+word as cycle
 use cycle.Lts-alt-choose as lts
-use cycle.Proof.Ranks.{choose-at, block-below, many-below}
+use cycle.Proof.Ranks as ranks
 use fn.stmt.alt.choose.Reads.{Post}
 
 module _ (t : ℕ) where
   abbrev claims : lts.Claims
-  claims = (block-below t, fn.stmt.block.Reads.Post, fn.leaf.needed.Reads.Asked, fn.leaf.needed.Reads.Learnt, fn.arena.node.Reads.Asked, fn.arena.node.Reads.Learnt, many-below t, fn.stmt.many.Reads.Post, fn.build.over.Reads.Asked, fn.build.over.Reads.Learnt)
+  claims = (ranks.block .below t, fn.stmt.block.Reads.Post, fn.leaf.needed.Reads.Asked, fn.leaf.needed.Reads.Learnt, fn.arena.node.Reads.Asked, fn.arena.node.Reads.Learnt, ranks.many .below t, fn.stmt.many.Reads.Post, fn.build.over.Reads.Asked, fn.build.over.Reads.Learnt)
 
   abbrev Of : (lts.Claims → In 2 lts.ps → Out 2 lts.ps lts.r → Type 0) → Type 0
-  Of N = N claims (choose-at t) Post
+  Of N = N claims (ranks.choose .at t) Post
 
   abbrev at-start : Of lts.Start → Reached (Stmt Span)
   at-start c = begin (c .args .depth) 4 (choose-rule (c .args .text .now) (c .args .depth) (c .args .at)) (c .pre .0) (c .pre .1)
@@ -84,9 +84,9 @@ module _ (t : ℕ) where
   returns-3 : Of lts.Need-returns-3
   returns-3 c = done (at-over (c .before .before)) refl refl (c .before .before .over .ensures .0) refl refl
 
-  pub spec : {M : Type 1} → lts.Closed claims (choose-at t) Post M
+  pub spec : {M : Type 1} → lts.Closed claims (ranks.choose .at t) Post M
   spec =
-      lts.spec claims (choose-at t) Post
+      lts.spec claims (ranks.choose .at t) Post
       block-requires
       (λ c. search needs)
       (λ c κs. search needs)

@@ -11,15 +11,15 @@ use Rattle.parsing.proofs.Spared.{left}
 use Rattle.parsing.proofs as fn
 use fn.stmt.+aexpr+alt-branch+alt-case+alt-choose+alt-cond+alt-cont+alt-els+alt-elsif+block+forall+label+looped+many+named+nested+one+scope+stmt+var+word as cycle
 use cycle.Lts-alt-cond as lts
-use cycle.Proof.Ranks.{cond-at, block-below, els-below}
+use cycle.Proof.Ranks as ranks
 use fn.stmt.alt.cond.Reads.{Post}
 
 module _ (t : ℕ) where
   abbrev claims : lts.Claims
-  claims = (fn.expr.expr.Reads.Asked, fn.expr.expr.Reads.Learnt, block-below t, fn.stmt.block.Reads.Post, fn.leaf.needed.Reads.Asked, fn.leaf.needed.Reads.Learnt, els-below t, fn.stmt.alt.els.Reads.Post, fn.arena.node.Reads.Asked, fn.arena.node.Reads.Learnt, fn.build.over.Reads.Asked, fn.build.over.Reads.Learnt)
+  claims = (fn.expr.expr.Reads.Asked, fn.expr.expr.Reads.Learnt, ranks.block .below t, fn.stmt.block.Reads.Post, fn.leaf.needed.Reads.Asked, fn.leaf.needed.Reads.Learnt, ranks.els .below t, fn.stmt.alt.els.Reads.Post, fn.arena.node.Reads.Asked, fn.arena.node.Reads.Learnt, fn.build.over.Reads.Asked, fn.build.over.Reads.Learnt)
 
   abbrev Of : (lts.Claims → In 2 lts.ps → Out 2 lts.ps lts.r → Type 0) → Type 0
-  Of N = N claims (cond-at t) Post
+  Of N = N claims (ranks.cond .at t) Post
 
   abbrev at-start : Of lts.Start → Reached (Stmt Span)
   at-start c = begin {answer = condStmt (c .args .text .now) (c .args .depth) (c .args .at)} (c .args .depth) 2 refl (c .pre .0) (c .pre .1)
@@ -96,9 +96,9 @@ module _ (t : ℕ) where
   returns-4 : Of lts.Need-returns-4
   returns-4 c = done (at-over (c .before .before)) refl refl (c .before .before .over .ensures .0) refl refl
 
-  pub spec : {M : Type 1} → lts.Closed claims (cond-at t) Post M
+  pub spec : {M : Type 1} → lts.Closed claims (ranks.cond .at t) Post M
   spec =
-      lts.spec claims (cond-at t) Post
+      lts.spec claims (ranks.cond .at t) Post
       expr-requires
       (λ c. search needs)
       same-length

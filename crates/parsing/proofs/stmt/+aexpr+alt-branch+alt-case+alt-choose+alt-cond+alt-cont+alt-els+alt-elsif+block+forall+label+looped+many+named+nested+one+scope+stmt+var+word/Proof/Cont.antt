@@ -11,15 +11,15 @@ use Rattle.parsing.proofs.StatementEquations.{cont-rule}
 use Rattle.parsing.proofs as fn
 use fn.stmt.+aexpr+alt-branch+alt-case+alt-choose+alt-cond+alt-cont+alt-els+alt-elsif+block+forall+label+looped+many+named+nested+one+scope+stmt+var+word as cycle
 use cycle.Lts-alt-cont as lts
-use cycle.Proof.Ranks.{cont-at, case-below, many-below, cond-below}
+use cycle.Proof.Ranks as ranks
 use fn.stmt.alt.cont.Reads.{Post}
 
 module _ (t : ℕ) where
   abbrev claims : lts.Claims
-  claims = (case-below t, fn.stmt.alt.case.Reads.Post, fn.arena.node.Reads.Asked, fn.arena.node.Reads.Learnt, many-below t, fn.stmt.many.Reads.Post, fn.leaf.needed.Reads.Asked, fn.leaf.needed.Reads.Learnt, fn.build.over.Reads.Asked, fn.build.over.Reads.Learnt, cond-below t, fn.stmt.alt.cond.Reads.Post)
+  claims = (ranks.case .below t, fn.stmt.alt.case.Reads.Post, fn.arena.node.Reads.Asked, fn.arena.node.Reads.Learnt, ranks.many .below t, fn.stmt.many.Reads.Post, fn.leaf.needed.Reads.Asked, fn.leaf.needed.Reads.Learnt, fn.build.over.Reads.Asked, fn.build.over.Reads.Learnt, ranks.cond .below t, fn.stmt.alt.cond.Reads.Post)
 
   abbrev Of : (lts.Claims → In 2 lts.ps → Out 2 lts.ps lts.r → Type 0) → Type 0
-  Of N = N claims (cont-at t) Post
+  Of N = N claims (ranks.cont .at t) Post
 
   abbrev at-start : Of lts.Start → Reached (Stmt Span)
   at-start c = begin (c .args .depth) 4 (cont-rule (c .args .text .now) (c .args .depth) (c .args .at)) (c .pre .0) (c .pre .1)
@@ -96,9 +96,9 @@ module _ (t : ℕ) where
   returns-4 : Of lts.Need-returns-4
   returns-4 c = passes-on (at-start (c .before .before .before .before .before .before .before .before .before)) _ _ refl (c .before .number .given .1) (c .before .before .before .before .before .case .ensures)
 
-  pub spec : {M : Type 1} → lts.Closed claims (cont-at t) Post M
+  pub spec : {M : Type 1} → lts.Closed claims (ranks.cont .at t) Post M
   spec =
-      lts.spec claims (cont-at t) Post
+      lts.spec claims (ranks.cont .at t) Post
       case-requires
       (λ c. search needs)
       node-requires

@@ -14,15 +14,15 @@ use Rattle.parsing.proofs.StatementEquations.{else-rule}
 use Rattle.parsing.proofs as fn
 use fn.stmt.+aexpr+alt-branch+alt-case+alt-choose+alt-cond+alt-cont+alt-els+alt-elsif+block+forall+label+looped+many+named+nested+one+scope+stmt+var+word as cycle
 use cycle.Lts-alt-els as lts
-use cycle.Proof.Ranks.{els-at, elsif-below, block-below}
+use cycle.Proof.Ranks as ranks
 use fn.stmt.alt.els.Reads.{Post}
 
 module _ (t : ℕ) where
   abbrev claims : lts.Claims
-  claims = (fn.step.keyword.Reads.Asked, fn.step.keyword.Reads.Learnt, elsif-below t, fn.stmt.alt.elsif.Reads.Post, fn.leaf.needed.Reads.Asked, fn.leaf.needed.Reads.Learnt, block-below t, fn.stmt.block.Reads.Post, fn.build.over.Reads.Asked, fn.build.over.Reads.Learnt)
+  claims = (fn.step.keyword.Reads.Asked, fn.step.keyword.Reads.Learnt, ranks.elsif .below t, fn.stmt.alt.elsif.Reads.Post, fn.leaf.needed.Reads.Asked, fn.leaf.needed.Reads.Learnt, ranks.block .below t, fn.stmt.block.Reads.Post, fn.build.over.Reads.Asked, fn.build.over.Reads.Learnt)
 
   abbrev Of : (lts.Claims → In 2 lts.ps → Out 2 lts.ps lts.r → Type 0) → Type 0
-  Of N = N claims (els-at t) Post
+  Of N = N claims (ranks.els .at t) Post
 
   abbrev at-start : Of lts.Start → Reached (Stmt Span)
   at-start c = begin (c .args .depth) 1 (else-rule (c .args .text .now) (c .args .depth) (c .args .at)) (c .pre .0) (c .pre .1)
@@ -81,9 +81,9 @@ module _ (t : ℕ) where
   returns-5 : Of lts.Need-returns-5
   returns-5 c = refuses (at-start (c .before .before .before .before .before .before .before)) (after-refused _ _ (rw (c .before .number2 .given .1) at (c .before .before .before .keyword .ensures)))
 
-  pub spec : {M : Type 1} → lts.Closed claims (els-at t) Post M
+  pub spec : {M : Type 1} → lts.Closed claims (ranks.els .at t) Post M
   spec =
-      lts.spec claims (els-at t) Post
+      lts.spec claims (ranks.els .at t) Post
       (λ c. search needs)
       keyword-requires
       (λ c. search needs)

@@ -13,15 +13,15 @@ use Rattle.parsing.proofs.StatementEquations.{forall-rule, forall-words
 use Rattle.parsing.proofs as fn
 use fn.stmt.+aexpr+alt-branch+alt-case+alt-choose+alt-cond+alt-cont+alt-els+alt-elsif+block+forall+label+looped+many+named+nested+one+scope+stmt+var+word as cycle
 use cycle.Lts-forall as lts
-use cycle.Proof.Ranks.{forall-at, block-below}
+use cycle.Proof.Ranks as ranks
 use fn.stmt.forall.Reads.{Post}
 
 module _ (t : ℕ) where
   abbrev claims : lts.Claims
-  claims = (fn.leaf.id_type.Reads.Asked, fn.leaf.id_type.Reads.Learnt, fn.leaf.needed.Reads.Asked, fn.leaf.needed.Reads.Learnt, fn.arena.node.Reads.Asked, fn.arena.node.Reads.Learnt, block-below t, fn.stmt.block.Reads.Post, fn.build.over.Reads.Asked, fn.build.over.Reads.Learnt)
+  claims = (fn.leaf.id_type.Reads.Asked, fn.leaf.id_type.Reads.Learnt, fn.leaf.needed.Reads.Asked, fn.leaf.needed.Reads.Learnt, fn.arena.node.Reads.Asked, fn.arena.node.Reads.Learnt, ranks.block .below t, fn.stmt.block.Reads.Post, fn.build.over.Reads.Asked, fn.build.over.Reads.Learnt)
 
   abbrev Of : (lts.Claims → In 2 lts.ps → Out 2 lts.ps lts.r → Type 0) → Type 0
-  Of N = N claims (forall-at t) Post
+  Of N = N claims (ranks.forall .at t) Post
 
   abbrev at-start : Of lts.Start → Reached (Stmt Span)
   at-start c = begin (c .args .depth) 1 (forall-rule (c .args .text .now) (c .args .depth) (c .args .at)) (c .pre .0) (c .pre .1)
@@ -81,9 +81,9 @@ module _ (t : ℕ) where
   returns-3 : Of lts.Need-returns-3
   returns-3 c = done (at-over (c .before .before)) refl refl (c .before .before .over .ensures .0) refl refl
 
-  pub spec : {M : Type 1} → lts.Closed claims (forall-at t) Post M
+  pub spec : {M : Type 1} → lts.Closed claims (ranks.forall .at t) Post M
   spec =
-      lts.spec claims (forall-at t) Post
+      lts.spec claims (ranks.forall .at t) Post
       id-type-requires
       (λ c. search needs)
       (λ c κs. search needs)

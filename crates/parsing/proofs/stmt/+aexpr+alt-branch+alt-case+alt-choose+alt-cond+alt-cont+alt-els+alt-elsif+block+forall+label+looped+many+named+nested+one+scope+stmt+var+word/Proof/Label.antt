@@ -14,15 +14,15 @@ use Rattle.parsing.proofs.StatementEquations.{label-rule}
 use Rattle.parsing.proofs as fn
 use fn.stmt.+aexpr+alt-branch+alt-case+alt-choose+alt-cond+alt-cont+alt-els+alt-elsif+block+forall+label+looped+many+named+nested+one+scope+stmt+var+word as cycle
 use cycle.Lts-label as lts
-use cycle.Proof.Ranks.{label-at, scope-below}
+use cycle.Proof.Ranks as ranks
 use fn.stmt.label.Reads.{Post}
 
 module _ (t : ℕ) where
   abbrev claims : lts.Claims
-  claims = (fn.step.sym.Reads.Asked, fn.step.sym.Reads.Learnt, fn.leaf.untaken.Reads.Asked, fn.leaf.untaken.Reads.Learnt, fn.arena.node.Reads.Asked, fn.arena.node.Reads.Learnt, scope-below t, fn.stmt.scope.Reads.Post, fn.leaf.needed.Reads.Asked, fn.leaf.needed.Reads.Learnt, fn.build.over.Reads.Asked, fn.build.over.Reads.Learnt)
+  claims = (fn.step.sym.Reads.Asked, fn.step.sym.Reads.Learnt, fn.leaf.untaken.Reads.Asked, fn.leaf.untaken.Reads.Learnt, fn.arena.node.Reads.Asked, fn.arena.node.Reads.Learnt, ranks.scope .below t, fn.stmt.scope.Reads.Post, fn.leaf.needed.Reads.Asked, fn.leaf.needed.Reads.Learnt, fn.build.over.Reads.Asked, fn.build.over.Reads.Learnt)
 
   abbrev Of : (lts.Claims → In 2 lts.ps → Out 2 lts.ps lts.r → Type 0) → Type 0
-  Of N = N claims (label-at t) Post
+  Of N = N claims (ranks.label .at t) Post
 
   abbrev at-start : Of lts.Start → Reached (Stmt Span)
   at-start c = begin {answer = labelStmt (c .args .text .now) (c .args .depth) (c .args .w)} (c .args .depth) 2 refl (c .pre .0) (c .pre .1 .0)
@@ -78,9 +78,9 @@ module _ (t : ℕ) where
   returns-3 : Of lts.Need-returns-3
   returns-3 c = done (at-over (c .before .before)) refl refl (c .before .before .over .ensures .0) refl refl
 
-  pub spec : {M : Type 1} → lts.Closed claims (label-at t) Post M
+  pub spec : {M : Type 1} → lts.Closed claims (ranks.label .at t) Post M
   spec =
-      lts.spec claims (label-at t) Post
+      lts.spec claims (ranks.label .at t) Post
       (λ c. search needs)
       sym-requires
       (λ c. search needs)

@@ -10,7 +10,7 @@ use Rattle.parsing.proofs.Repetitions.{Turn, turn-begins, item-room, tu
 use Rattle.parsing.proofs as fn
 use fn.stmt.+aexpr+alt-branch+alt-case+alt-choose+alt-cond+alt-cont+alt-els+alt-elsif+block+forall+label+looped+many+named+nested+one+scope+stmt+var+word as cycle
 use cycle.Lts-many as lts
-use cycle.Proof.Ranks.{many-at, one-below}
+use cycle.Proof.Ranks as ranks
 use fn.stmt.many.Reads.{Post}
 
 abbrev Inv-loop : lts.InvT-loop
@@ -21,10 +21,10 @@ abbrev μ-loop : lts.MeasureT-loop
 
 module _ (t : ℕ) where
   abbrev claims : lts.Claims
-  claims = (one-below t, fn.stmt.one.Reads.Post, fn.arena.node.Reads.Asked, fn.arena.node.Reads.Learnt, fn.build.close.Reads.Asked, fn.build.close.Reads.Learnt)
+  claims = (ranks.one .below t, fn.stmt.one.Reads.Post, fn.arena.node.Reads.Asked, fn.arena.node.Reads.Learnt, fn.build.close.Reads.Asked, fn.build.close.Reads.Learnt)
 
   abbrev Of : (lts.Claims → In 2 lts.ps → Out 2 lts.ps lts.r → lts.InvT-loop → lts.MeasureT-loop → Type 0) → Type 0
-  Of N = N claims (many-at t) Post Inv-loop μ-loop
+  Of N = N claims (ranks.many .at t) Post Inv-loop μ-loop
 
   loop-holds : Of lts.Need-loop-holds
   loop-holds c = turn-begins _ _ (c .before .before .pre .1)
@@ -62,9 +62,9 @@ module _ (t : ℕ) where
   returns-2 : Of lts.Need-returns-2
   returns-2 c = turn-refused (c .before .before .before .before .before .before .before .loop .inv) (c .before .before .before .before .before .one .ensures) (c .before .number .given .1)
 
-  pub spec : {M : Type 1} → lts.Closed claims (many-at t) Post M
+  pub spec : {M : Type 1} → lts.Closed claims (ranks.many .at t) Post M
   spec =
-      lts.spec claims (many-at t) Post Inv-loop μ-loop
+      lts.spec claims (ranks.many .at t) Post Inv-loop μ-loop
       loop-holds
       one-requires
       (λ c. search needs)

@@ -12,15 +12,15 @@ use Rattle.parsing.proofs.Spared.{passed, ends-as}
 use Rattle.parsing.proofs as fn
 use fn.stmt.+aexpr+alt-branch+alt-case+alt-choose+alt-cond+alt-cont+alt-els+alt-elsif+block+forall+label+looped+many+named+nested+one+scope+stmt+var+word as cycle
 use cycle.Lts-named as lts
-use cycle.Proof.Ranks.{named-at, label-below}
+use cycle.Proof.Ranks as ranks
 use fn.stmt.named.Reads.{Post}
 
 module _ (t : ℕ) where
   abbrev claims : lts.Claims
-  claims = (fn.simple.assign.Reads.Asked, fn.simple.assign.Reads.Learnt, label-below t, fn.stmt.label.Reads.Post, fn.simple.call.Reads.Asked, fn.simple.call.Reads.Learnt)
+  claims = (fn.simple.assign.Reads.Asked, fn.simple.assign.Reads.Learnt, ranks.label .below t, fn.stmt.label.Reads.Post, fn.simple.call.Reads.Asked, fn.simple.call.Reads.Learnt)
 
   abbrev Of : (lts.Claims → In 2 lts.ps → Out 2 lts.ps lts.r → Type 0) → Type 0
-  Of N = N claims (named-at t) Post
+  Of N = N claims (ranks.named .at t) Post
 
   abbrev at-start : Of lts.Start → Reached (Stmt Span)
   at-start c = begin {answer = namedStmt (c .args .text .now) (c .args .depth) (c .args .w)} (c .args .depth) 3 refl (c .pre .0) (c .pre .1 .0)
@@ -58,9 +58,9 @@ module _ (t : ℕ) where
   returns-3 : Of lts.Need-returns-3
   returns-3 c = ends-as (at-call (c .before .before .before .before)) refl (c .before .before .call .ensures) refl refl
 
-  pub spec : {M : Type 1} → lts.Closed claims (named-at t) Post M
+  pub spec : {M : Type 1} → lts.Closed claims (ranks.named .at t) Post M
   spec =
-      lts.spec claims (named-at t) Post
+      lts.spec claims (ranks.named .at t) Post
       assign-requires
       (λ c. search needs)
       same-length

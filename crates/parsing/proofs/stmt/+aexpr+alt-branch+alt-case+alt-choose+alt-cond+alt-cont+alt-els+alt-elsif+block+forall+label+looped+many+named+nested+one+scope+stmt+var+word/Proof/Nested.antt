@@ -8,15 +8,15 @@ use Rattle.parsing.proofs.StatementRules.{stmt-opens}
 use Rattle.parsing.proofs as fn
 use fn.stmt.+aexpr+alt-branch+alt-case+alt-choose+alt-cond+alt-cont+alt-els+alt-elsif+block+forall+label+looped+many+named+nested+one+scope+stmt+var+word as cycle
 use cycle.Lts-nested as lts
-use cycle.Proof.Ranks.{nested-at, stmt-below}
+use cycle.Proof.Ranks as ranks
 use fn.stmt.nested.Reads.{Post}
 
 module _ (t : ℕ) where
   abbrev claims : lts.Claims
-  claims = (fn.simple.too_deep.Reads.Asked, fn.simple.too_deep.Reads.Learnt, stmt-below t, fn.stmt.stmt.Reads.Post)
+  claims = (fn.simple.too_deep.Reads.Asked, fn.simple.too_deep.Reads.Learnt, ranks.stmt .below t, fn.stmt.stmt.Reads.Post)
 
   abbrev Of : (lts.Claims → In 2 lts.ps → Out 2 lts.ps lts.r → Type 0) → Type 0
-  Of N = N claims (nested-at t) Post
+  Of N = N claims (ranks.nested .at t) Post
 
   too-deep-requires : Of lts.Need-too-deep-requires
   too-deep-requires c κs = c .before .before .before .pre .1 .inside
@@ -36,9 +36,9 @@ module _ (t : ℕ) where
   returns-2 : Of lts.Need-returns-2
   returns-2 c = rw (stmt-opens (c .before .before .before .before .before .before .before .args .text .now) (c .before .before .before .before .before .before .before .args .depth) (c .before .before .before .before .before .before .before .args .at) (c .before .before .before .before .if1 .left)) (c .before .before .stmt .ensures)
 
-  pub spec : {M : Type 1} → lts.Closed claims (nested-at t) Post M
+  pub spec : {M : Type 1} → lts.Closed claims (ranks.nested .at t) Post M
   spec =
-      lts.spec claims (nested-at t) Post
+      lts.spec claims (ranks.nested .at t) Post
       too-deep-requires
       returns
       sub-stmt

@@ -7,15 +7,16 @@ use borrow.Fn.Kinds.{In, Out}
 use Rattle.parsing.proofs as fn
 use fn.stmt.+aexpr+alt-branch+alt-case+alt-choose+alt-cond+alt-cont+alt-els+alt-elsif+block+forall+label+looped+many+named+nested+one+scope+stmt+var+word as cycle
 use cycle.Lts-one as lts
-use cycle.Proof.Ranks.{one-at, stmt-below, nested-below, branch-below, case-below, aexpr-below, oneRank}
+use cycle.Proof.Ranks as ranks
+use cycle.Proof.Ranks.{oneRank}
 use fn.stmt.one.Reads.{Post}
 
 module _ (t : ℕ) where
   abbrev claims : lts.Claims
-  claims = (stmt-below t, fn.stmt.stmt.Reads.Post, nested-below t, fn.stmt.nested.Reads.Post, branch-below t, fn.stmt.alt.branch.Reads.Post, case-below t, fn.stmt.alt.case.Reads.Post, aexpr-below t, fn.stmt.aexpr.Reads.Post, fn.simple.when.Reads.Asked, fn.simple.when.Reads.Learnt)
+  claims = (ranks.stmt .below t, fn.stmt.stmt.Reads.Post, ranks.nested .below t, fn.stmt.nested.Reads.Post, ranks.branch .below t, fn.stmt.alt.branch.Reads.Post, ranks.case .below t, fn.stmt.alt.case.Reads.Post, ranks.aexpr .below t, fn.stmt.aexpr.Reads.Post, fn.simple.when.Reads.Asked, fn.simple.when.Reads.Learnt)
 
   abbrev Of : (lts.Claims → In 2 lts.ps → Out 2 lts.ps lts.r → Type 0) → Type 0
-  Of N = N claims (one-at t) Post
+  Of N = N claims (ranks.one .at t) Post
 
   stmt-requires : Of lts.Need-stmt-requires
   stmt-requires c κs = (omega (arith, c .before .before .before .before .before .pre .0, ap oneRank (c .before .enum-told .given .1)), c .before .before .before .before .before .pre .1)
@@ -89,9 +90,9 @@ module _ (t : ℕ) where
   returns-8 : Of lts.Need-returns-8
   returns-8 c = rw (c .before .before .before .before .enum-told8 .given .1) (c .before .before .when .ensures)
 
-  pub spec : {M : Type 1} → lts.Closed claims (one-at t) Post M
+  pub spec : {M : Type 1} → lts.Closed claims (ranks.one .at t) Post M
   spec =
-      lts.spec claims (one-at t) Post
+      lts.spec claims (ranks.one .at t) Post
       (λ c. search needs)
       stmt-requires
       (λ c. search needs)

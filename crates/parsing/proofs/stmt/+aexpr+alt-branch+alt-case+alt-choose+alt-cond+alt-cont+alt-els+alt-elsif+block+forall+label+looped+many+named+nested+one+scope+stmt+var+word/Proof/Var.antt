@@ -11,7 +11,7 @@ use Rattle.parsing.proofs.StatementEquations.{var-rule}
 use Rattle.parsing.proofs as fn
 use fn.stmt.+aexpr+alt-branch+alt-case+alt-choose+alt-cond+alt-cont+alt-els+alt-elsif+block+forall+label+looped+many+named+nested+one+scope+stmt+var+word as cycle
 use cycle.Lts-var as lts
-use cycle.Proof.Ranks.{var-at, many-below}
+use cycle.Proof.Ranks as ranks
 use fn.stmt.var.Reads.{Post}
 
 module _ (t : ℕ) where
@@ -21,7 +21,7 @@ module _ (t : ℕ) where
     fn.simple.declared.Reads.Learnt,
     fn.leaf.needed.Reads.Asked,
     fn.leaf.needed.Reads.Learnt,
-    many-below t,
+    ranks.many .below t,
     fn.stmt.many.Reads.Post,
     fn.arena.node.Reads.Asked,
     fn.arena.node.Reads.Learnt,
@@ -30,7 +30,7 @@ module _ (t : ℕ) where
   )
 
   abbrev Of : (lts.Claims → In 2 lts.ps → Out 2 lts.ps lts.r → Type 0) → Type 0
-  Of N = N claims (var-at t) Post
+  Of N = N claims (ranks.var .at t) Post
 
   abbrev at-start : Of lts.Start → Reached (Stmt Span)
   at-start c = begin (c .args .depth) 3 (var-rule (c .args .text .now) (c .args .depth) (boolOf (c .args .mutable)) (c .args .at)) (c .pre .0) (c .pre .1 .0)
@@ -83,9 +83,9 @@ module _ (t : ℕ) where
   returns-3 : Of lts.Need-returns-3
   returns-3 c = done (at-over (c .before .before)) refl refl (c .before .before .over .ensures .0) refl refl
 
-  pub spec : {M : Type 1} → lts.Closed claims (var-at t) Post M
+  pub spec : {M : Type 1} → lts.Closed claims (ranks.var .at t) Post M
   spec =
-      lts.spec claims (var-at t) Post
+      lts.spec claims (ranks.var .at t) Post
       declared-requires
       (λ c. search needs)
       (λ c κs. search needs)
