@@ -1,4 +1,4 @@
--- The code that prints, held to the prints of the crate `prints`: what is asked of each function, and what is proved of the entries.
+-- The code that prints, held to the prints of the crate `layout`: what is asked of each function, and what is proved of the entries.
 pub mod Wrote
 pub mod OperatorWords
 pub mod Entries

@@ -59,20 +59,20 @@ module _ {text : List ℕ} (K : Keeping text) where
   pub names-kept : (m : ℕ) → Reads (Fixed (map (K .keep))) (parseNonemptyCommaDelimitedSeq text m rules.names (parseName text))
   names-kept = nonempty-gives text (list-closed keep (λ n h. h)) _ (name-kept K)
 
-  -- after a name and its mark
-  by-atomic : {B : Type 0} {Q : B → Type 0} {stop : Answer B} {go : Span → ℕ → Answer B} (mark : Reader ℕ) → Reads Any mark → (at : ℕ) → at ≤ length text
-      → Gives Q (length text) stop → ((n : Span) → Fixed keep n → Reads Q (go n)) → Gives Q (length text) (after (rules.atomic text mark at) stop go)
+  -- a name that a mark follows: a step, a sign, and one of the three signs
+  atomic-kept : (mark : Reader ℕ) → Reads Any mark → Reads (Fixed keep) (rules.atomic text mark)
   unfolding rules.atomic
-  by-atomic mark h at l = step _ (by (name-kept K) at l nothing (λ _ n at₁ l₁. token (h at₁ l₁) nothing (λ _ _. given n)))
+  atomic-kept mark h at l = by (name-kept K) at l nothing (λ _ n at₁ l₁. token (h at₁ l₁) nothing (λ _ _. given n))
 
-  -- a sign after a name, and one of the three
-  by-marked : {B : Type 0} {Q : B → Type 0} {stop : Answer B} {go : Span → ℕ → Answer B} (w : List ℕ) (at : ℕ) → at ≤ length text
-      → Gives Q (length text) stop → ((n : Span) → Fixed keep n → Reads Q (go n)) → Gives Q (length text) (after (rules.atomic text (signAt text w) at) stop go)
-  by-marked w = by-atomic (signAt text w) (λ at l. sign-placed text at l w)
+  signed-kept : (w : List ℕ) → Reads (Fixed keep) (rules.atomic text (signAt text w))
+  signed-kept w = atomic-kept (signAt text w) (λ at l. sign-placed text at l w)
 
   mark-placed : Reads Any (rules.mark text)
   unfolding rules.mark
   mark-placed at l = search steps
+
+  marked-kept : Reads (Fixed keep) (rules.atomic text (rules.mark text))
+  marked-kept = atomic-kept (rules.mark text) mark-placed
 
   module _ (m : ℕ) {c : Gallery} (k : KeptBy (K .keep) (length text) c) where
     pub parseOptionalAutoInvariant-kept : Reads (Fixed (mapOption (mapExpr (K .keep)))) (rules.parseOptionalAutoInvariant text m c)
@@ -128,7 +128,7 @@ module _ {text : List ℕ} (K : Keeping text) where
 
     parseOptionalExitArgument-kept : Reads (Fixed (mapOption keep)) (rules.parseOptionalExitArgument text)
     unfolding rules.parseOptionalExitArgument
-    parseOptionalExitArgument-kept at l = by-atomic _ mark-placed at l (search (by (name-kept K), steps)) (λ _ _ _ _. given refl l)
+    parseOptionalExitArgument-kept at l = search (by marked-kept, by (name-kept K), steps) depth 8
 
     -- after a word
     led : (w : String) {p : Reader (Stmt Span)} → Reads Kept p → Reads Kept (rules.led text m c w p)
@@ -152,9 +152,9 @@ module _ {text : List ℕ} (K : Keeping text) where
         (either (led "choose" (λ at l. search (by (k .block), by (rep-gives text statements-closed (rules.parseOr text m c) parseOr-kept m), steps) depth 8) at l)
         (either (led "if" (λ at l. search (by parseIfCont-kept, steps)) at l)
         (either (k .loop at l)
-        (either (by-marked _ at l nothing (λ n h at l. search (by (k .expr), steps)))
-        (either (by-marked _ at l nothing (λ n h at l. search (step {len = length text} Kept, k .block, k .loop, steps)))
-        (by-marked _ at l nothing (λ n h at l. search (by arguments-kept, steps)))))))))))))))))))
+        (either (by (signed-kept _) at l nothing (λ n h at l. search (by (k .expr), steps)))
+        (either (by (signed-kept _) at l nothing (λ n h at l. search (step {len = length text} Kept, k .block, k .loop, steps)))
+        (by (signed-kept _) at l nothing (λ n h at l. search (by arguments-kept, steps)))))))))))))))))))
 
     parseBlock-kept : Reads Kept (rules.parseBlock text m c)
     unfolding rules.parseBlock rules.repTill
@@ -180,7 +180,7 @@ module _ {text : List ℕ} (K : Keeping text) where
         block = λ at l. deep at l (sign-placed text at l _);
         stmt = λ at l.
             either (deep at l (sign-placed text at l _))
-            (either (deep at l (wordOf-placed rules.statementWords at l)) (by-atomic _ mark-placed at l nothing (λ _ _ _ _. too-deep l)));
+            (either (deep at l (wordOf-placed rules.statementWords at l)) (by marked-kept at l nothing (λ _ _ _ _. too-deep l)));
         ifCont = λ at l. picked (opensExpr (drop at text)) (too-deep l) nothing;
         loop = λ at l. deep at l (keyword-placed text at l _);
       }
