@@ -105,7 +105,7 @@ pub read-program-accepted : (text : List ℕ) (n k : ℕ) (table : List ℕ) →
     → programRefusal (take k table) (length text) ≡ none
 read-program-accepted text n k table = program-passes text n
 
--- A reading is refused by 1 at 32,768, by 2, 3 or 4 at a place inside the text or at its end, or by 5 at 0 (`OfReading`).
+-- A reading is refused by 1 at 32,768, by 2, 3 or 4 at a place of at most the text's length, or by 5 at 0 (`OfReading`).
 pub read-expression-refused : (text : List ℕ) (n number place : ℕ) (table : List ℕ) → readExpression text n ≡ refusal number place table
     → OfReading text number place
 read-expression-refused text n number place table = expression-refused text n
@@ -127,7 +127,7 @@ expression-words-few text e next = expression-few text
 pub program-table-long : (text : List ℕ) (n : ℕ) → 5 * length text + 5 ≤ n → n ≤ mostWords → short (readProgram text n) ≡ false
 program-table-long = program-roomy
 
--- A rule is opened where it keeps a token (document 01, "The entries"): whatever the levels left, each of the five rules keeps nothing where it
+-- A rule is opened where it keeps a token (REFERENCE, "Depth"): whatever the levels left, each of the five rules keeps nothing where it
 -- does with any other number of levels, with none among them. At least one turn is needed: a prefix is read in a turn.
 pub depth-kept : (text : List ℕ) (m d d′ : ℕ) → GalleriesKeptAlike (gallery text (suc m) d) (gallery text (suc m) d′)
 depth-kept = levels-alike

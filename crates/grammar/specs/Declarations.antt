@@ -1,4 +1,4 @@
--- The reading rules of declarations and programs, in Parser.dfy's order and under its names.
+-- The reading rules of declarations and programs, in Parser.dfy's order and under its names (REFERENCE, "The reading rules").
 use Prim.Native.Nat.{ℕ, zero, suc}
 use mathlib.Core.Bool.{Bool, true, false}
 use mathlib.Core.List.{List, [], _∷_}

@@ -1,4 +1,4 @@
--- Where a step must follow and does not: refusal 2 at the first token that cannot be used (document 01, "The entries"), by computation. Each step
+-- Where a step must follow and does not: refusal 2 at the first token that cannot be used (REFERENCE, "Choice and repetition"), by computation. Each step
 -- that a rule must take stands here, at a place that no other place before it has. A keyword with nothing after it is no name.
 use Prim.Native.Nat.{ℕ, zero, suc}
 use Prim.Native.String.{String}

@@ -1,5 +1,5 @@
--- The reading rules of expressions, in Parser.dfy's order and under its names, over ok / none / refused. `c` is the rule "expr" one deeper;
--- m bounds the turns of each repetition.
+-- The reading rules of expressions, in Parser.dfy's order and under its names (REFERENCE, "The reading rules"), over ok / none / refused. `c` is
+-- the rule "expr" one deeper; m bounds the turns of each repetition.
 use Prim.Native.Nat.{ℕ, zero, suc}
 use mathlib.Core.Bool.{Bool, true, false, _&&_, _||_, not}
 use mathlib.Core.List.{List, [], _∷_}

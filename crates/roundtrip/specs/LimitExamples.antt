@@ -1,4 +1,4 @@
--- The limits of prints (document 01, refusals 6 and 8), each from both of its sides: the start indent 255, and the print of 65,536 bytes.
+-- The limits of prints (REFERENCE, "Limits"), each from both of its sides: the start indent 255, and the print of 65,536 bytes.
 use Prim.Native.Nat.{ℕ, _+_, _≤_, _<_}
 use native.Mathlib.Omega.{arith}
 use mathlib.Core.Path.{_≡_, refl, ap, _∙_}
