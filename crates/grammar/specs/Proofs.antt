@@ -9,5 +9,3 @@ pub mod Inside
 pub mod Refusals
 pub mod Size
 pub mod Depth
--- Measures of functions that call each other, for the proofs of code:
-pub mod Ranks

@@ -5,9 +5,9 @@ use mathlib.Core.Path.{_≡_, refl, ap, _∙_}
 use mathlib.Core.Logic.{_↔_, _⊎_, inl, inr}
 use mathlib.Core.Bool.{Bool, true, false}
 use borrow.Author.Tests.{leb-true, ltb-true, eqb-true, le-leb, lt-ltb, eq-eqb}
+use Rattle.lexing.specs.RunLaws.{both-true}
 use Rattle.lexing.specs.Answer.{pick}
 use Rattle.tree.specs.Clash.{impossible}
-use Rattle.grammar.specs.Proofs.Laws.Looks.{both-true}
 use Rattle.layout.specs.declared.power.TieBreaker.{TieBreaker}
 use Rattle.layout.specs.declared.power.TieBreaker.the-variants.{OperatorWins, ContextWins, SameFamilyWins}
 use Rattle.layout.specs.declared.power.Side.the-variants.{Left, Right}

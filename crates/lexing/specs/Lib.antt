@@ -10,3 +10,5 @@ pub mod BlankLaws
 pub mod TokenLaws
 pub mod Upstream
 pub mod Claims
+-- Measures of functions that call each other, for the proofs of upper crates:
+pub mod Ranks

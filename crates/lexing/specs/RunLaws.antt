@@ -1,6 +1,6 @@
 -- Laws of tests and runs: a run lies inside the text, its bytes satisfy the test, and it is maximal.
 use mathlib.Core.Path.{_≡_, refl}
-use mathlib.Core.Bool.{Bool, true, false}
+use mathlib.Core.Bool.{Bool, true, false, _&&_, false≢true}
 use mathlib.Core.List.{List, [], _∷_}
 use Prim.Native.Nat.{ℕ, zero, suc, _≤_, _<_, zero-le, suc-le-suc}
 use native.Mathlib.Omega.{arith}
@@ -14,6 +14,20 @@ use Rattle.lexing.specs.Bytes.{run}
 pub pick-case : {X : Type 0} (P : X → Type 0) (t : Bool) {a b : X} → (t ≡ true → P a) → (t ≡ false → P b) → P (pick t a b)
 pick-case P true f g = f refl
 pick-case P false f g = g refl
+
+-- what holds of both branches holds of the choice
+pub pick-both : {X : Type 0} (P : X → Type 0) (b : Bool) {x y : X} → P x → P y → P (pick b x y)
+pick-both P b p q = pick-case P b (λ e. p) (λ e. q)
+
+-- a choice, by its test
+pub pick-cases : {X : Type 0} {Q : Type 0} (b : Bool) {x y r : X} → pick b x y ≡ r → (b ≡ true → x ≡ r → Q) → (b ≡ false → y ≡ r → Q) → Q
+pick-cases true e f g = f refl e
+pick-cases false e f g = g refl e
+
+-- both tests of a conjunction are true
+pub both-true : (a b : Bool) → (a && b) ≡ true → (a ≡ true) × (b ≡ true)
+both-true true b e = (refl, e)
+both-true false b e = absurd (false≢true e)
 
 -- ---- runs
 

@@ -70,7 +70,7 @@ fn begin(text: &[u8], at: usize) -> Led
     let len = word_length(text, at);
     let end = at + len;
     match head_of(&text[at..end]) {
-        Head::Of(sort) => begun(sort, after_word(text, at, len)),
+        Head::Of(kind) => begun(kind, after_word(text, at, len)),
         Head::None => Led::None,
     }
 }
@@ -86,23 +86,23 @@ fn head_of(word: &[u8]) -> Head
     known(word, b"type", DeclKind::Types, head)
 }
 
-// `sort` where the bytes are the word `w`, or else `other`.
-fn known(word: &[u8], w: &[u8], sort: DeclKind, other: Head) -> Head
-    ensures { λ r. ⌜ r ≡ pick (sameBytes (now (word .entry)) (now (w .entry))) (Head.Of sort) other ⌝ }
+// `kind` where the bytes are the word `w`, or else `other`.
+fn known(word: &[u8], w: &[u8], kind: DeclKind, other: Head) -> Head
+    ensures { λ r. ⌜ r ≡ pick (sameBytes (now (word .entry)) (now (w .entry))) (Head.Of kind) other ⌝ }
 {
     if same_bytes(word, w) {
-        Head::Of(sort)
+        Head::Of(kind)
     } else {
         other
     }
 }
 
-// A declaration of the kind `sort`, if its word was read.
-fn begun(sort: DeclKind, word: Lexed) -> Led
-    ensures { λ r. ⌜ r ≡ ledBy sort word ⌝ }
+// A declaration of the kind `kind`, if its word was read.
+fn begun(kind: DeclKind, word: Lexed) -> Led
+    ensures { λ r. ⌜ r ≡ ledBy kind word ⌝ }
 {
     match word {
-        Lexed::Ok(_, next) => Led::Ok(sort, next),
+        Lexed::Ok(_, next) => Led::Ok(kind, next),
         Lexed::None => Led::None,
         Lexed::Refused(number, place) => Led::Refused(number, place),
     }
@@ -115,12 +115,12 @@ fn decl(
     arena: &mut [u32],
     top: usize,
     depth: usize,
-    sort: DeclKind,
+    kind: DeclKind,
 ) -> Built
     requires { ⌜ Room (now text) (now arena) at top 20 ⌝ }
-    ensures { λ r. ⌜ Builds (declWords sort) (now (text .entry)) (now (arena .entry)) (now (arena .exit)) at top 1 20 (declRule sort (now (text .entry)) depth at) r ⌝ }
+    ensures { λ r. ⌜ Builds (declWords kind) (now (text .entry)) (now (arena .entry)) (now (arena .exit)) at top 1 20 (declRule kind (now (text .entry)) depth at) r ⌝ }
 {
-    match sort {
+    match kind {
         DeclKind::Types => type_decl(text, at, arena, top),
         DeclKind::Taggers => tagger_decl(text, at, arena, top),
         DeclKind::Functions => function_decl(text, at, arena, top, depth),
@@ -130,10 +130,10 @@ fn decl(
 }
 
 // The last node of the sequence of a kind.
-fn last(lists: Lists, sort: DeclKind) -> u32
-    ensures { λ r. ⌜ r ≡ lastOf lists sort ⌝ }
+fn last(lists: Lists, kind: DeclKind) -> u32
+    ensures { λ r. ⌜ r ≡ lastOf lists kind ⌝ }
 {
-    match sort {
+    match kind {
         DeclKind::Types => lists.types,
         DeclKind::Taggers => lists.taggers,
         DeclKind::Functions => lists.functions,
@@ -143,11 +143,11 @@ fn last(lists: Lists, sort: DeclKind) -> u32
 }
 
 // The sequences, with another last node of one kind.
-fn with_last(lists: Lists, sort: DeclKind, list: u32) -> Lists
-    ensures { λ r. ⌜ r ≡ withLast lists sort list ⌝ }
+fn with_last(lists: Lists, kind: DeclKind, list: u32) -> Lists
+    ensures { λ r. ⌜ r ≡ withLast lists kind list ⌝ }
 {
     let mut more = lists;
-    match sort {
+    match kind {
         DeclKind::Types => {
             more.types = list;
         }
@@ -227,13 +227,13 @@ pub(crate) fn program(
     let mut top = free;
     loop {
         match begin(text, at) {
-            Led::Ok(sort, next) => {
-                let r = decl(text, next, arena, top, depth, sort);
+            Led::Ok(kind, next) => {
+                let r = decl(text, next, arena, top, depth, kind);
                 let Built::Ok(d, next1, top1) = r else {
                     return needed(r, next);
                 };
-                node(arena, top1, ITEM, 0, last(lists, sort), d);
-                lists = with_last(lists, sort, top1 as u32);
+                node(arena, top1, ITEM, 0, last(lists, kind), d);
+                lists = with_last(lists, kind, top1 as u32);
                 at = next1;
                 top = top1 + 4;
             }

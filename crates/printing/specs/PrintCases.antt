@@ -9,8 +9,8 @@ use mathlib.Core.List.{List, _++_}
 use lib.ListN.{length, drop}
 use lib.Dec.{leb}
 use borrow.Author.Tests.{leb-true, le-leb}
+use Rattle.lexing.specs.RunLaws.{pick-cases, both-true}
 use Rattle.tree.specs.Clash.{impossible}
-use Rattle.grammar.specs.Proofs.Laws.Looks.{pick-cases, both-true}
 use Rattle.tree.specs.Limits.{mostText}
 use Rattle.tree.specs.Check.{Refusal, refusal as checkRefusal, oversized, misfitting}
 use Rattle.tree.specs.declared.Checked.{Checked}

@@ -8,7 +8,7 @@ use lib.Dec.{leb, eqb}
 use lib.ListN.{length, replicate, getD}
 use borrow.Author.Tests.{leb-true, eqb-true}
 use Rattle.lexing.specs.Bytes.{isSpace, isDigit, canStartIdentifierChar, identifierChar, oneOf, run, bytes}
-use Rattle.lexing.specs.RunLaws.{run-all}
+use Rattle.lexing.specs.RunLaws.{run-all, both-true}
 use Rattle.lexing.specs.TokenLaws.{identifier-starts}
 use Rattle.lexing.specs.Tokens.{identifierLength}
 use Rattle.tree.specs.Ast.{Operator, IfThenElse, Equiv, LogicalImp, LogicalAnd, LogicalOr, Eq, Neq, Less, AtMost, Plus, Minus, Times, Div, Mod, ArgumentCount}
@@ -17,7 +17,6 @@ use Rattle.grammar.specs.Words.{isIdentifier}
 use Rattle.grammar.specs.Tokens.{Token, name, nat, mark, sign, illegal, cut}
 use Rattle.grammar.specs.Tokens.{'!', '-', '*', '+', '==', '!=', '<', '<=', '&&', '||', '==>', '<==>'}
 use Rattle.tree.specs.Clash.{impossible}
-use Rattle.grammar.specs.Proofs.Laws.Looks.{both-true}
 use Rattle.grammar.specs.Proofs.Laws.Cut.{cut-space}
 use Rattle.grammar.specs.Proofs.Laws.Pieces.{Ends, lengthens, cut-name, cut-nat, cut-sign}
 use Rattle.layout.specs.declared.format.ExprFormatOption.{ExprFormatOption}

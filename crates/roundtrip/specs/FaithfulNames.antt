@@ -6,10 +6,10 @@ use mathlib.Core.Bool.{Bool, true, false, _||_, not}
 use mathlib.Core.List.{List, [], _∷_}
 use lib.ListN.{drop}
 use borrow.Author.Tests.{not-true}
+use Rattle.lexing.specs.RunLaws.{both-true}
 use Rattle.lexing.specs.Bytes.{sameBytes, bytes}
 use Rattle.grammar.specs.Words.{oneOf, keywords, isName, isIdentifier, isFaithfulName}
 use Rattle.tree.specs.Clash.{impossible}
-use Rattle.grammar.specs.Proofs.Laws.Looks.{both-true}
 
 or-false : (a b : Bool) → (a || b) ≡ false → (a ≡ false) × (b ≡ false)
 or-false true b h = impossible (cc)

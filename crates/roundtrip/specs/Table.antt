@@ -6,14 +6,13 @@ use mathlib.Core.Bool.{Bool, true, false, _&&_}
 use mathlib.Core.List.{List, [], _∷_}
 use lib.Dec.{leb, ltb}
 use Rattle.lexing.specs.Answer.{pick}
-use Rattle.lexing.specs.RunLaws.{pick-case}
+use Rattle.lexing.specs.RunLaws.{pick-case, both-true}
 use Rattle.tree.specs.Ast.{Operator, IfThenElse, Equiv, LogicalImp, LogicalAnd, LogicalOr, Eq, Neq, Less, AtMost, Plus, Minus, Times, Div, Mod}
 use Rattle.tree.specs.Ast.{LogicalNot, UnaryMinus}
 use Rattle.tree.specs.Ast.{Exprs, BLiteral, ILiteral, CustomLiteral, IdExpr, OperatorExpr, FunctionCallExpr, LabeledExpr, LetExpr, QuantifierExpr}
 use Rattle.tree.specs.Ast.{ClosureExpr}
 use Rattle.grammar.specs.Grammar.{Tree}
 use Rattle.grammar.specs.OperatorTrees.{notOnTheRight, isNoneOf, fitsRight}
-use Rattle.grammar.specs.Proofs.Laws.Looks.{both-true}
 use Rattle.layout.specs.declared.power.BindingPower.{BindingPower}
 use Rattle.layout.specs.declared.power.Side.{Side}
 use Rattle.layout.specs.declared.power.Side.the-variants.{Left, Right}

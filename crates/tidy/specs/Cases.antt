@@ -8,6 +8,7 @@ use mathlib.Core.List.{List, [], _++_}
 use lib.ListN.{length, take, drop}
 use lib.Dec.{leb}
 use borrow.Author.Tests.{leb-true, le-leb}
+use Rattle.lexing.specs.RunLaws.{both-true}
 use Rattle.lexing.specs.Answer.{pick}
 use Rattle.tree.specs.Ast.{Program}
 use Rattle.tree.specs.Check.{NameIn}
@@ -15,7 +16,6 @@ use Rattle.tree.specs.Limits.{mostText, mostWords}
 use Rattle.tree.specs.Words.{programWords}
 use Rattle.grammar.specs.Reading.{Outcome, words, refusal, readProgram}
 use Rattle.grammar.specs.Claims.{read-program-accepted}
-use Rattle.grammar.specs.Proofs.Laws.Looks.{both-true}
 use Rattle.grammar.specs.Proofs.Refusals.Entries.{Refused, Held, program-refused, program-held}
 use Rattle.printing.specs.Entries.{mostPrint, written, refusal as unprinted, stored, Fits, programPrintOf, printProgram}
 use Rattle.tidy.specs.Tidy.{Answered, refusalNumber, ofPrint, ofReading, tidied}

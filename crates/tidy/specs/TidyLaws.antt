@@ -7,12 +7,12 @@ use mathlib.Core.List.{List, [], _++_}
 use lib.ListN.{length, take, drop}
 use lib.Dec.{leb}
 use borrow.Author.Tests.{leb-true, le-leb}
+use Rattle.lexing.specs.RunLaws.{both-true}
 use Rattle.lexing.specs.Answer.{pick}
 use Rattle.tree.specs.Ast.{Program}
 use Rattle.tree.specs.Words.{programWords}
 use Rattle.tree.specs.Refused.{program-unrefused}
 use Rattle.tree.specs.Clash.{impossible}
-use Rattle.grammar.specs.Proofs.Laws.Looks.{both-true}
 use Rattle.tree.specs.Limits.{mostText, mostWords}
 use Rattle.tree.specs.Check.{NameIn, Refusal, programRefusal}
 use Rattle.grammar.specs.Reading.{Outcome, words, refusal, readProgram}

@@ -6,6 +6,7 @@ use mathlib.Core.Bool.{Bool, cond}
 use mathlib.Core.List.{List, [], _∷_, _++_}
 use lib.ListN.{replicate}
 use lib.Dec.{leb, ltb}
+use Rattle.tree.specs.Tags.{noMore, bLiteralTag, varDeclTag, aExprTag}
 
 -- what a sequence may hold
 pub data Item : Type 0 where
@@ -110,11 +111,11 @@ firstWord natural = 0
 firstWord low = 0
 firstWord name = 0
 firstWord (lengthFrom s) = 0
-firstWord expr = 1
-firstWord stmt = 21
-firstWord aexpr = 1
-firstWord (option c) = 0
-firstWord (seq i) = 0
+firstWord expr = bLiteralTag
+firstWord stmt = varDeclTag
+firstWord aexpr = aExprTag
+firstWord (option c) = noMore
+firstWord (seq i) = noMore
 
 abbrev pub rows : Kind → List (List Kind)
 rows bool = replicate 2 []

@@ -1,5 +1,13 @@
 // The kinds that may be expected at a word, as numbers from 1 to 28, and the rows: the kinds of a constructor's fields as the digits
 // of a number to the base 32, the first field lowest. 0 is the row of no fields; no row has the digits 29 to 31, which are taken for 28.
+use crate::word::A_EXPR;
+use crate::word::B_LITERAL;
+use crate::word::FALSE;
+use crate::word::IF_THEN_ELSE;
+use crate::word::IN;
+use crate::word::MORE;
+use crate::word::NO_MORE;
+use crate::word::VAR_DECL;
 ghost use mathlib.Core.Path.{_≡_};
 ghost use mathlib.Core.Bool.{Bool};
 ghost use mathlib.Core.List.{[]};
@@ -203,12 +211,12 @@ pub(crate) fn turn(kind: u32, word: u32) -> Fit
         return content_turn(kind, word);
     }
     match kind {
-        OPERATOR => leaf_turn(word, 1, 16),
-        MODE => leaf_turn(word, 1, 3),
-        EXPR => row_turn(word, 1, 10, 0),
-        STMT => row_turn(word, 21, 18, 10),
-        AEXPR => row_turn(word, 1, 2, 28),
-        _ => leaf_turn(word, 0, 2),
+        OPERATOR => leaf_turn(word, IF_THEN_ELSE, 16),
+        MODE => leaf_turn(word, IN, 3),
+        EXPR => row_turn(word, B_LITERAL, 10, 0),
+        STMT => row_turn(word, VAR_DECL, 18, 10),
+        AEXPR => row_turn(word, A_EXPR, 2, 28),
+        _ => leaf_turn(word, FALSE, 2),
     }
 }
 
@@ -247,10 +255,10 @@ fn content_turn(kind: u32, word: u32) -> Fit
     requires { ⌜ (6 < kind) × (kind < 27) ⌝ }
     ensures { λ r. ⌜ ((inside : ℕ → ℕ → Bool) → asTurn r ≡ turnOf inside (kindOf kind) word) ⌝ }
 {
-    if word == 0 {
+    if word == NO_MORE {
         return Fit::Row(0);
     }
-    if 1 < word {
+    if MORE < word {
         return Fit::Misfit;
     }
     let i = (kind - 7) as usize;

@@ -7,6 +7,7 @@ use mathlib.Core.List.{List}
 use lib.ListN.{length}
 use lib.Dec.{leb, eqb}
 use borrow.Author.Tests.{leb-true}
+use Rattle.lexing.specs.RunLaws.{both-true}
 use Rattle.lexing.specs.Answer.{Answer, ok, refused, unclosedComment, pick}
 use Rattle.lexing.specs.Blanks.{Blanks, W, passed, unclosed}
 use Rattle.lexing.specs.BlankLaws.{reach, W-inside}
@@ -18,7 +19,6 @@ use Rattle.tree.specs.Words.{programWords}
 use Rattle.grammar.specs.OperatorTrees.{mostDepth}
 use Rattle.grammar.specs.Steps.{Reader, after, need, mapped}
 use Rattle.grammar.specs.Declarations.{TopLevel}
-use Rattle.grammar.specs.Proofs.Laws.Looks.{both-true}
 use Rattle.grammar.specs.Reading.{leading, toEnd, wholeText, treeWords, parseText, parseProgram}
 use Rattle.parsing.specs.Arena.{Run, Noted, Room, Agrees, mostArena}
 use Rattle.parsing.specs.Code.{same, turns, inner, opened}

@@ -6,6 +6,7 @@ use mathlib.Core.List.{List, [], _∷_}
 use mathlib.Core.Option.{none}
 use lib.ListN.{length, drop, take}
 use lib.Dec.{leb}
+use Rattle.lexing.specs.RunLaws.{pick-both}
 use Rattle.lexing.specs.Answer.{Answer, unclosedComment, moved}
 use Rattle.lexing.specs.Bytes.{isDigit, canStartIdentifierChar, run, startsWith, bytes}
 use Rattle.lexing.specs.Blanks.{Blanks, passed, unclosed, W}
@@ -22,7 +23,6 @@ use Rattle.grammar.specs.Parser as parser
 use Rattle.grammar.specs.Parser.{parsed, failed, Parser, see, isMark, isWord, parseNamed, parseBracketed}
 use Rattle.grammar.specs.Steps.{Reader, after, signAt, spanned, parseName}
 use Rattle.grammar.specs.Rules as rules
-use Rattle.grammar.specs.Proofs.Laws.Looks.{pick-both}
 use Rattle.grammar.specs.Proofs.Laws.Cut.{tokens-drop, tokens-illegal}
 use Rattle.grammar.specs.Proofs.Bridge.Relation as relation
 use Rattle.grammar.specs.Proofs.Bridge.Relation.{tokens, Halted, fails, waits, KeepsToken, refuses, reads, ends, agree, dead, Test, seen, missed}

@@ -3,6 +3,7 @@ use Prim.Native.Nat.{ℕ, zero, suc}
 use mathlib.Core.Path.{_≡_, refl}
 use mathlib.Core.List.{List, _∷_}
 use lib.ListN.{drop}
+use Rattle.lexing.specs.RunLaws.{pick-both}
 use Rattle.lexing.specs.Answer.{Answer, refused}
 use Rattle.lexing.specs.Bytes.{isDigit, canStartIdentifierChar}
 use Rattle.lexing.specs.Tokens.{identifierLength}
@@ -13,7 +14,6 @@ use Rattle.grammar.specs.Parser.{Parser}
 use Rattle.grammar.specs.Steps.{Reader, after}
 use Rattle.grammar.specs.Rules as rules
 use Rattle.grammar.specs.Rules.{operatorOf}
-use Rattle.grammar.specs.Proofs.Laws.Looks.{pick-both}
 use Rattle.grammar.specs.Proofs.Bridge.Relation.{fails, refuses, Dead, ends, absent, dead}
 use Rattle.grammar.specs.Proofs.Bridge.Trees.{Bad}
 use Rattle.grammar.specs.Proofs.Bridge.Tails.{Level, level, left-tail, right-tail, once-tail, either-tail}

@@ -7,6 +7,7 @@ use mathlib.Core.List.{List, [], _++_}
 use lib.ListN.{length, replicate}
 use lib.Dec.{leb}
 use borrow.Author.Tests.{leb-true, le-leb}
+use Rattle.lexing.specs.RunLaws.{both-true}
 use Rattle.lexing.specs.Answer.{ok, refused, pick}
 use Rattle.tree.specs.Ast.{Span, Expr}
 use Rattle.tree.specs.Limits.{mostText, mostWords}
@@ -17,7 +18,6 @@ use Rattle.grammar.specs.Tokens.{cut}
 use Rattle.grammar.specs.Reading.{words, refusal, treeWords, stored, outcome, parseText, readTree, readExpression}
 use Rattle.grammar.specs.TreeRead.{GivesTree}
 use Rattle.tree.specs.Clash.{impossible}
-use Rattle.grammar.specs.Proofs.Laws.Looks.{both-true}
 use Rattle.grammar.specs.Proofs.Laws.Limited.{parse-limited}
 use Rattle.grammar.specs.Proofs.Laws.Every.{derived-operators}
 use Rattle.tree.specs.Claims.{expression-count}

@@ -8,6 +8,7 @@ use lib.ListN.{length, take, drop}
 use lib.Dec.{leb, eqb}
 use native.Mathlib.Omega.{arith}
 use borrow.Author.Tests.{eqb-true, leb-true, lt-leb, ne-eqb}
+use Rattle.lexing.specs.RunLaws.{both-true, pick-both}
 use Rattle.lexing.specs.Answer.{Answer, unclosedComment, moved}
 use Rattle.lexing.specs.Bytes.{isDigit, canStartIdentifierChar, identifierChar, run, startsWith, sameBytes}
 use Rattle.lexing.specs.Blanks.{Blanks, passed, unclosed, W}
@@ -21,7 +22,6 @@ use Rattle.grammar.specs.Steps.{after, mapped, signAt}
 use Rattle.grammar.specs.Rules as rules
 use Rattle.grammar.specs.Rules.{operatorOf}
 use Rattle.tree.specs.Clash.{impossible}
-use Rattle.grammar.specs.Proofs.Laws.Looks.{both-true, pick-both}
 use Rattle.grammar.specs.Proofs.Laws.Stops.{Misses}
 use Rattle.grammar.specs.Proofs.Laws.Views.{spelt, speltMark, Longest, View, wordView, digitView, signView, markView, noView, view, Nothing}
 use Rattle.grammar.specs.Proofs.Laws.Views.{word-token, digit-token, sign-token, mark-token, no-token}

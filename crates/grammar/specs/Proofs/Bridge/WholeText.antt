@@ -9,6 +9,7 @@ use lib.ListN.{length, drop, length-drop}
 use lib.Seq.{drop-length}
 use lib.Dec.{eqb}
 use borrow.Author.Tests.{eqb-true, eqb-false}
+use Rattle.lexing.specs.RunLaws.{pick-both}
 use Rattle.lexing.specs.Answer.{Answer, ok, refused, pick}
 use Rattle.lexing.specs.Blanks.{Blanks, passed, unclosed, W}
 use Rattle.tree.specs.Ast.{Span, Expr}
@@ -23,7 +24,6 @@ use Rattle.grammar.specs.Rules as rules
 use Rattle.grammar.specs.Reading.{leading, toEnd, parseText}
 use Rattle.grammar.specs.OperatorTrees.{mostDepth}
 use Rattle.tree.specs.Clash.{impossible}
-use Rattle.grammar.specs.Proofs.Laws.Looks.{pick-both}
 use Rattle.grammar.specs.Proofs.Laws.Limited.{limited}
 use Rattle.grammar.specs.Proofs.Laws.Cut.{tokens-drop}
 use Rattle.grammar.specs.Proofs.Bridge.Relation.{tokens, Halted, fails, waits, refuses, reads, Dead, ends, absent, agree, dead, dead-then}

@@ -4,6 +4,7 @@ use Prim.Native.String.{String}
 use mathlib.Core.Bool.{Bool, true, false}
 use mathlib.Core.List.{List, [], _∷_}
 use lib.ListN.{length, take, drop}
+use Rattle.lexing.specs.RunLaws.{pick-both}
 use Rattle.lexing.specs.Answer.{Answer, ok, refused, moved, pick}
 use Rattle.lexing.specs.Bytes.{startsWith, sameBytes, bytes}
 use Rattle.lexing.specs.BlankLaws.{W-closed}
@@ -11,7 +12,6 @@ use Rattle.lexing.specs.Tokens.{lexeme, unlessEmpty, identifierLength, parseId,
 use Rattle.grammar.specs.Steps.{Reader, after, _or_, keywordAt, signAt, parseName}
 use Rattle.grammar.specs.Rules.{opensExpr, parseExpr}
 use Rattle.grammar.specs.Statements as rules
-use Rattle.grammar.specs.Proofs.Laws.Looks.{pick-both}
 use Rattle.grammar.specs.ClaimTerms.{Unopened, nothing, too-deep, GalleryUnopened}
 
 -- an answer that is not refused

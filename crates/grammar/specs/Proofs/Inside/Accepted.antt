@@ -8,6 +8,7 @@ use lib.ListN.{length, take}
 use lib.Seq.{take-append-seam}
 use lib.Dec.{leb, eqb}
 use borrow.Author.Tests.{leb-true, le-leb}
+use Rattle.lexing.specs.RunLaws.{pick-cases}
 use Rattle.lexing.specs.Answer.{Answer, ok, refused}
 use Rattle.lexing.specs.Blanks.{Blanks, passed, unclosed, W}
 use Rattle.lexing.specs.BlankLaws.{reach, W-inside}
@@ -22,7 +23,6 @@ use Rattle.tree.specs.Clash.{impossible}
 use Rattle.grammar.specs.Steps.{Reader, after, need}
 use Rattle.grammar.specs.OperatorTrees.{mostDepth}
 use Rattle.grammar.specs.Reading.{Outcome, words, refusal, leading, toEnd, wholeText, unlessLong, outcomeBy, readTree, readExpression, readTreeOfProgram, readProgram}
-use Rattle.grammar.specs.Proofs.Laws.Looks.{pick-cases}
 use Rattle.grammar.specs.Proofs.Bridge.Limits.{stored-inv, stored-fits}
 use Rattle.grammar.specs.Proofs.Inside.Answers.{Gives, given, ReadsIn, gives-ok, unusable, step, picked, Keeping}
 use Rattle.grammar.specs.Proofs.Inside.Expressions.{parseExpr-kept}

@@ -5,6 +5,7 @@ use mathlib.Core.List.{List, [], _∷_, _++_, append-assoc}
 use mathlib.Core.Option.{none, some}
 use native.Mathlib.Omega.{arith}
 use lib.ListN.{length, length-append}
+use Rattle.lexing.specs.RunLaws.{pick-both}
 use Rattle.lexing.specs.Bytes.{sameBytes, bytes}
 use Rattle.tree.specs.Ast.{Operator, Exprs, noExprs, _then_}
 use Rattle.grammar.specs.Words.{oneOf, isName}
@@ -15,7 +16,7 @@ use Rattle.grammar.specs.Grammar.{prefixed}
 use Rattle.grammar.specs.Parser.{parsed, failed, Parser, after, see, isNat, isWord, isMark, parseSeries, parseItems, parseNamed}
 use Rattle.grammar.specs.Parser.{parseExcluded, parseBracketed, parseOperand, parseUnary}
 use Rattle.tree.specs.Clash.{impossible}
-use Rattle.grammar.specs.Proofs.Laws.Looks.{mark-inv, pick-both}
+use Rattle.grammar.specs.Proofs.Laws.Looks.{mark-inv}
 use Rattle.grammar.specs.Proofs.Laws.Stops.{misses, see-misses, Stops, stops-rparen, stops-comma}
 use Rattle.grammar.specs.Proofs.Laws.Complete.{Complete}
 

@@ -4,6 +4,7 @@ use mathlib.Core.Path.{_≡_, refl}
 use mathlib.Core.Bool.{Bool, true, false, _&&_}
 use mathlib.Core.List.{List, [], _∷_, _++_}
 use mathlib.Core.Option.{Option, none, some}
+use Rattle.lexing.specs.RunLaws.{pick-both}
 use Rattle.tree.specs.Ast.{Operator, BLiteral, ILiteral, IdExpr, FunctionCallExpr, Exprs, noExprs, _then_, ArgumentCount}
 use Rattle.lexing.specs.Bytes.{sameBytes, bytes}
 use Rattle.grammar.specs.Words.{isName}
@@ -16,7 +17,6 @@ use Rattle.grammar.specs.Grammar.{EquivExpr}
 use Rattle.grammar.specs.Grammar.{product, sum, comparison, conjunction, disjunction, implication, explication, equivalence}
 use Rattle.grammar.specs.OperatorTrees.{Operators, AllOperators, OperatorTree}
 use Rattle.tree.specs.Clash.{impossible}
-use Rattle.grammar.specs.Proofs.Laws.Looks.{pick-both}
 use Rattle.grammar.specs.Grammar.{last, also, empty, series, falsehood, truth, natural, variable, oldVariable, call, bracketed, bare}
 use Rattle.grammar.specs.Grammar.{prefixed, first, second}
 

@@ -1,11 +1,8 @@
 -- What the parser's tests say of the token that they accept, and when they accept it.
 use Prim.Native.Nat.{ℕ}
 use mathlib.Core.Path.{_≡_, refl}
-use mathlib.Core.Bool.{Bool, true, false, _&&_}
 use mathlib.Core.List.{List}
 use mathlib.Core.Option.{Option, none, some}
-use Rattle.lexing.specs.Answer.{pick}
-use Rattle.lexing.specs.RunLaws.{pick-case}
 use Rattle.grammar.specs.Tokens.{Token, name, nat, mark, sign, illegal, Mark, Mark-discrete}
 use Rattle.grammar.specs.Grammar.{Class, Class-discrete, Build, Row, row, binary}
 use Rattle.grammar.specs.Parser.{isNat, isWord, isMark, ofClass, inClass}
@@ -64,17 +61,3 @@ class-sees c o {b} e = rw e (same (Class-discrete c c))
     same : (d : Dec (c ≡ c)) → (elim d as (λ z. Option Build) [ yes p ↦ some b | no n ↦ none ]) ≡ some b
     same (yes p) = refl
     same (no n) = absurd (n refl)
-
--- what holds of both branches holds of the choice
-pub pick-both : {X : Type 0} (P : X → Type 0) (b : Bool) {x y : X} → P x → P y → P (pick b x y)
-pick-both P b p q = pick-case P b (λ e. p) (λ e. q)
-
--- a choice, by its test
-pub pick-cases : {X : Type 0} {Q : Type 0} (b : Bool) {x y r : X} → pick b x y ≡ r → (b ≡ true → x ≡ r → Q) → (b ≡ false → y ≡ r → Q) → Q
-pick-cases true e f g = f refl e
-pick-cases false e f g = g refl e
-
--- both tests of a conjunction are true
-pub both-true : (a b : Bool) → (a && b) ≡ true → (a ≡ true) × (b ≡ true)
-both-true true b e = (refl, e)
-both-true false b e = impossible (cc)

@@ -9,6 +9,7 @@ use lib.Dec.{leb, eqb}
 use lib.ListN.{length}
 use lib.Seq.{take-append-seam, drop-append-seam}
 use borrow.Author.Tests.{leb-true, leb-false, eqb-true, ne-eqb, lt-leb}
+use Rattle.lexing.specs.RunLaws.{both-true}
 use Rattle.lexing.specs.Answer.{pick}
 use Rattle.lexing.specs.Bytes.{isSpace, isDigit, canStartIdentifierChar, identifierChar, run, startsWith}
 use Rattle.lexing.specs.Blanks.{passed, blank}
@@ -18,7 +19,6 @@ use Rattle.grammar.specs.Tokens.{Sign, '!', '-', '*', '+', '==', '!=', '
 use Rattle.grammar.specs.Tokens.{lparen, rparen, comma}
 use Rattle.grammar.specs.Tokens.{Token, name, nat, mark, sign, token, tokenAt, cut}
 use Rattle.tree.specs.Clash.{impossible}
-use Rattle.grammar.specs.Proofs.Laws.Looks.{both-true}
 use Rattle.grammar.specs.Proofs.Laws.Cut.{cut-token}
 use Rattle.grammar.specs.Proofs.Laws.Views.{spelt, speltMark, word-token, digit-token, sign-token, mark-token}
 

@@ -4,6 +4,7 @@ use mathlib.Core.Path.{_≡_, sym, subst}
 use mathlib.Core.Bool.{true}
 use mathlib.Core.List.{List, [], _∷_, _++_, append-assoc}
 use mathlib.Core.Option.{some}
+use Rattle.lexing.specs.RunLaws.{pick-cases}
 use Rattle.lexing.specs.Bytes.{sameBytes, bytes}
 use Rattle.tree.specs.Ast.{Operator, IdExpr, FunctionCallExpr, Exprs, noExprs, _then_}
 use Rattle.grammar.specs.Words.{isName}
@@ -14,7 +15,7 @@ use Rattle.grammar.specs.Parser.{parsed, failed, Parser, after, see, isW
 use Rattle.grammar.specs.Parser.{parseExcluded, parseBracketed, parseOperand, parseUnary}
 use Rattle.tree.specs.Clash.{impossible}
 use Rattle.grammar.specs.Proofs.Laws.ParserSteps.{after-inv, see-cases}
-use Rattle.grammar.specs.Proofs.Laws.Looks.{nat-inv, word-inv, mark-inv, pick-cases}
+use Rattle.grammar.specs.Proofs.Laws.Looks.{nat-inv, word-inv, mark-inv}
 use Rattle.lexing.specs.TokenLaws.{sameBytes-true}
 use Rattle.grammar.specs.Proofs.Laws.Sound.{Reads, Sound}
 

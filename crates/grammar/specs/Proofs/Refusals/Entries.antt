@@ -7,6 +7,7 @@ use mathlib.Core.List.{List, [], _++_}
 use lib.ListN.{length, replicate}
 use lib.Dec.{leb}
 use borrow.Author.Tests.{leb-true, leb-false}
+use Rattle.lexing.specs.RunLaws.{both-true}
 use Rattle.lexing.specs.Answer.{Answer, ok, refused, pick}
 use Rattle.tree.specs.Limits.{mostText, mostWords}
 use Rattle.tree.specs.Clash.{impossible}
@@ -17,7 +18,6 @@ use Rattle.grammar.specs.Declarations.{TopLevel}
 use Rattle.grammar.specs.OperatorTrees.{mostDepth}
 use Rattle.grammar.specs.Reading.{Outcome, words, refusal, parseText, parseProgram, wholeText, unlessLong, stored, outcomeBy, readTree, readExpression, readTreeOfProgram, readProgram}
 use Rattle.grammar.specs.ClaimTerms.{ByRule, unusable-token, depth, large-natural, OfReading, long-text, by-rule, many-words}
-use Rattle.grammar.specs.Proofs.Laws.Looks.{both-true}
 use Rattle.grammar.specs.Proofs.Inside.Answers.{Gives, given, nothing, refuses, ReadsIn, Fixed, Keeping}
 use Rattle.grammar.specs.Proofs.Inside.Expressions.{parseExpr-kept}
 use Rattle.grammar.specs.Proofs.Inside.Statements.{gallery-kept}

@@ -7,6 +7,7 @@ use mathlib.Core.List.{List, []}
 use lib.ListN.{length}
 use lib.Dec.{leb, eqb}
 use borrow.Author.Tests.{eqb-true, ne-eqb}
+use Rattle.lexing.specs.RunLaws.{pick-cases}
 use Rattle.lexing.specs.Answer.{Answer, ok, refused}
 use Rattle.lexing.specs.Blanks.{Blanks, passed, unclosed, W}
 use Rattle.tree.specs.Ast.{Span, Expr, Program}
@@ -17,7 +18,6 @@ use Rattle.grammar.specs.OperatorTrees.{mostDepth}
 use Rattle.grammar.specs.Steps.{Reader, after, need}
 use Rattle.grammar.specs.Reading.{leading, toEnd, wholeText, outcomeBy, parseText, parseProgram, readTreeOfProgram, readProgram}
 use Rattle.grammar.specs.Tables.{short}
-use Rattle.grammar.specs.Proofs.Laws.Looks.{pick-cases}
 use Rattle.grammar.specs.Proofs.Bridge.Limits.{stored-fits}
 use Rattle.grammar.specs.Proofs.Refusals.Entries.{program-rules-refused}
 use Rattle.grammar.specs.Proofs.Size.Sizes.{programSize, expr-sized, program-sized}

@@ -21,27 +21,27 @@ begin-requires : tie.Need-begin-requires Inv-loop μ-loop
 begin-requires c κs = c .loop .inv .room .inside
 
 decl-requires : tie.Need-decl-requires Inv-loop μ-loop
-decl-requires c κs = decl-room _ _ _ (c .before .before .before .before .before .loop .inv) (c .before .before .before .before .begin .ensures) (c .before .before .sort .given .1)
+decl-requires c κs = decl-room _ _ _ (c .before .before .before .before .before .loop .inv) (c .before .before .before .before .begin .ensures) (c .before .before .kind .given .1)
 
 same-length : tie.Need-same-length Inv-loop μ-loop
 same-length c = decl-length _ _ _ (c .before .before .before .before .before .before .before .before .before .before .loop .inv) (c .before .before .before .before .before .before .before .before .before .begin .ensures)
-    (c .before .before .before .before .before .before .before .sort .given .1) (c .before .before .before .before .decl .ensures)
+    (c .before .before .before .before .before .before .before .kind .given .1) (c .before .before .before .before .decl .ensures)
 
 returns : tie.Need-returns Inv-loop μ-loop
 returns c = program-needed _ _ _ (c .before .before .before .before .before .before .before .before .before .before .loop .inv) (c .before .before .before .before .decl .result)
-    (c .before .before .before .before .before .before .before .before .before .begin .ensures) (c .before .before .before .before .before .before .before .sort .given .1)
+    (c .before .before .before .before .before .before .before .before .before .begin .ensures) (c .before .before .before .before .before .before .before .kind .given .1)
     (c .before .before .before .before .decl .ensures) (c .before .match2 .keys2) (c .needed .ensures)
 
 node-requires : tie.Need-node-requires Inv-loop μ-loop
 node-requires c κs = decl-read _ _ _ (c .before .before .before .before .before .before .before .before .before .before .before .before .before .loop .inv) (c .before .before .before .before .before .before .before .before .before .before .before .before .begin .ensures)
-    (c .before .before .before .before .before .before .before .before .before .before .sort .given .1) (c .before .before .before .before .before .before .before .decl .ensures)
+    (c .before .before .before .before .before .before .before .before .before .before .kind .given .1) (c .before .before .before .before .before .before .before .decl .ensures)
     (c .before .before .before .r .given .1) .fits
 
 cast-with-last : tie.Need-cast-with-last Inv-loop μ-loop
 cast-with-last c = omega (
   arith,
   decl-read _ _ _ (c .before .before .before .before .before .before .before .before .before .before .before .before .before .before .before .before .loop .inv)
-      (c .before .before .before .before .before .before .before .before .before .before .before .before .before .before .before .begin .ensures) (c .before .before .before .before .before .before .before .before .before .before .before .before .before .sort .given .1)
+      (c .before .before .before .before .before .before .before .before .before .before .before .before .before .before .before .begin .ensures) (c .before .before .before .before .before .before .before .before .before .before .before .before .before .kind .given .1)
       (c .before .before .before .before .before .before .before .before .before .before .decl .ensures) (c .before .before .before .before .before .before .r .given .1) .small,
 )
 
@@ -49,19 +49,19 @@ add-top : tie.Need-add-top Inv-loop μ-loop
 add-top c = omega (
   arith,
   decl-read _ _ _ (c .before .before .before .before .before .before .before .before .before .before .before .before .before .before .before .before .before .loop .inv)
-      (c .before .before .before .before .before .before .before .before .before .before .before .before .before .before .before .before .begin .ensures) (c .before .before .before .before .before .before .before .before .before .before .before .before .before .before .sort .given .1)
+      (c .before .before .before .before .before .before .before .before .before .before .before .before .before .before .before .before .begin .ensures) (c .before .before .before .before .before .before .before .before .before .before .before .before .before .before .kind .given .1)
       (c .before .before .before .before .before .before .before .before .before .before .before .decl .ensures) (c .before .before .before .before .before .before .before .r .given .1) .small,
 )
 
 loop-less : tie.Need-loop-less Inv-loop μ-loop
 loop-less c = let k = decl-read _ _ _ (c .before .before .before .before .before .before .before .before .before .before .before .before .before .before .before .before .before .loop .inv)
-    (c .before .before .before .before .before .before .before .before .before .before .before .before .before .before .before .before .begin .ensures) (c .before .before .before .before .before .before .before .before .before .before .before .before .before .before .sort .given .1)
+    (c .before .before .before .before .before .before .before .before .before .before .before .before .before .before .before .before .begin .ensures) (c .before .before .before .before .before .before .before .before .before .before .before .before .before .before .kind .given .1)
     (c .before .before .before .before .before .before .before .before .before .before .before .decl .ensures) (c .before .before .before .before .before .before .before .r .given .1) in
     omega (arith, k .past, k .inside)
 
 loop-again : tie.Need-loop-again Inv-loop μ-loop
 loop-again c = declared _ _ _ (c .before .before .before .before .before .before .before .before .before .before .before .before .before .before .before .before .before .loop .inv)
-    (c .before .before .before .before .before .before .before .before .before .before .before .before .before .before .before .before .begin .ensures) (c .before .before .before .before .before .before .before .before .before .before .before .before .before .before .sort .given .1)
+    (c .before .before .before .before .before .before .before .before .before .before .before .before .before .before .before .before .begin .ensures) (c .before .before .before .before .before .before .before .before .before .before .before .before .before .before .kind .given .1)
     (c .before .before .before .before .before .before .before .before .before .before .before .decl .ensures) (c .before .before .before .before .before .before .before .r .given .1)
     (c .before .before .before .node .ensures) (c .before .before .before .before .last .ensures) (c .with-last .ensures)
 

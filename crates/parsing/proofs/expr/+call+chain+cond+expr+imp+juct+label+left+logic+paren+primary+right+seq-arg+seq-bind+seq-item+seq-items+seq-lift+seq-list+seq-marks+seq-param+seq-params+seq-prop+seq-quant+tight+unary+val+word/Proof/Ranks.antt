@@ -1,7 +1,7 @@
 -- The measures of the rules' functions: 40 times the levels left and a rank, by which each function calls those of a lower one; the claims of
 -- a function at a measure, and below it.
 use Prim.Native.Nat.{ℕ, _+_, _*_}
-use Rattle.grammar.specs.Proofs.Ranks.{Rank, rank}
+use Rattle.lexing.specs.Ranks.{Rank, rank}
 use Rattle.parsing.specs.declared.sign.Level.{Level}
 use Rattle.parsing.specs.declared.sign.Level.the-variants.{Product, Sum, Comparison, Conjunction, Disjunction, Implication, Explication, Equivalence}
 use Rattle.parsing.specs.declared.expr.seq.Kind.{Kind}

@@ -3,7 +3,7 @@
 use Prim.Native.Nat.{ℕ, _+_, _*_, _-_}
 use lib.ListN.{length}
 use mathlib.Core.List.{List}
-use Rattle.grammar.specs.Proofs.Ranks.{Rank, rank}
+use Rattle.lexing.specs.Ranks.{Rank, rank}
 use Rattle.printing.proofs.expression as fn
 
 -- four for each word from a place on, and a rank
