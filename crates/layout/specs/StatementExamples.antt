@@ -259,3 +259,8 @@ on-their-line = refl
 two-spaces : Statement bytes 2 (block (block (exit "a" ∷ []) ∷ [])) 1 false false [] ≡ bytes " {\n   {\n     exit a\n   }\n }\n"
 unfolding statements-computed
 two-spaces = refl
+
+-- with `omitInitialIndent`
+no-first-indent : Statement bytes 3 (block (exit "a" ∷ [])) 4 false true [] ≡ bytes "{\n       exit a\n    }\n"
+unfolding statements-computed
+no-first-indent = refl

@@ -1,7 +1,7 @@
 // PrintUtil.dfy's formats of an expression.
 ghost use mathlib.Core.Path.{_≡_};
 ghost use Rattle.lexing.specs.Answer.{pick};
-ghost use Rattle.layout.specs.PrintUtil.{deeperBy, Deeper};
+ghost use Rattle.layout.specs.PrintUtil.{startIndent, deeperBy, Deeper};
 
 pub const INDENT_AMOUNT: usize = 2;
 
@@ -29,6 +29,16 @@ impl ExprFormatOption {
             ExprFormatOption::MultipleLines(indent) => {
                 ExprFormatOption::MultipleLines(deeper(indent, step))
             }
+        }
+    }
+
+    // The indent that the lines start from; 0 on one line.
+    pub fn start_indent(self) -> usize
+        ensures { λ r. ⌜ r ≡ startIndent self ⌝ }
+    {
+        match self {
+            ExprFormatOption::SingleLine => 0,
+            ExprFormatOption::MultipleLines(indent) => indent,
         }
     }
 

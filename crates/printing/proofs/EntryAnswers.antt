@@ -1,50 +1,45 @@
 -- What the entries answer: a print in a buffer handed to the output, and the refusals.
-use Prim.Native.Nat.{ℕ, _+_, _≤_, _<_, min}
+use Prim.Native.Nat.{ℕ, _≤_, _<_, min}
 use native.Mathlib.Omega.{arith}
 use mathlib.Core.Path.{_≡_, refl, sym, ap, _∙_, subst}
 use mathlib.Core.Bool.{Bool, true, false, _&&_}
-use mathlib.Core.Option.{Option, none, some}
-use mathlib.Core.List.{List, [], _++_, append-nil}
-use lib.ListN.{length, take, drop}
-use lib.Seq.{length-take-le}
+use mathlib.Core.List.{List, _++_}
+use lib.ListN.{length, take, drop, length-take}
+use lib.Seq.{take-length}
 use lib.Dec.{leb}
 use borrow.Author.Tests.{leb-true, leb-false, le-leb, lt-leb}
+use Rattle.tree.specs.Clash.{impossible}
 use Rattle.lexing.specs.Answer.{pick}
-use Rattle.tree.specs.Limits.{mostText, mostWords}
-use Rattle.tree.specs.Check.{Refusal}
-use Rattle.tree.specs.CountLaws.{expression-counted, program-counted}
-use Rattle.printing.specs.declared.parts.Advance.{Advance}
-use Rattle.printing.specs.declared.Printed.{Printed}
-use Rattle.printing.specs.declared.entry.Root.{Root}
-use Rattle.printing.specs.declared.entry.Root.the-variants.{AnExpression, AProgram}
-use Rattle.printing.specs.Entries.{mostPrint, mostIndent, written, refusal, outcomeOf, stored, Printable, printOf, programPrintOf, printChecked, printTable}
-use Rattle.printing.specs.EntryLaws.{Lawful, expression-laws, program-laws, prints, refuses}
-use Rattle.printing.specs.Wrote.{Wrote}
-use Rattle.printing.specs.Parts.{Prints}
-use Rattle.printing.specs.ExprParts.{mostStep}
-use Rattle.printing.specs.Stores.{rooted, rootCounts, rootPart, RootCounted, Numbered, Stores, delivered}
+use Rattle.lexing.specs.RunLaws.{pick-cases}
+use Rattle.rendering.specs.declared.Rendered.{Rendered}
+use Rattle.rendering.specs.declared.Rendered.the-variants.{Bytes, Refused}
+use Rattle.rendering.specs.Tables.{Printable, Held, held, refused, heldBy}
+use Rattle.rendering.specs.Render.{printTooLong, Made, Gives, Renders}
+use Rattle.printing.specs.Entries.{mostPrint, Outcome, written, refusal, stored, printHeld, printTable}
+use Rattle.printing.specs.Delivery.{delivered}
 
 -- ---- from a buffer to the output
 
-module _ (buffer : List ℕ) (n : ℕ) (out : List ℕ) where
-  -- a print longer than the buffer is refused
-  pub short-buffer : length buffer < n → refusal 8 0 out ≡ delivered buffer n out
-  unfolding delivered
-  short-buffer h = sym (simp (lt-leb n (length buffer) h))
+module _ (buffer : List ℕ) (n : ℕ) (out : List ℕ) (b : n ≤ length buffer) where
+  -- how many bytes are handed over
+  pub front : length (take n buffer) ≡ n
+  front = simp length-take (omega arith)
 
-  -- a print longer than the output is refused
-  pub short-output : n ≤ length buffer → length out < n → refusal 8 0 out ≡ delivered buffer n out
+  -- where the output has room for them they are copied
+  pub copied : {out′ : List ℕ} → n ≤ length out
+      → out′ ≡ take (length (take n buffer)) (take n buffer) ++ drop (length (take n buffer)) out → written n out′ ≡ delivered buffer n out
   unfolding delivered
-  short-output g h = sym (simp (le-leb n (length buffer) g, lt-leb n (length out) h))
+  copied {out′} h e =
+      let f : out′ ≡ take n buffer ++ drop n out =
+      e ∙ ap (λ (l : List ℕ). l ++ drop (length (take n buffer)) out) (take-length (take n buffer)) ∙ ap (λ (k : ℕ). take n buffer ++ drop k out) front in
+      ap (written n) f ∙ sym (simp (le-leb n (length out) h))
 
-  -- a print that fits both is copied
-  pub copied : {out′ : List ℕ} → n ≤ length buffer → n ≤ length out → out′ ≡ take 0 out ++ take n buffer ++ drop (0 + length (take n buffer)) out
-      → written n out′ ≡ delivered buffer n out
+  -- an output that is too short is refused
+  pub too-short : length out < n → refusal printTooLong 0 out ≡ delivered buffer n out
   unfolding delivered
-  copied {out′} g h e =
-      let l : 0 + length (take n buffer) ≡ n = let k = length-take-le n buffer g in omega arith in
-      let f : out′ ≡ take n buffer ++ drop n out = rw l at e in
-      ap (written n) f ∙ sym (simp (le-leb n (length buffer) g, le-leb n (length out) h))
+  too-short h = sym (simp (lt-leb n (length out) h))
+
+-- ---- what a buffer holds of a table's print
 
 -- a print that is longer than the output or than every print
 too-long : (n l : ℕ) → min l mostPrint < n → (leb n l && leb n mostPrint) ≡ false
@@ -54,120 +49,66 @@ too-long n l h = by-test (leb n l) refl
     by-test true e = let m = leb-true n l e in lt-leb n mostPrint (omega arith)
     by-test false e = refl
 
--- a print that was written into a buffer that has room for every print that the output takes
-handed : {X : List ℕ → List ℕ} {b b′ : List ℕ} {n : ℕ} (out : List ℕ) → Wrote X b 0 b′ n → length b ≤ mostPrint → min (length out) mostPrint ≤ length b
-    → delivered b′ n out ≡ stored (X []) out
-unfolding delivered stored
-handed {X} {b} {b′} {n} out w h k = by-test (leb n (length b′)) refl (leb n (length out)) refl
-  where
-    whole : length (X []) ≡ w .size
-    whole = let a = w .adds [] in omega arith
+-- a print's length, where it is answered
+made-length : {print b b′ : List ℕ} {n : ℕ} → Made print b (Bytes n) b′ → (n ≡ length print) × (n ≤ length b)
+made-length {print} {b} {n = n} m =
+    pick-cases (leb (length print) (length b)) (sym (m .answers))
+    (λ t e. let l : n ≡ length print = cc in let h : length print ≤ length b = leb-true _ _ t in (l, omega arith))
+    (λ t e. impossible cc)
 
-    by-test : (p : Bool) → leb n (length b′) ≡ p → (q : Bool) → leb n (length out) ≡ q
-        → pick (p && q) (written n (take n b′ ++ drop n out)) (refusal 8 0 out)
-        ≡ pick (leb (length (X [])) (length out) && leb (length (X [])) mostPrint) (written (length (X [])) (X [] ++ drop (length (X [])) out)) (refusal 8 0 out)
-    by-test true e true f =
-        let s = w .same in
-        let l = leb-true n (length b′) e in
-        let m = leb-true n (length out) f in
-        let i : n ≤ length b = omega arith in
-        let z = w .place in
-        let c : length (X []) ≡ n = let y = whole in omega arith in
-        let g : take n b′ ≡ X [] = sym (append-nil (take n b′)) ∙ w .bytes i [] in
-        rw c (simp (le-leb n (length out) m, le-leb n mostPrint (omega arith)) (ap (λ (u : List ℕ). written n (u ++ drop n out)) g))
-    by-test true e false f =
-        let s = w .same in
-        let l = leb-true n (length b′) e in
-        let m = leb-false n (length out) f in
-        let z = w .place in
-        let c : length (X []) ≡ n = let y = whole in omega arith in
-        rw c (simp (lt-leb n (length out) m))
-    by-test false e q f =
-        let s = w .same in
-        let m = leb-false n (length b′) e in
-        let z = w .place in
-        let y = whole in
-        simp (too-long (length (X [])) (length out) (omega arith))
+module _ (P : Printable) (b b′ : List ℕ) where
+  -- the bytes of a print are there
+  bytes-there : (n : ℕ) (h : Held (P .Tree)) → Gives P b (Bytes n) b′ h → n ≤ length b′
+  bytes-there n (held t) m =
+      let l : n ≡ length (P .print t) = made-length m .0 in
+      let e : length (take n b′) ≡ length (P .print t) = ap length (m .bytes n refl) in
+      let f = length-take n b′ in
+      omega arith
+  bytes-there n (refused number place) e = impossible cc
 
--- ---- the print of a table's tree
+  module _ (out : List ℕ) (h : length b ≤ mostPrint) (k : min (length out) mostPrint ≤ length b) where
+    -- a print in the buffer is stored
+    print-stored : (n : ℕ) (x : Held (P .Tree)) → Gives P b (Bytes n) b′ x → delivered b′ n out ≡ printHeld P x out
+    unfolding delivered stored
+    print-stored n (held t) m =
+        let l : n ≤ length b = made-length m .1 in
+        let e : length (P .print t) ≡ n = sym (made-length m .0) in
+        rw (m .bytes n refl, e, le-leb n mostPrint (omega arith)) (by-test (leb n (length out)))
+      where
+        by-test : (v : Bool) → pick v (written n (P .print t ++ drop n out)) (refusal printTooLong 0 out)
+            ≡ pick (v && true) (written n (P .print t ++ drop n out)) (refusal printTooLong 0 out)
+        by-test true = refl
+        by-test false = refl
+    print-stored n (refused number place) e = impossible cc
 
--- an accepted table is no longer than a table may be
-few : (P : Printable) (words : List ℕ) → P .refused words ≡ none → length words ≤ mostWords
-few P words e = P .unrefused words .0 e .0
+    -- a refusal is the print's
+    print-refused : (number place : ℕ) (x : Held (P .Tree)) → Gives P b (Refused number place) b′ x → refusal number place out ≡ printHeld P x out
+    unfolding stored
+    print-refused number place (held t) m =
+        pick-cases (leb (length (P .print t)) (length b)) (sym (m .answers))
+        (λ v e. impossible cc)
+        (λ v e. let l : length b < length (P .print t) = leb-false _ _ v in
+        let f : refusal number place out ≡ refusal printTooLong 0 out = cc in
+        f ∙ sym (simp (too-long (length (P .print t)) (length out) (omega arith))))
+    print-refused number place (refused m q) e = cc
 
--- what the check that accepts a table notes are the numbers of items
-pub numbered : (text words before : List ℕ) (step : ℕ) (root : Root) {after : List ℕ} → (length words ≤ mostWords → length words ≤ length before)
-    → rooted step text root .refused words ≡ none → after ≡ rootCounts root words (length text) before → Numbered text words after step root
-numbered text words before step root {after} h e f =
-    let l : length words ≤ mostWords = few (rooted step text root) words e in
-    record { few = l; counted = λ t d. subst (λ (c : List ℕ). RootCounted text words c step root t) (sym f) (by-root root t d l (h l)) }
-  where
-    by-root : (r : Root) (t : rooted step text r .Tree) → rooted step text r .words t ≡ words → length words ≤ mostWords → length words ≤ length before
-        → RootCounted text words (rootCounts r words (length text) before) step r t
-    by-root (AnExpression format) t d l m = expression-counted words (length text) before t d l m
-    by-root AProgram t d l m = program-counted words (length text) before t d l m
+-- ---- by what `render` ensures
 
--- the print of a tree in a buffer is handed over
-handed-tree : (text words counts out : List ℕ) (step : ℕ) (root : Root) {b b₁ : List ℕ} {s : Advance} → step ≤ mostStep → rooted step text root .indent ≤ mostIndent → length words ≤ mostWords
-    → length b ≤ mostPrint → min (length out) mostPrint ≤ length b → Prints (rootPart text words counts step root) words 0 b 0 b₁ s
-    → (t : rooted step text root .Tree) → RootCounted text words counts step root t → rooted step text root .words t ≡ words
-    → delivered b₁ (s .pos) out ≡ stored (rooted step text root .print t) out
-unfolding printOf programPrintOf
-handed-tree text words counts out step (AnExpression format) n i l h k x t c f =
-    handed out (x .prints t [] (record { few = l; short = n; room = omega arith }, c) (sym f) .wrote) h k
-handed-tree text words counts out step AProgram n i l h k x t c f =
-    handed out (x .prints t [] (record { few = l; short = n; room = omega arith }, c) (sym f) .wrote) h k
+module _ {P : Printable} {text words b b′ : List ℕ} {r : Rendered} (x : Renders P text words b r b′) where
+  by-answer : {q : Rendered} → r ≡ q → Gives P b q b′ (heldBy P text words)
+  by-answer e = subst (λ (q : Rendered). Gives P b q b′ (heldBy P text words)) e (x .gives)
 
--- the print of the tree is delivered, for every tree with the table's words
-pub through : (step : ℕ) (text : List ℕ) (root : Root) {words counts : List ℕ} {b b₁ : List ℕ} {s : Advance} {out out′ : List ℕ} {r : Printed}
-    → step ≤ mostStep → rooted step text root .indent ≤ mostIndent → Numbered text words counts step root → length b ≤ mostPrint → min (length out) mostPrint ≤ length b
-    → Prints (rootPart text words counts step root) words 0 b 0 b₁ s → outcomeOf r out′ ≡ delivered b₁ (s .pos) out → Stores (rooted step text root) words out out′ r
-through step text root {words} {counts} {out = out} m i n h k x e =
-    record { stores = λ t f. e ∙ handed-tree text words counts out step root m i (n .few) h k x t (n .counted t f) f }
+  -- the first n bytes of the buffer are the print
+  pub there : {n : ℕ} → r ≡ Bytes n → n ≤ length b′
+  there {n} e = bytes-there P b b′ n (heldBy P text words) (by-answer e)
 
--- ---- by the root
+  module _ (out : List ℕ) (h : length b ≤ mostPrint) (k : min (length out) mostPrint ≤ length b) where
+    -- they are handed over
+    pub handed : {n : ℕ} {o : Outcome} → r ≡ Bytes n → o ≡ delivered b′ n out → o ≡ printTable P text words out
+    unfolding printTable
+    handed {n} e d = d ∙ print-stored P b b′ out h k n (heldBy P text words) (by-answer e)
 
--- each root's trees are lawful
-pub root-laws : (step : ℕ) (text : List ℕ) (root : Root) → Lawful (rooted step text root)
-root-laws step text (AnExpression format) = expression-laws step text format
-root-laws step text AProgram = program-laws step text
-
--- the check of a table by its root
-pub checked-by : (text words before : List ℕ) (step : ℕ) {root k : Root} {q : Option Refusal} {after : List ℕ} → root ≡ k
-    → (q ≡ rooted step text k .refused words) × (after ≡ rootCounts k words (length text) before)
-    → (q ≡ rooted step text root .refused words) × (after ≡ rootCounts root words (length text) before)
-checked-by text words before step {q = q} {after = after} e x =
-    subst (λ (r : Root). (q ≡ rooted step text r .refused words) × (after ≡ rootCounts r words (length text) before)) (sym e) x
-
--- the print of a table by its root
-pub printed-by : (text words counts : List ℕ) (step : ℕ) {root k : Root} {b b₁ : List ℕ} {s : Advance} → root ≡ k
-    → Prints (rootPart text words counts step k) words 0 b 0 b₁ s → Prints (rootPart text words counts step root) words 0 b 0 b₁ s
-printed-by text words counts step {b = b} {b₁ = b₁} {s = s} e x = subst (λ (r : Root). Prints (rootPart text words counts step r) words 0 b 0 b₁ s) (sym e) x
-
--- ---- the refusals, and the print of an accepted table
-
-module _ (P : Printable) (text words out : List ℕ) where
-  -- a text that is too long is refused by 6
-  pub long-text : mostText < length text → refusal 6 0 out ≡ printTable P text words out
-  unfolding printTable
-  long-text h = sym (simp (lt-leb (length text) mostText h))
-
-  -- a start indent that is too large is refused by 6
-  pub deep-indent : mostIndent < P .indent → refusal 6 0 out ≡ printTable P text words out
-  unfolding printTable
-  deep-indent h = by-test (leb (length text) mostText)
-    where
-      by-test : (v : Bool) → refusal 6 0 out ≡ pick (v && leb (P .indent) mostIndent) (printChecked P words out (P .refused words) refl) (refusal 6 0 out)
-      by-test true = sym (simp (lt-leb (P .indent) mostIndent h))
-      by-test false = refl
-
-  module _ (t : length text ≤ mostText) (i : P .indent ≤ mostIndent) where
-    -- the check's refusal is the print's
-    pub refused : {number place : ℕ} → P .refused words ≡ some (record { number = number; place = place }) → refusal number place out ≡ printTable P text words out
-    refused e = sym (refuses P text words out t i _ e)
-
-    -- an unrefused table's print is stored
-    pub accepted : Lawful P → {out′ : List ℕ} {r : Printed} → P .refused words ≡ none → Stores P words out out′ r → outcomeOf r out′ ≡ printTable P text words out
-    accepted L e x =
-        let a = P .unrefused words .0 e in
-        x .stores (a .1 .0) (a .1 .1) ∙ sym (prints P text words out L (a .1 .0) (a .1 .1) t (a .0) i)
+    -- so is a refusal
+    pub refused-too : {number place : ℕ} → r ≡ Refused number place → refusal number place out ≡ printTable P text words out
+    unfolding printTable
+    refused-too {number} {place} e = print-refused P b b′ out h k number place (heldBy P text words) (by-answer e)

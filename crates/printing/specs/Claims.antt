@@ -1,7 +1,7 @@
 -- What is proved of the prints. `Answered (expressions 2 text format)` is the contract of `print_expression` (format `SingleLine`) and of
 -- `print_expression_lines` (format `MultipleLines` of the start indent), `Answered (programs 2 text)` that of `print_program`: r is the answer,
 -- out the output before the call and out′ the output after it. A tree over the text is one whose names are of type `NameIn (length text)`, spans
--- that lie inside it. `expression-laws` and `program-laws` are the L of the two.
+-- that lie inside it. `expression-laws` and `program-laws` (rendering's TableLaws) are the L of the two.
 use Prim.Native.Nat.{ℕ}
 use mathlib.Core.Path.{_≡_}
 use mathlib.Core.Logic.{_↔_, _⊎_}
@@ -11,8 +11,10 @@ use lib.ListN.{length, drop}
 use Rattle.tree.specs.Check.{oversized, misfitting}
 use Rattle.printing.specs.declared.Printed.{Printed}
 use Rattle.printing.specs.declared.Printed.the-variants.{Written, Refused}
-use Rattle.printing.specs.Entries.{Printable, Answered, Within, Fits, printTooLong}
-use Rattle.printing.specs.EntryLaws.{Lawful}
+use Rattle.rendering.specs.Tables.{Printable, Within}
+use Rattle.rendering.specs.TableLaws.{Lawful}
+use Rattle.rendering.specs.Render.{printTooLong}
+use Rattle.printing.specs.Entries.{Answered, Fits}
 use Rattle.printing.specs.PrintCases as Cases
 
 module _ (P : Printable) (L : Lawful P) (text words out : List ℕ) (r : Printed) (out′ : List ℕ) (a : Answered P text words out r out′) where

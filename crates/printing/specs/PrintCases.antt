@@ -1,7 +1,7 @@
 -- What a print answers, by cases: the refusals 6, 7 and 8 (REFERENCE, "The refusals"), and the print of the table's tree.
-use Prim.Native.Nat.{ℕ, _≤_}
+use Prim.Native.Nat.{ℕ}
 use native.Mathlib.Omega.{arith}
-use mathlib.Core.Path.{_≡_, refl, sym, ap, _∙_, subst}
+use mathlib.Core.Path.{_≡_, sym, ap, _∙_, subst}
 use mathlib.Core.Logic.{_↔_, _⊎_, inl, inr}
 use mathlib.Core.Bool.{Bool, true, false, _&&_}
 use mathlib.Core.Option.{Option, some}
@@ -11,14 +11,14 @@ use lib.Dec.{leb}
 use borrow.Author.Tests.{leb-true, le-leb}
 use Rattle.lexing.specs.RunLaws.{pick-cases, both-true}
 use Rattle.tree.specs.Clash.{impossible}
-use Rattle.tree.specs.Limits.{mostText}
-use Rattle.tree.specs.Check.{Refusal, refusal as checkRefusal, oversized, misfitting}
-use Rattle.tree.specs.declared.Checked.{Checked}
-use Rattle.tree.specs.declared.Checked.the-variants.{Tree, Misfit, TooLong}
+use Rattle.tree.specs.Check.{Refusal, oversized, misfitting}
+use Rattle.rendering.specs.Tables.{Printable, Held, Within}
+use Rattle.rendering.specs.TableLaws as tables
+use Rattle.rendering.specs.TableLaws.{Lawful, Table, table}
+use Rattle.rendering.specs.Render.{printTooLong}
 use Rattle.printing.specs.declared.Printed.{Printed}
 use Rattle.printing.specs.declared.Printed.the-variants.{Written, Refused}
-use Rattle.printing.specs.Entries.{mostPrint, mostIndent, written, refusal, outcomeOf, stored, Printable, printTable, Answered, Within, Fits, printTooLong}
-use Rattle.printing.specs.EntryLaws.{Lawful, prints, refuses}
+use Rattle.printing.specs.Entries.{mostPrint, written, refusal, outcomeOf, stored, printHeld, printTable, Answered, Fits}
 
 -- one of the four cases holds of the answer r and of the output afterwards
 pub data Answer (P : Printable) (text words out : List ℕ) (r : Printed) (out′ : List ℕ) : Type 0 where
@@ -57,33 +57,16 @@ module _ (P : Printable) (L : Lawful P) (text words out : List ℕ) (r : Printed
       let y : _≡_ {A = ℕ} 0 1 = cc in absurd (omega arith))
       (c .0) (c .1))
 
-  -- by the check's answer
-  of-check : length text ≤ mostText → P .indent ≤ mostIndent → (c : Checked) → P .refused words ≡ checkRefusal c
-      → printTable P text words out ≡ outcomeOf r out′ → Answer P text words out r out′
-  of-check ht hi Tree h e =
-      let a = P .unrefused words .0 h in
-      of-tree (record { text-fits = ht; words-fit = a .0; indent-fits = hi }) (a .1 .0) (a .1 .1)
-      (sym (prints P text words out L (a .1 .0) (a .1 .1) ht (a .0) hi) ∙ e)
-  of-check ht hi (Misfit place) h e =
-      let c = is-refused r (sym e ∙ refuses P text words out ht hi _ h) in
-      misfit (record { text-fits = ht; words-fit = L .misfit words place h; indent-fits = hi }) place h (c .0) (c .1)
-  of-check ht hi TooLong h e =
-      let c = is-refused r (sym e ∙ refuses P text words out ht hi _ h) in
-      let k = L .too-many words h in
-      over (λ w. let f = w .words-fit in omega arith) (c .0) (c .1)
+  -- the cases of a table
+  of-table : {h : Held (P .Tree)} → Table P text words h → printHeld P h out ≡ outcomeOf r out′ → Answer P text words out r out′
+  of-table (tables.over n) e = let c = is-refused r (sym e) in over n (c .0) (c .1)
+  of-table (tables.misfit w place m) e = let c = is-refused r (sym e) in misfit w place m (c .0) (c .1)
+  of-table (tables.tree w t h) e = of-tree w t h e
 
   -- every answer is one of the four
   pub cases : Answered P text words out r out′ → Answer P text words out r out′
   unfolding printTable
-  cases a =
-      pick-cases (leb (length text) mostText && leb (P .indent) mostIndent) (sym a)
-      (λ b f. let two = both-true _ _ b in
-      of-check (leb-true _ _ (two .0)) (leb-true _ _ (two .1)) (L .found words .0) (L .found words .1) (sym a))
-      (λ b f. let c = is-refused r (sym f) in
-      over
-      (λ w. let z : _≡_ {A = Bool} true false = sym (simp (le-leb _ _ (w .text-fits), le-leb _ _ (w .indent-fits))) ∙ b in
-      let y : _≡_ {A = ℕ} 0 1 = cc in absurd (omega arith))
-      (c .0) (c .1))
+  cases a = of-table (table P L text words) (sym a)
 
 -- a refusal has one place
 same-place : {q : Option Refusal} {p p′ : ℕ} → q ≡ some (record { number = misfitting; place = p }) → q ≡ some (record { number = misfitting; place = p′ }) → p ≡ p′

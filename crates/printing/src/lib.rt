@@ -1,15 +1,5 @@
 // The prints of B3.
-mod around;
 mod entry;
-mod expression;
-mod forms;
-mod items;
-mod operator;
-mod parts;
-mod program;
-mod simple;
-mod statement;
-mod write;
 
 pub use entry::print_expression;
 pub use entry::print_expression_lines;

@@ -19,7 +19,8 @@ use Rattle.layout.specs.declared.format.ExprFormatOption.{ExprFormatOption}
 use Rattle.printing.specs.declared.Printed.{Printed}
 use Rattle.printing.specs.declared.Printed.the-variants.{Written}
 use Rattle.layout.specs.PrintUtil.{Init}
-use Rattle.printing.specs.Entries.{PrintAnswered, ProgramAnswered, Holds}
+use Rattle.rendering.specs.Tables.{Holds}
+use Rattle.printing.specs.Entries.{PrintAnswered, ProgramAnswered}
 use Rattle.roundtrip.specs.Nesting.{nesting}
 use Rattle.roundtrip.specs.SmallNaturals.{Words32}
 use Rattle.roundtrip.specs.ReadPrinted.{Unrefused, program-unrefused}

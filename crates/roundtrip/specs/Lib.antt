@@ -6,6 +6,7 @@ pub mod ReadPrinted
 pub mod Claims
 mod Examples
 mod LimitExamples
+mod DepthExamples
 pub mod Trials
 -- print to derivation: the levels of the grammar, and the one table over two operators and a side
 pub mod Levels

@@ -13,8 +13,10 @@ use Rattle.tree.specs.Check.{NameIn}
 use Rattle.tree.specs.Resolve.{part}
 use Rattle.layout.specs.declared.format.ExprFormatOption.the-variants.{SingleLine, MultipleLines}
 use Rattle.layout.specs.Examples.{computed}
-use Rattle.printing.specs.Entries.{mostPrint, written, refusal, stored, expressions, printOf, printTable, printExpression}
-use Rattle.printing.specs.EntryLaws.{expression-laws, prints}
+use Rattle.rendering.specs.Tables.{expressions, printOf, heldBy}
+use Rattle.printing.specs.Entries.{mostPrint, written, refusal, stored, printTable, printExpression}
+use Rattle.rendering.specs.TableLaws.{expression-laws}
+use Rattle.printing.specs.EntryLaws.{prints}
 
 -- ---- the start indent
 
@@ -29,7 +31,7 @@ indent-255 =
     (IdExpr (record { span = record { start = 0; len = 1 }; inside = lit≤ tt }) false) refl (lit≤ tt) (lit≤ tt) (lit≤ tt)
 
 indent-256 : printExpression 2 (bytes "a") name-words (MultipleLines 256) (bytes "~~") ≡ refusal 6 0 (bytes "~~")
-unfolding printTable
+unfolding printTable heldBy
 indent-256 = refl
 
 -- ---- the bytes of a print

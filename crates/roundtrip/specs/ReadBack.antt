@@ -22,8 +22,9 @@ use Rattle.printing.specs.declared.Printed.the-variants.{Written}
 use Rattle.layout.specs.declared.format.ExprFormatOption.{ExprFormatOption}
 use Rattle.layout.specs.PrintUtil.{Init}
 use Rattle.layout.specs.Printer.{Expression}
-use Rattle.printing.specs.Entries.{nameIn, expressions, printOf, PrintAnswered, Holds}
-use Rattle.printing.specs.EntryLaws.{same-tree, expression-laws}
+use Rattle.rendering.specs.Tables.{nameIn, expressions, printOf, Holds}
+use Rattle.printing.specs.Entries.{PrintAnswered}
+use Rattle.rendering.specs.TableLaws.{same-tree, expression-laws}
 use Rattle.printing.specs.Claims.{tree-printed, written-tree}
 use Rattle.roundtrip.specs.Nesting.{nesting}
 use Rattle.roundtrip.specs.Derived.{printed-derives}

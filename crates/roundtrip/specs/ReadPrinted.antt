@@ -16,8 +16,9 @@ use Rattle.grammar.specs.Reading.{words, unlessLong, outcomeBy, readTreeOfProgr
 use Rattle.grammar.specs.Claims as Grammar
 use Rattle.printing.specs.declared.Printed.{Printed}
 use Rattle.printing.specs.declared.Printed.the-variants.{Refused}
-use Rattle.printing.specs.Entries.{mostIndent, Printable, Answered, ProgramAnswered, Within, programs}
-use Rattle.printing.specs.EntryLaws.{Lawful, program-laws}
+use Rattle.rendering.specs.Tables.{mostIndent, Printable, Within, programs}
+use Rattle.printing.specs.Entries.{Answered, ProgramAnswered}
+use Rattle.rendering.specs.TableLaws.{Lawful, program-laws}
 use Rattle.printing.specs.Claims as Printer
 
 -- an answer that is no refusal by 6 and none by 7

@@ -16,7 +16,7 @@ use Rattle.grammar.specs.OperatorTrees.{notOnTheRight, isNoneOf, fitsRight}
 use Rattle.layout.specs.declared.power.BindingPower.{BindingPower}
 use Rattle.layout.specs.declared.power.Side.{Side}
 use Rattle.layout.specs.declared.power.Side.the-variants.{Left, Right}
-use Rattle.printing.specs.OperatorWords.{operators}
+use Rattle.rendering.specs.OperatorWords.{operators}
 use Rattle.layout.specs.PrintUtil.{BreakTieInFavorOfOperator, pulls, wins, WinsOver, SubexpressionPower, BindingStrength}
 use Rattle.roundtrip.specs.Levels.{Level, operand, within, fitsIn, operand-fits}
 use Rattle.roundtrip.specs.Operators.{levelOf, place}

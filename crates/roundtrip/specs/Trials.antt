@@ -17,9 +17,11 @@ use Rattle.grammar.specs.Reading.{words, refusal, readExpression, readProgram}
 use Rattle.grammar.specs.Reading as Reading
 use Rattle.layout.specs.declared.format.ExprFormatOption.the-variants.{SingleLine}
 use Rattle.layout.specs.Examples.{computed as print-computed}
-use Rattle.printing.specs.Entries.{written, stored, expressions, printOf, printExpression}
+use Rattle.rendering.specs.Tables.{expressions, printOf}
+use Rattle.printing.specs.Entries.{written, stored, printExpression}
 use Rattle.printing.specs.Entries as Printing
 use Rattle.printing.specs.EntryLaws as Entry
+use Rattle.rendering.specs.TableLaws.{expression-laws}
 
 -- a row of the list
 pub data Trial : Type 0 where
@@ -69,7 +71,7 @@ c = name 2 (lit≤ tt)
 
 printed : (e : Expr (NameIn 3)) (ws : List ℕ) → exprWords (λ n. n .span) e [] ≡ ws → length ws ≤ 16384
     → printExpression 2 (bytes "abc") ws SingleLine (bytes "~~~~~~~~~~~~~~~~") ≡ stored (printOf 2 (bytes "abc") SingleLine e) (bytes "~~~~~~~~~~~~~~~~")
-printed e ws h l = Entry.prints (expressions 2 (bytes "abc") SingleLine) (bytes "abc") ws (bytes "~~~~~~~~~~~~~~~~") (Entry.expression-laws 2 (bytes "abc") SingleLine) e h (lit≤ tt) l (lit≤ tt)
+printed e ws h l = Entry.prints (expressions 2 (bytes "abc") SingleLine) (bytes "abc") ws (bytes "~~~~~~~~~~~~~~~~") (expression-laws 2 (bytes "abc") SingleLine) e h (lit≤ tt) l (lit≤ tt)
 
 -- the theorem
 pub trials-given : Given trials

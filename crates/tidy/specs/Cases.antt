@@ -17,7 +17,8 @@ use Rattle.tree.specs.Words.{programWords}
 use Rattle.grammar.specs.Reading.{Outcome, words, refusal, readProgram}
 use Rattle.grammar.specs.Claims.{read-program-accepted}
 use Rattle.grammar.specs.Proofs.Refusals.Entries.{Refused, Held, program-refused, program-held}
-use Rattle.printing.specs.Entries.{mostPrint, written, refusal as unprinted, stored, Fits, programPrintOf, printProgram}
+use Rattle.rendering.specs.Tables.{programPrintOf}
+use Rattle.printing.specs.Entries.{mostPrint, written, refusal as unprinted, stored, Fits}
 use Rattle.tidy.specs.Tidy.{Answered, refusalNumber, ofPrint, ofReading, tidied}
 use Rattle.tidy.specs.TidyLaws.{Stores, print-stores}
 

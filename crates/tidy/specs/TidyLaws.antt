@@ -2,22 +2,25 @@
 use Prim.Native.Nat.{ℕ, _≤_}
 use mathlib.Core.Path.{_≡_, refl, ap, sym, subst, _∙_}
 use mathlib.Core.Bool.{Bool, true, false, _&&_}
-use mathlib.Core.Option.{Option, none, some}
+use mathlib.Core.Option.{none}
 use mathlib.Core.List.{List, [], _++_}
-use lib.ListN.{length, take, drop}
+use lib.ListN.{length, drop}
 use lib.Dec.{leb}
-use borrow.Author.Tests.{leb-true, le-leb}
+use native.Mathlib.Omega.{arith}
+use borrow.Author.Tests.{leb-true}
 use Rattle.lexing.specs.RunLaws.{both-true}
 use Rattle.lexing.specs.Answer.{pick}
 use Rattle.tree.specs.Ast.{Program}
 use Rattle.tree.specs.Words.{programWords}
 use Rattle.tree.specs.Refused.{program-unrefused}
-use Rattle.tree.specs.Clash.{impossible}
 use Rattle.tree.specs.Limits.{mostText, mostWords}
-use Rattle.tree.specs.Check.{NameIn, Refusal, programRefusal}
+use Rattle.tree.specs.Check.{NameIn, programRefusal}
 use Rattle.grammar.specs.Reading.{Outcome, words, refusal, readProgram}
 use Rattle.grammar.specs.Tables.{gist, short, program-gist}
-use Rattle.printing.specs.Entries.{mostPrint, Outcome as PrintOutcome, written, refusal as unprinted, stored, programs, programPrintOf, printChecked, printTable, printProgram}
+use Rattle.rendering.specs.Tables.{programs, programPrintOf}
+use Rattle.rendering.specs.TableLaws.{program-laws}
+use Rattle.printing.specs.Entries.{mostPrint, Outcome as PrintOutcome, written, refusal as unprinted, stored, printProgram}
+use Rattle.printing.specs.EntryLaws.{prints}
 use Rattle.tidy.specs.Tidy.{Answered, refusalNumber, ofPrint, ofReading, tidied}
 
 -- what tidy answers by the words alone
@@ -58,21 +61,9 @@ pub record Stores (text ws out : List ℕ) : Type 0 where
 
 module _ (text ws out : List ℕ) (short : length text ≤ mostText) (accepted : programRefusal ws (length text) ≡ none) where
   pub print-stores : Stores text ws out
-  unfolding printTable printChecked
   print-stores =
-      let within : (leb (length text) mostText && true) ≡ true = rw (le-leb (length text) mostText short) refl in
-      let same : printProgram 2 text ws out ≡ printChecked (programs 2 text) ws out (programRefusal ws (length text)) refl = rw within refl in
-      checked (programRefusal ws (length text)) refl accepted same
-    where
-      checked : (r : Option Refusal) (e : programRefusal ws (length text) ≡ r) → r ≡ none
-          → printProgram 2 text ws out ≡ printChecked (programs 2 text) ws out r e → Stores text ws out
-      checked none e q s =
-          record {
-            tree = program-unrefused ws (length text) .0 e .1 .0;
-            holds = program-unrefused ws (length text) .0 e .1 .1;
-            stores = s;
-          }
-      checked (some r) e q s = impossible (cc)
+      let a = program-unrefused ws (length text) .0 accepted in
+      record { tree = a .1 .0; holds = a .1 .1; stores = prints (programs 2 text) text ws out (program-laws 2 text) (a .1 .0) (a .1 .1) short (a .0) (omega arith) }
 
   pub print-limited : Limited out (printProgram 2 text ws out)
   print-limited = subst (Limited out) (sym (print-stores .stores)) (stored-limited _ out)

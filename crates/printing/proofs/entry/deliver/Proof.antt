@@ -1,39 +1,24 @@
--- The first bytes of a buffer, where both it and the output have so many.
-use Rattle.printing.proofs.EntryAnswers.{short-buffer, short-output, copied}
+-- The first bytes of a buffer, where the output has so many.
+use Rattle.printing.proofs.EntryAnswers.{front, copied, too-short}
 use native.Mathlib.Omega.{arith}
-use lib.Seq.{length-take-le}
 use mathlib.Core.Path.{sym}
 use borrow.Author.Needs.{needs}
 use Rattle.printing.proofs.entry.deliver.Statement.{statement}
 use Rattle.printing.proofs.entry.deliver.Tie as tie
 
 returns : tie.Need-returns
-returns c = short-buffer _ _ _ (c .if1 .taken)
+returns c = too-short (c .before .before .before .args .buffer .now) (c .before .before .before .args .n) (c .before .before .before .args .out .now) (c .before .before .before .pre) (c .if1 .taken)
+
+slice-aggregate-copy : tie.Need-slice-aggregate-copy
+slice-aggregate-copy c = sym (front (c .before .before .before .before .args .buffer .now) (c .before .before .before .before .args .n) (c .before .before .before .before .args .out .now) (c .before .before .before .before .pre))
+
+copy-requires : tie.Need-copy-requires
+copy-requires c κs = omega (arith, front (c .before .before .before .before .before .args .buffer .now) (c .before .before .before .before .before .args .n) (c .before .before .before .before .before .args .out .now) (c .before .before .before .before .before .pre), c .before .before .if1 .left)
 
 returns-2 : tie.Need-returns-2
-returns-2 c = short-output _ _ _ (c .before .if1 .left) (c .if2 .taken)
-
-slice-aggregate-store : tie.Need-slice-aggregate-store
-slice-aggregate-store c = sym
-    (length-take-le (c .before .before .before .before .before .before .args .n)
-    (c .before .before .before .before .before .before .args .buffer .now) (c .before .before .before .if1 .left))
-
-store-requires : tie.Need-store-requires
-store-requires c κs = omega (
-  arith,
-  length-take-le (c .before .before .before .before .before .before .args .n)
-      (c .before .before .before .before .before .before .args .buffer .now) (c .before .before .before .if1 .left),
-  c .before .before .if2 .left,
-)
-
-returns-3 : tie.Need-returns-3
-returns-3 c = copied (c .before .before .before .before .before .before .before .before .before .args .buffer .now)
-    (c .before .before .before .before .before .before .before .before .before .args .n)
-    (c .before .before .before .before .before .before .before .before .before .args .out .now)
-    (c .before .before .before .before .before .before .if1 .left) (c .before .before .before .before .before .if2 .left)
-    (c .before .before .store .ensures)
+returns-2 c =
+    copied (c .before .before .before .before .before .before .before .before .args .buffer .now) (c .before .before .before .before .before .before .before .before .args .n) (c .before .before .before .before .before .before .before .before .args .out .now)
+    (c .before .before .before .before .before .before .before .before .pre) (c .before .before .before .before .before .if1 .left) (c .before .before .copy .ensures .1)
 
 pub deliver-spec : {M : Type 1} → statement M
-deliver-spec =
-    tie.close
-    (tie.spec returns returns-2 slice-aggregate-store store-requires (λ c. search needs) returns-3)
+deliver-spec = tie.close (tie.spec returns slice-aggregate-copy copy-requires (λ c. search needs) returns-2)
