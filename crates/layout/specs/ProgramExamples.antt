@@ -6,7 +6,7 @@ use mathlib.Core.Bool.{true, false}
 use mathlib.Core.Option.{none, some}
 use mathlib.Core.List.{[], _∷_}
 use Rattle.lexing.specs.Bytes.{bytes}
-use Rattle.tree.specs.Ast.{In, InOut, Out, OperatorExpr, LogicalAnd, Exit, aExpr, AAssertion, Check, noAExprs, aExprs, noExprs}
+use Rattle.tree.specs.Ast.{In, InOut, Out, OperatorExpr, IfThenElse, LogicalAnd, Exit, aExpr, AAssertion, Check, noAExprs, aExprs, noExprs}
 use Rattle.tree.specs.Ast.{Tagger, FParameter, FunctionDefinition, Function, Axiom, PParameter, Procedure as Proc, Program as Tree}
 use Rattle.layout.specs.Examples.{list as exprs}
 use Rattle.layout.specs.StatementExamples.{statements-computed, v, both, block}
@@ -81,6 +81,36 @@ procedure-body : Procedure bytes 2 (record { name = "a"; parameters = []; pre = 
     ≡ bytes "procedure a()\n{\n  exit b\n}\n"
 unfolding program-computed
 procedure-body = refl
+
+-- the step inside a body, an axiom, and the assertions and the body of a procedure
+function-steps : FunctionDecl bytes 3
+    (record {
+      name = "a";
+      parameters = [];
+      resultType = "b";
+      tag = none;
+      definition = some (record { when = noExprs; body = OperatorExpr IfThenElse (exprs (v "c" ∷ v "d" ∷ v "e" ∷ [])) });
+    }) []
+    ≡ bytes "function a(): b\n{\n   if c\n      d\n   else\n      e\n}\n"
+unfolding program-computed
+function-steps = refl
+
+axiom-steps : AxiomDecl bytes 3 (record { explains = []; expr = OperatorExpr IfThenElse (exprs (v "a" ∷ v "b" ∷ v "c" ∷ [])) }) []
+    ≡ bytes "axiom\n   if a\n      b\n   else\n      c\n"
+unfolding program-computed
+axiom-steps = refl
+
+procedure-steps : Procedure bytes 3
+    (record {
+      name = "a";
+      parameters = [];
+      pre = aExprs (AAssertion (block (Check (v "b") ∷ []))) noAExprs;
+      post = aExprs (AAssertion (block (Check (v "c") ∷ []))) noAExprs;
+      body = some (block (block (Exit (some "d") ∷ []) ∷ []));
+    }) []
+    ≡ bytes "procedure a()\n   requires {\n      check b\n   }\n   ensures {\n      check c\n   }\n{\n   {\n      exit d\n   }\n}\n"
+unfolding program-computed
+procedure-steps = refl
 
 -- the five kinds in upstream's order, the declarations of a kind in their own
 program : Program bytes 2
