@@ -3,29 +3,29 @@
 use Rattle.std.specs.Prelude.{ℕ, suc, ◌≡◌, refl, Bool, true, false, List, [], ◌∷◌, map, length}
 use Prim.Native.String.{String}
 use Rattle.std.proofs.Math.Option.{Option, none, some}
-use Rattle.lexing.specs.Bytes.{isSpace, isDigit, canStartIdentifierChar, identifierChar, notNewline, run, starts_with, sameBytes, bytes}
-use Rattle.lexing.specs.Blanks.{mark as commentMark, longComment, positionAfterEndOfLongComment, blank, blanksFrom, W}
-use Rattle.lexing.specs.Tokens.{identifierLength, decimal}
-use Rattle.tree.specs.Ast.{BLiteral, ILiteral, IdExpr, OperatorExpr, FunctionCallExpr, noExprs, ◌then◌}
+use Rattle.lexing.specs.Bytes.{is_space, is_digit, can_start_identifier_char, identifier_char, not_newline, run, starts_with, same_bytes, bytes}
+use Rattle.lexing.specs.Blanks.{mark as comment_mark, long_comment, position_after_end_of_long_comment, blank, blanks_from, W}
+use Rattle.lexing.specs.Tokens.{identifier_length, decimal}
+use Rattle.tree.specs.Ast.{BLiteral, ILiteral, IdExpr, OperatorExpr, FunctionCallExpr, no_exprs, ◌then◌}
 use Rattle.tree.specs.Ast.{Operator, Equiv, LogicalImp, LogicalAnd, LogicalOr, Eq, Neq, Less, AtMost, Plus, Minus, Times, Div, Mod, LogicalNot}
 use Rattle.tree.specs.Ast.{UnaryMinus}
-use Rattle.grammar.specs.Words.{one_of, isName, isIdentifier, isFaithfulName, excludedWords, keywords}
-use Rattle.grammar.specs.Tokens.{Spelling, ◌is◌, signs, signAt, naturalAt, name_at, tokenAt, atToken, tokensAfter, cut}
-use Rattle.grammar.specs.Grammar.{Tree, signRole, wordRole, role, binary, unary, single}
-use Rattle.grammar.specs.OperatorTrees.{Operators, Faithful, notOnTheRight, isNoneOf, fitsRight}
-use Rattle.grammar.specs.Parser.{after, see, isNat, isWord, isMark, inClass, parseSeries, parseItems, parseNamed, parseExcluded}
-use Rattle.grammar.specs.Parser.{parseBracketed, parseOperand, parseUnary}
-use Rattle.grammar.specs.Parser.{leftTail, rightTail, onceTail, eitherTail, continued, parseExpr, parse}
+use Rattle.grammar.specs.Words.{one_of, is_name, is_identifier, is_faithful_name, excluded_words, keywords}
+use Rattle.grammar.specs.Tokens.{Spelling, ◌is◌, signs, sign_at, natural_at, name_at, token_at, at_token, tokens_after, cut}
+use Rattle.grammar.specs.Grammar.{Tree, sign_role, word_role, role, binary, unary, single}
+use Rattle.grammar.specs.OperatorTrees.{Operators, Faithful, not_on_the_right, is_none_of, fits_right}
+use Rattle.grammar.specs.Parser.{after, see, is_nat, is_word, is_mark, in_class, parse_series, parse_items, parse_named, parse_excluded}
+use Rattle.grammar.specs.Parser.{parse_bracketed, parse_operand, parse_unary}
+use Rattle.grammar.specs.Parser.{left_tail, right_tail, once_tail, either_tail, continued, parse_expr, parse}
 use Rattle.tree.specs.Clash.{impossible}
 
 infixl 70 ◌gives◌
 -- the tree that the token parser gives for a text, at a depth
 unfoldable tree_of : ℕ → String → Option Tree
-unfolding isSpace isDigit canStartIdentifierChar identifierChar notNewline run starts_with sameBytes
-    commentMark longComment positionAfterEndOfLongComment blank blanksFrom W identifierLength decimal
-    signAt naturalAt name_at tokenAt atToken tokensAfter cut one_of isName signRole wordRole role binary unary
-    after see isNat isWord isMark inClass parseSeries parseItems parseNamed parseExcluded parseBracketed parseOperand parseUnary
-    leftTail rightTail onceTail eitherTail continued parseExpr parse
+unfolding is_space is_digit can_start_identifier_char identifier_char not_newline run starts_with same_bytes
+    comment_mark long_comment position_after_end_of_long_comment blank blanks_from W identifier_length decimal
+    sign_at natural_at name_at token_at at_token tokens_after cut one_of is_name sign_role word_role role binary unary
+    after see is_nat is_word is_mark in_class parse_series parse_items parse_named parse_excluded parse_bracketed parse_operand parse_unary
+    left_tail right_tail once_tail either_tail continued parse_expr parse
 tree_of d text = parse d (cut (bytes text))
 
 data Trial : Type 0 where
@@ -41,7 +41,7 @@ abbrev name' : String → Tree
 name' w = IdExpr (bytes w) false
 
 abbrev two : Operator → Tree → Tree → Tree
-two op t u = OperatorExpr op (◌then◌ t (◌then◌ u noExprs))
+two op t u = OperatorExpr op (◌then◌ t (◌then◌ u no_exprs))
 
 abbrev a : Tree
 a = name' "a"
@@ -115,7 +115,7 @@ operands =
     ∷ "old a" gives IdExpr (bytes "a") true
     ∷ "old if" gives IdExpr (bytes "if") true
     ∷ "old old" gives IdExpr (bytes "old") true
-    ∷ "f()" gives FunctionCallExpr (bytes "f") noExprs
+    ∷ "f()" gives FunctionCallExpr (bytes "f") no_exprs
     ∷ "falsee" gives name' "falsee"
     ∷ "a%b" gives name' "a%b"
     ∷ "%a.b_c$1" gives name' "%a.b_c$1"
@@ -136,8 +136,8 @@ bracketed =
     "(a)" gives a
     ∷ "(a + b) * c" gives two Times (two Plus a b) c
     ∷ "a && (b || c)" gives two LogicalAnd a (two LogicalOr b c)
-    ∷ "f(a)" gives FunctionCallExpr (bytes "f") (◌then◌ a noExprs)
-    ∷ "f (a, b < c)" gives FunctionCallExpr (bytes "f") (◌then◌ a (◌then◌ (two Less b c) noExprs))
+    ∷ "f(a)" gives FunctionCallExpr (bytes "f") (◌then◌ a no_exprs)
+    ∷ "f (a, b < c)" gives FunctionCallExpr (bytes "f") (◌then◌ a (◌then◌ (two Less b c) no_exprs))
     ∷ "a div(b)" gives two Div a b
     ∷ []
 
@@ -164,47 +164,47 @@ refused-hold : (d : ℕ) → map (λ s. tree_of (suc d) s) refused ≡ map (λ s
 unfolding tree_of
 refused-hold d = refl
 
-abbrev refusedDeeper : List String
-refusedDeeper = "()" ∷ "(a" ∷ "f(" ∷ "f(a" ∷ "f(,a)" ∷ "f(a,)" ∷ "f(a b)" ∷ "old f(a)" ∷ "(a, b)" ∷ "a(b)(c)" ∷ []
+abbrev refused_deeper : List String
+refused_deeper = "()" ∷ "(a" ∷ "f(" ∷ "f(a" ∷ "f(,a)" ∷ "f(a,)" ∷ "f(a b)" ∷ "old f(a)" ∷ "(a, b)" ∷ "a(b)(c)" ∷ []
 
-refusedDeeper-hold : (d : ℕ) → map (λ s. tree_of (suc (suc d)) s) refusedDeeper ≡ map (λ s. none) refusedDeeper
+refused_deeper-hold : (d : ℕ) → map (λ s. tree_of (suc (suc d)) s) refused_deeper ≡ map (λ s. none) refused_deeper
 unfolding tree_of
-refusedDeeper-hold d = refl
+refused_deeper-hold d = refl
 
 -- longer signs stand before shorter ones, so the first that stands in a text is the longest
-abbrev spellingLength : Spelling → ℕ
-spellingLength (◌is◌ w t) = length (bytes w)
+abbrev spelling_length : Spelling → ℕ
+spelling_length (◌is◌ w t) = length (bytes w)
 
-signs-sorted : map spellingLength signs ≡ 4 ∷ 3 ∷ 3 ∷ 2 ∷ 2 ∷ 2 ∷ 2 ∷ 2 ∷ 2 ∷ 1 ∷ 1 ∷ 1 ∷ 1 ∷ 1 ∷ 1 ∷ 1 ∷ 1 ∷ 1 ∷ []
+signs-sorted : map spelling_length signs ≡ 4 ∷ 3 ∷ 3 ∷ 2 ∷ 2 ∷ 2 ∷ 2 ∷ 2 ∷ 2 ∷ 1 ∷ 1 ∷ 1 ∷ 1 ∷ 1 ∷ 1 ∷ 1 ∷ 1 ∷ 1 ∷ []
 signs-sorted = refl
 
 -- the words
-words-counted : (length excludedWords ≡ 8) × (length keywords ≡ 46)
+words-counted : (length excluded_words ≡ 8) × (length keywords ≡ 46)
 words-counted = (refl, refl)
 
 abbrev fitting : List Bool
 fitting =
-    fitsRight Equiv (two Equiv a b) ∷ fitsRight LogicalAnd (two LogicalAnd a b) ∷ fitsRight LogicalOr (two LogicalOr a b) ∷ fitsRight Plus (two Plus a b)
-    ∷ fitsRight Plus (two Minus a b) ∷ fitsRight Times (two Times a b) ∷ fitsRight Times (two Div a b) ∷ fitsRight Times (two Mod a b)
-    ∷ fitsRight LogicalImp (two LogicalImp a b) ∷ fitsRight Minus (two Minus a b) ∷ fitsRight Minus (two Plus a b) ∷ fitsRight Div (two Times a b)
-    ∷ fitsRight LogicalAnd (two LogicalOr a b) ∷ fitsRight Plus (two Times a b) ∷ fitsRight Times (two Plus a b) ∷ fitsRight Plus a ∷ []
+    fits_right Equiv (two Equiv a b) ∷ fits_right LogicalAnd (two LogicalAnd a b) ∷ fits_right LogicalOr (two LogicalOr a b) ∷ fits_right Plus (two Plus a b)
+    ∷ fits_right Plus (two Minus a b) ∷ fits_right Times (two Times a b) ∷ fits_right Times (two Div a b) ∷ fits_right Times (two Mod a b)
+    ∷ fits_right LogicalImp (two LogicalImp a b) ∷ fits_right Minus (two Minus a b) ∷ fits_right Minus (two Plus a b) ∷ fits_right Div (two Times a b)
+    ∷ fits_right LogicalAnd (two LogicalOr a b) ∷ fits_right Plus (two Times a b) ∷ fits_right Times (two Plus a b) ∷ fits_right Plus a ∷ []
 
 fitting-holds : fitting ≡ false ∷ false ∷ false ∷ false ∷ false ∷ false ∷ false ∷ false ∷ true ∷ true ∷ true ∷ true ∷ true ∷ true ∷ true ∷ true ∷ []
-unfolding fitsRight notOnTheRight isNoneOf
+unfolding fits_right not_on_the_right is_none_of
 fitting-holds = refl
 
-faithful-names : map (λ s. isFaithfulName (bytes s)) ("a" ∷ "%a1" ∷ "divx" ∷ "" ∷ "1a" ∷ "a b" ∷ "div" ∷ "if" ∷ "requires" ∷ "invariant" ∷ [])
+faithful-names : map (λ s. is_faithful_name (bytes s)) ("a" ∷ "%a1" ∷ "divx" ∷ "" ∷ "1a" ∷ "a b" ∷ "div" ∷ "if" ∷ "requires" ∷ "invariant" ∷ [])
     ≡ true ∷ true ∷ true ∷ false ∷ false ∷ false ∷ false ∷ false ∷ false ∷ false ∷ []
-unfolding isFaithfulName isIdentifier one_of sameBytes identifierLength canStartIdentifierChar identifierChar isDigit run
+unfolding is_faithful_name is_identifier one_of same_bytes identifier_length can_start_identifier_char identifier_char is_digit run
 faithful-names = refl
 
 -- P8's tree is faithful, P9's is not
 p8-faithful : Faithful (two Minus a (two Minus b c))
-unfolding isFaithfulName isIdentifier one_of sameBytes identifierLength canStartIdentifierChar identifierChar isDigit run
-    fitsRight notOnTheRight isNoneOf
+unfolding is_faithful_name is_identifier one_of same_bytes identifier_length can_start_identifier_char identifier_char is_digit run
+    fits_right not_on_the_right is_none_of
 p8-faithful =
     Operators.binary refl (Operators.variable refl) (Operators.binary refl (Operators.variable refl) (Operators.variable refl) refl) refl
 
 p9-not-faithful : Faithful (two Times a (two Div b c)) → ⊥
-unfolding fitsRight notOnTheRight isNoneOf
+unfolding fits_right not_on_the_right is_none_of
 p9-not-faithful (Operators.binary n x y h) = impossible (cc)

@@ -5,11 +5,11 @@ use Rattle.std.specs.Prelude.{ℕ, zero, suc, ◌≡◌, true, false, List, [], 
 use Prim.Native.String.{String}
 use Rattle.std.proofs.Math.Option.{Option, none, some}
 use Rattle.lexing.specs.Answer.{pick}
-use Rattle.lexing.specs.Bytes.{sameBytes, bytes}
-use Rattle.tree.specs.Ast.{Expr, BLiteral, ILiteral, IdExpr, OperatorExpr, FunctionCallExpr, Exprs, noExprs, ◌then◌}
+use Rattle.lexing.specs.Bytes.{same_bytes, bytes}
+use Rattle.tree.specs.Ast.{Expr, BLiteral, ILiteral, IdExpr, OperatorExpr, FunctionCallExpr, Exprs, no_exprs, ◌then◌}
 use Rattle.tree.specs.Ast.{Operator, Equiv, LogicalImp, LogicalAnd, LogicalOr, Eq, Neq, Less, AtMost, Plus, Minus, Times, Div, Mod, LogicalNot}
 use Rattle.tree.specs.Ast.{UnaryMinus}
-use Rattle.grammar.specs.Words.{isName}
+use Rattle.grammar.specs.Words.{is_name}
 use Rattle.grammar.specs.Tokens.{Token, name, nat, mark, sign, illegal, lparen, rparen, comma, cut}
 use Rattle.grammar.specs.Tokens.{Sign, '!', '-', '*', '+', '==', '!=', '<', '<=', '>=', '>', '&&', '||', '==>', '<==', '<==>'}
 
@@ -27,11 +27,11 @@ pub data Build : Type 0 where
   straight swapped : Operator → Build
 
 abbrev pub single : {N : Type 0} → Operator → Expr N → Expr N
-single op t = OperatorExpr op (◌then◌ t noExprs)
+single op t = OperatorExpr op (◌then◌ t no_exprs)
 
 abbrev pub build : {N : Type 0} → Build → Expr N → Expr N → Expr N
-build (straight op) t u = OperatorExpr op (◌then◌ t (◌then◌ u noExprs))
-build (swapped op) t u = OperatorExpr op (◌then◌ u (◌then◌ t noExprs))
+build (straight op) t u = OperatorExpr op (◌then◌ t (◌then◌ u no_exprs))
+build (swapped op) t u = OperatorExpr op (◌then◌ u (◌then◌ t no_exprs))
 
 -- what a token is as an operator: before an operand, between two, both, or neither
 pub data Role : Type 0 where
@@ -41,56 +41,56 @@ pub data Role : Type 0 where
   neither : Role
 
 -- the operator table
-unfoldable pub signRole : Sign → Role
-signRole '!' = before LogicalNot
-signRole '-' = both UnaryMinus sum (straight Minus)
-signRole '*' = between product (straight Times)
-signRole '+' = between sum (straight Plus)
-signRole '==' = between comparison (straight Eq)
-signRole '!=' = between comparison (straight Neq)
-signRole '<' = between comparison (straight Less)
-signRole '<=' = between comparison (straight AtMost)
-signRole '>=' = between comparison (swapped AtMost)
-signRole '>' = between comparison (swapped Less)
-signRole '&&' = between conjunction (straight LogicalAnd)
-signRole '||' = between disjunction (straight LogicalOr)
-signRole '==>' = between implication (straight LogicalImp)
-signRole '<==' = between explication (swapped LogicalImp)
-signRole '<==>' = between equivalence (straight Equiv)
+unfoldable pub sign_role : Sign → Role
+sign_role '!' = before LogicalNot
+sign_role '-' = both UnaryMinus sum (straight Minus)
+sign_role '*' = between product (straight Times)
+sign_role '+' = between sum (straight Plus)
+sign_role '==' = between comparison (straight Eq)
+sign_role '!=' = between comparison (straight Neq)
+sign_role '<' = between comparison (straight Less)
+sign_role '<=' = between comparison (straight AtMost)
+sign_role '>=' = between comparison (swapped AtMost)
+sign_role '>' = between comparison (swapped Less)
+sign_role '&&' = between conjunction (straight LogicalAnd)
+sign_role '||' = between disjunction (straight LogicalOr)
+sign_role '==>' = between implication (straight LogicalImp)
+sign_role '<==' = between explication (swapped LogicalImp)
+sign_role '<==>' = between equivalence (straight Equiv)
 
 -- of the identifiers, `div` and `mod` are operators
-unfoldable pub wordRole : List ℕ → Role
-wordRole w =
-    pick (sameBytes w (bytes "div")) (between product (straight Div)) (pick (sameBytes w (bytes "mod")) (between product (straight Mod)) neither)
+unfoldable pub word_role : List ℕ → Role
+word_role w =
+    pick (same_bytes w (bytes "div")) (between product (straight Div)) (pick (same_bytes w (bytes "mod")) (between product (straight Mod)) neither)
 
 unfoldable pub role : Token → Role
-role (name w) = wordRole w
+role (name w) = word_role w
 role (nat n) = neither
 role (mark k) = neither
-role (sign g) = signRole g
+role (sign g) = sign_role g
 role illegal = neither
 
 -- a token between two operands: its class and its tree
 pub data Row : Type 0 where
   row : Class → Build → Row
 
-abbrev pub asBinary : Role → Option Row
-asBinary (before op) = none
-asBinary (between c b) = some (row c b)
-asBinary (both op c b) = some (row c b)
-asBinary neither = none
+abbrev pub as_binary : Role → Option Row
+as_binary (before op) = none
+as_binary (between c b) = some (row c b)
+as_binary (both op c b) = some (row c b)
+as_binary neither = none
 
-abbrev pub asUnary : Role → Option Operator
-asUnary (before op) = some op
-asUnary (between c b) = none
-asUnary (both op c b) = some op
-asUnary neither = none
+abbrev pub as_unary : Role → Option Operator
+as_unary (before op) = some op
+as_unary (between c b) = none
+as_unary (both op c b) = some op
+as_unary neither = none
 
 unfoldable pub binary : Token → Option Row
-binary o = asBinary (role o)
+binary o = as_binary (role o)
 
 unfoldable pub unary : Token → Option Operator
-unary o = asUnary (role o)
+unary o = as_unary (role o)
 
 -- a relation between runs of tokens and trees
 abbrev pub Rule : Type 1
@@ -101,21 +101,21 @@ word w = name (bytes w)
 
 -- a comma list of at least one expression
 pub data Series (E : Rule) : List Token → Exprs (List ℕ) → Type 0 where
-  last : {ts : List Token} {t : Tree} → E ts t → Series E ts (◌then◌ t noExprs)
+  last : {ts : List Token} {t : Tree} → E ts t → Series E ts (◌then◌ t no_exprs)
   also : {ts us : List Token} {t : Tree} {es : Exprs (List ℕ)} → E ts t → Series E us es → Series E (ts ++ mark comma ∷ us) (◌then◌ t es)
 
 -- a comma list
 pub data Items (E : Rule) : List Token → Exprs (List ℕ) → Type 0 where
-  empty : Items E [] noExprs
+  empty : Items E [] no_exprs
   series : {ts : List Token} {es : Exprs (List ℕ)} → Series E ts es → Items E ts es
 
 pub data Operand (E : Rule) : List Token → Tree → Type 0 where
   falsehood : Operand E (word "false" ∷ []) (BLiteral false)
   truth : Operand E (word "true" ∷ []) (BLiteral true)
   natural : {n : ℕ} → Operand E (nat n ∷ []) (ILiteral n)
-  variable : {w : List ℕ} → isName w ≡ true → Operand E (name w ∷ []) (IdExpr w false)
-  oldVariable : {w : List ℕ} → Operand E (word "old" ∷ name w ∷ []) (IdExpr w true)
-  call : {w : List ℕ} {ts : List Token} {es : Exprs (List ℕ)} → isName w ≡ true → Items E ts es
+  variable : {w : List ℕ} → is_name w ≡ true → Operand E (name w ∷ []) (IdExpr w false)
+  old_variable : {w : List ℕ} → Operand E (word "old" ∷ name w ∷ []) (IdExpr w true)
+  call : {w : List ℕ} {ts : List Token} {es : Exprs (List ℕ)} → is_name w ≡ true → Items E ts es
       → Operand E (name w ∷ mark lparen ∷ ts ++ mark rparen ∷ []) (FunctionCallExpr w es)
   bracketed : {ts : List Token} {t : Tree} → E ts t → Operand E (mark lparen ∷ ts ++ mark rparen ∷ []) t
 

@@ -4,9 +4,9 @@
 use Rattle.std.specs.Prelude.{ℕ, zero, suc, true, false, List, [], ◌∷◌, length}
 use Rattle.std.proofs.Math.Option.{Option, none, some}
 use Rattle.lexing.specs.Answer.{pick}
-use Rattle.lexing.specs.Bytes.{sameBytes, bytes}
-use Rattle.tree.specs.Ast.{BLiteral, ILiteral, IdExpr, FunctionCallExpr, Exprs, noExprs, ◌then◌}
-use Rattle.grammar.specs.Words.{isName}
+use Rattle.lexing.specs.Bytes.{same_bytes, bytes}
+use Rattle.tree.specs.Ast.{BLiteral, ILiteral, IdExpr, FunctionCallExpr, Exprs, no_exprs, ◌then◌}
+use Rattle.grammar.specs.Words.{is_name}
 use Rattle.grammar.specs.Tokens.{Token, name, nat, mark, sign, illegal, Mark, Mark-discrete, lparen, rparen, comma}
 use Rattle.grammar.specs.Grammar.{Tree, Class, Class-discrete, product, sum, comparison, conjunction, disjunction, implication}
 use Rattle.grammar.specs.Grammar.{explication, equivalence}
@@ -33,126 +33,126 @@ unfoldable pub see : {X B : Type 0} → (Token → Option X) → List Token → 
 see look [] stop go = stop
 see look (o ∷ ts) stop go = looked (look o) ts stop go
 
-unfoldable pub isNat : Token → Option ℕ
-isNat (name w) = none
-isNat (nat n) = some n
-isNat (mark k) = none
-isNat (sign g) = none
-isNat illegal = none
+unfoldable pub is_nat : Token → Option ℕ
+is_nat (name w) = none
+is_nat (nat n) = some n
+is_nat (mark k) = none
+is_nat (sign g) = none
+is_nat illegal = none
 
-unfoldable pub isWord : Token → Option (List ℕ)
-isWord (name w) = some w
-isWord (nat n) = none
-isWord (mark k) = none
-isWord (sign g) = none
-isWord illegal = none
+unfoldable pub is_word : Token → Option (List ℕ)
+is_word (name w) = some w
+is_word (nat n) = none
+is_word (mark k) = none
+is_word (sign g) = none
+is_word illegal = none
 
-unfoldable pub isMark : Mark → Token → Option (Unit {0})
-isMark k (name w) = none
-isMark k (nat n) = none
-isMark k (mark k') = elim (Mark-discrete k k') [ yes e ↦ some tt | no n ↦ none ]
-isMark k (sign g) = none
-isMark k illegal = none
+unfoldable pub is_mark : Mark → Token → Option (Unit {0})
+is_mark k (name w) = none
+is_mark k (nat n) = none
+is_mark k (mark k') = elim (Mark-discrete k k') [ yes e ↦ some tt | no n ↦ none ]
+is_mark k (sign g) = none
+is_mark k illegal = none
 
-abbrev pub ofClass : Class → Option Row → Option Build
-ofClass c none = none
-ofClass c (some (row c' b)) = elim (Class-discrete c c') [ yes e ↦ some b | no n ↦ none ]
+abbrev pub of_class : Class → Option Row → Option Build
+of_class c none = none
+of_class c (some (row c' b)) = elim (Class-discrete c c') [ yes e ↦ some b | no n ↦ none ]
 
-unfoldable pub inClass : Class → Token → Option Build
-inClass c o = ofClass c (binary o)
+unfoldable pub in_class : Class → Token → Option Build
+in_class c o = of_class c (binary o)
 
 -- `Series` and the closing bracket
-unfoldable pub parseSeries : ℕ → Parser → List Token → Parsed (Exprs (List ℕ))
-parseSeries zero e ts = failed
-parseSeries (suc m) e ts =
+unfoldable pub parse_series : ℕ → Parser → List Token → Parsed (Exprs (List ℕ))
+parse_series zero e ts = failed
+parse_series (suc m) e ts =
     after (e ts)
     (λ t us.
-    see (isMark comma) us (see (isMark rparen) us failed (λ x vs. parsed (◌then◌ t noExprs) vs))
-    (λ x vs. after (parseSeries m e vs) (λ es ws. parsed (◌then◌ t es) ws)))
+    see (is_mark comma) us (see (is_mark rparen) us failed (λ x vs. parsed (◌then◌ t no_exprs) vs))
+    (λ x vs. after (parse_series m e vs) (λ es ws. parsed (◌then◌ t es) ws)))
 
 -- `Items` and the closing bracket
-unfoldable pub parseItems : ℕ → Parser → List Token → Parsed (Exprs (List ℕ))
-parseItems m e ts = see (isMark rparen) ts (parseSeries (suc m) e ts) (λ x us. parsed noExprs us)
+unfoldable pub parse_items : ℕ → Parser → List Token → Parsed (Exprs (List ℕ))
+parse_items m e ts = see (is_mark rparen) ts (parse_series (suc m) e ts) (λ x us. parsed no_exprs us)
 
 -- after a name: a call's arguments, or nothing
-unfoldable pub parseNamed : ℕ → Parser → List ℕ → List Token → Parsed Tree
-parseNamed m e w ts =
-    see (isMark lparen) ts (parsed (IdExpr w false) ts) (λ x us. after (parseItems m e us) (λ es vs. parsed (FunctionCallExpr w es) vs))
+unfoldable pub parse_named : ℕ → Parser → List ℕ → List Token → Parsed Tree
+parse_named m e w ts =
+    see (is_mark lparen) ts (parsed (IdExpr w false) ts) (λ x us. after (parse_items m e us) (λ es vs. parsed (FunctionCallExpr w es) vs))
 
 -- after a word that is no name
-unfoldable pub parseExcluded : List ℕ → List Token → Parsed Tree
-parseExcluded w ts =
-    pick (sameBytes w (bytes "false")) (parsed (BLiteral false) ts)
-    (pick (sameBytes w (bytes "true")) (parsed (BLiteral true) ts)
-    (pick (sameBytes w (bytes "old")) (see isWord ts failed (λ v us. parsed (IdExpr v true) us)) failed))
+unfoldable pub parse_excluded : List ℕ → List Token → Parsed Tree
+parse_excluded w ts =
+    pick (same_bytes w (bytes "false")) (parsed (BLiteral false) ts)
+    (pick (same_bytes w (bytes "true")) (parsed (BLiteral true) ts)
+    (pick (same_bytes w (bytes "old")) (see is_word ts failed (λ v us. parsed (IdExpr v true) us)) failed))
 
 -- after an opening bracket
-unfoldable pub parseBracketed : Parser → Parser
-parseBracketed e ts = after (e ts) (λ t us. see (isMark rparen) us failed (λ x vs. parsed t vs))
+unfoldable pub parse_bracketed : Parser → Parser
+parse_bracketed e ts = after (e ts) (λ t us. see (is_mark rparen) us failed (λ x vs. parsed t vs))
 
-unfoldable pub parseOperand : ℕ → Parser → Parser
-parseOperand m e ts =
-    see isNat ts
-    (see isWord ts (see (isMark lparen) ts failed (λ x us. parseBracketed e us))
-    (λ w us. pick (isName w) (parseNamed m e w us) (parseExcluded w us)))
+unfoldable pub parse_operand : ℕ → Parser → Parser
+parse_operand m e ts =
+    see is_nat ts
+    (see is_word ts (see (is_mark lparen) ts failed (λ x us. parse_bracketed e us))
+    (λ w us. pick (is_name w) (parse_named m e w us) (parse_excluded w us)))
     (λ n us. parsed (ILiteral n) us)
 
-unfoldable pub parseUnary : ℕ → Parser → Parser
-parseUnary zero p ts = p ts
-parseUnary (suc m) p ts = see unary ts (p ts) (λ op us. after (parseUnary m p us) (λ t vs. parsed (single op t) vs))
+unfoldable pub parse_unary : ℕ → Parser → Parser
+parse_unary zero p ts = p ts
+parse_unary (suc m) p ts = see unary ts (p ts) (λ op us. after (parse_unary m p us) (λ t vs. parsed (single op t) vs))
 
 -- after an operand t: the rest of a `Left`, a `Right`, a `Once`, an `Either`
 abbrev pub Tail : Type 0
 Tail = Tree → List Token → Parsed Tree
 
-unfoldable pub leftTail : ℕ → Class → Parser → Tail
-leftTail zero c p t ts = parsed t ts
-leftTail (suc m) c p t ts = see (inClass c) ts (parsed t ts) (λ b us. after (p us) (λ u vs. leftTail m c p (build b t u) vs))
+unfoldable pub left_tail : ℕ → Class → Parser → Tail
+left_tail zero c p t ts = parsed t ts
+left_tail (suc m) c p t ts = see (in_class c) ts (parsed t ts) (λ b us. after (p us) (λ u vs. left_tail m c p (build b t u) vs))
 
-unfoldable pub rightTail : ℕ → Class → Parser → Tail
-rightTail zero c p t ts = parsed t ts
-rightTail (suc m) c p t ts =
-    see (inClass c) ts (parsed t ts) (λ b us. after (p us) (λ u vs. after (rightTail m c p u vs) (λ w ws. parsed (build b t w) ws)))
+unfoldable pub right_tail : ℕ → Class → Parser → Tail
+right_tail zero c p t ts = parsed t ts
+right_tail (suc m) c p t ts =
+    see (in_class c) ts (parsed t ts) (λ b us. after (p us) (λ u vs. after (right_tail m c p u vs) (λ w ws. parsed (build b t w) ws)))
 
-unfoldable pub onceTail : Class → Parser → Tail
-onceTail c p t ts = see (inClass c) ts (parsed t ts) (λ b us. after (p us) (λ u vs. parsed (build b t u) vs))
+unfoldable pub once_tail : Class → Parser → Tail
+once_tail c p t ts = see (in_class c) ts (parsed t ts) (λ b us. after (p us) (λ u vs. parsed (build b t u) vs))
 
 -- the tail q where an operator of the class c follows, else the tail q'
-unfoldable pub eitherTail : Class → Tail → Tail → Tail
-eitherTail c q q' t ts = see (inClass c) ts (q' t ts) (λ b us. q t ts)
+unfoldable pub either_tail : Class → Tail → Tail → Tail
+either_tail c q q' t ts = see (in_class c) ts (q' t ts) (λ b us. q t ts)
 
 unfoldable pub continued : Parser → Tail → Parser
 continued p q ts = after (p ts) q
 
-abbrev pub parseUnaryExpr : ℕ → Parser → Parser
-parseUnaryExpr m e = parseUnary m (parseOperand m e)
+abbrev pub parse_unary_expr : ℕ → Parser → Parser
+parse_unary_expr m e = parse_unary m (parse_operand m e)
 
-abbrev pub parseFactorExpr : ℕ → Parser → Parser
-parseFactorExpr m e = continued (parseUnaryExpr m e) (leftTail m product (parseUnaryExpr m e))
+abbrev pub parse_factor_expr : ℕ → Parser → Parser
+parse_factor_expr m e = continued (parse_unary_expr m e) (left_tail m product (parse_unary_expr m e))
 
-abbrev pub parseTermExpr : ℕ → Parser → Parser
-parseTermExpr m e = continued (parseFactorExpr m e) (leftTail m sum (parseFactorExpr m e))
+abbrev pub parse_term_expr : ℕ → Parser → Parser
+parse_term_expr m e = continued (parse_factor_expr m e) (left_tail m sum (parse_factor_expr m e))
 
-abbrev pub parseJuctExpr : ℕ → Parser → Parser
-parseJuctExpr m e = continued (parseTermExpr m e) (onceTail comparison (parseTermExpr m e))
+abbrev pub parse_juct_expr : ℕ → Parser → Parser
+parse_juct_expr m e = continued (parse_term_expr m e) (once_tail comparison (parse_term_expr m e))
 
-abbrev pub parseLogicalExpr : ℕ → Parser → Parser
-parseLogicalExpr m e =
-    continued (parseJuctExpr m e)
-    (eitherTail conjunction (leftTail m conjunction (parseJuctExpr m e)) (leftTail m disjunction (parseJuctExpr m e)))
+abbrev pub parse_logical_expr : ℕ → Parser → Parser
+parse_logical_expr m e =
+    continued (parse_juct_expr m e)
+    (either_tail conjunction (left_tail m conjunction (parse_juct_expr m e)) (left_tail m disjunction (parse_juct_expr m e)))
 
-abbrev pub parseImpExpExpr : ℕ → Parser → Parser
-parseImpExpExpr m e =
-    continued (parseLogicalExpr m e)
-    (eitherTail implication (rightTail m implication (parseLogicalExpr m e)) (leftTail m explication (parseLogicalExpr m e)))
+abbrev pub parse_imp_exp_expr : ℕ → Parser → Parser
+parse_imp_exp_expr m e =
+    continued (parse_logical_expr m e)
+    (either_tail implication (right_tail m implication (parse_logical_expr m e)) (left_tail m explication (parse_logical_expr m e)))
 
-abbrev pub parseEquivExpr : ℕ → Parser → Parser
-parseEquivExpr m e = continued (parseImpExpExpr m e) (leftTail m equivalence (parseImpExpExpr m e))
+abbrev pub parse_equiv_expr : ℕ → Parser → Parser
+parse_equiv_expr m e = continued (parse_imp_exp_expr m e) (left_tail m equivalence (parse_imp_exp_expr m e))
 
 -- an expression of at most the depth d, at the start of the tokens
-unfoldable pub parseExpr : ℕ → ℕ → Parser
-parseExpr m zero ts = failed
-parseExpr m (suc d) ts = parseEquivExpr m (parseExpr m d) ts
+unfoldable pub parse_expr : ℕ → ℕ → Parser
+parse_expr m zero ts = failed
+parse_expr m (suc d) ts = parse_equiv_expr m (parse_expr m d) ts
 
 abbrev pub whole : Parsed Tree → Option Tree
 whole (parsed t []) = some t
@@ -161,4 +161,4 @@ whole failed = none
 
 -- the tree of all the tokens
 unfoldable pub parse : ℕ → List Token → Option Tree
-parse d ts = whole (parseExpr (length ts) d ts)
+parse d ts = whole (parse_expr (length ts) d ts)

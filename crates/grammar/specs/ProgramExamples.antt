@@ -4,26 +4,26 @@ use Rattle.std.specs.Prelude.{ℕ, ◌≡◌, refl, true, false, List, [], ◌�
 use Prim.Native.String.{String}
 use Rattle.std.proofs.Math.Option.{Option, none, some}
 use Rattle.lexing.specs.Answer.{Answer, ok, refused}
-use Rattle.tree.specs.Ast.{Span, Expr, ILiteral, IdExpr, OperatorExpr, Plus, Exprs, noExprs, ◌then◌, In, InOut, Out, Program}
+use Rattle.tree.specs.Ast.{Span, Expr, ILiteral, IdExpr, OperatorExpr, Plus, Exprs, no_exprs, ◌then◌, In, InOut, Out, Program}
 use Rattle.tree.specs.Ast.{Stmt, VarDecl, Assign, Reinit, Block, Call, Check, Assume, Reach, Assert, AForall, Choose, If, IfCase, Loop, LabeledStmt, Exit, Return, Probe}
-use Rattle.tree.specs.Ast.{Stmts, noStmts, stmts, noCases, case, aExpr, AAssertion, noAExprs, aExprs}
-use Rattle.tree.specs.Resolve.{part, resolveProgram}
+use Rattle.tree.specs.Ast.{Stmts, no_stmts, stmts, no_cases, case, a_expr, AAssertion, no_a_exprs, a_exprs}
+use Rattle.tree.specs.Resolve.{part, resolve_program}
 use Rattle.lexing.specs.Bytes.{bytes}
 use Rattle.grammar.specs.Words.{one_of}
 use Rattle.grammar.specs.Statements
 use Rattle.grammar.specs.Declarations
-use Rattle.grammar.specs.Reading.{Outcome, words, refusal, parseProgram, readTreeOfProgram, readProgram}
+use Rattle.grammar.specs.Reading.{Outcome, words, refusal, parse_program, read_tree_of_program, read_program}
 use Rattle.grammar.specs.ReadingExamples.{computed as expressions}
 
 unfoldable pub computed : Unit {0}
-unfolding expressions one_of part readProgram readTreeOfProgram parseProgram Statements.rep Statements.repTill Statements.atomic Statements.mark
-    Statements.parseOptionalAutoInvariant Statements.parseCallArgument Statements.parseAExpr Statements.parseAExprSeq Statements.parseInit
-    Statements.parseVariableDeclaration Statements.parseOptionalExitArgument Statements.afterForall Statements.parseOr Statements.afterChoose
-    Statements.parseCase Statements.parseElse Statements.parseIfCont Statements.parseLoop Statements.afterAssign Statements.afterLabel
-    Statements.after_call Statements.parseStmt Statements.parseBlock Statements.word_of Statements.gallery Declarations.SeparateTopLevelDecls
-    Declarations.afterType Declarations.afterTagger Declarations.parseFunctionFormal Declarations.parseTag Declarations.parseWhenClause
-    Declarations.parseFunctionDefinition Declarations.afterFunction Declarations.parseExplains Declarations.afterAxiom Declarations.parseModed
-    Declarations.parseProcFormal Declarations.afterProcedure Declarations.parseTopLevelDecl Declarations.TopLevel
+unfolding expressions one_of part read_program read_tree_of_program parse_program Statements.rep Statements.rep_till Statements.atomic Statements.mark
+    Statements.parse_optional_auto_invariant Statements.parse_call_argument Statements.parse_a_expr Statements.parse_a_expr_seq Statements.parse_init
+    Statements.parse_variable_declaration Statements.parse_optional_exit_argument Statements.after_forall Statements.parse_or Statements.after_choose
+    Statements.parse_case Statements.parse_else Statements.parse_if_cont Statements.parse_loop Statements.after_assign Statements.after_label
+    Statements.after_call Statements.parse_stmt Statements.parse_block Statements.word_of Statements.gallery Declarations.SeparateTopLevelDecls
+    Declarations.after_type Declarations.after_tagger Declarations.parse_function_formal Declarations.parse_tag Declarations.parse_when_clause
+    Declarations.parse_function_definition Declarations.after_function Declarations.parse_explains Declarations.after_axiom Declarations.parse_moded
+    Declarations.parse_proc_formal Declarations.after_procedure Declarations.parse_top_level_decl Declarations.TopLevel
 computed = tt
 
 abbrev Named : Type 0
@@ -31,27 +31,27 @@ Named = List ℕ
 
 -- a program that is read, its names as bytes
 abbrev named : List ℕ → Answer (Program Span) → Option (Program Named)
-named text (ok p next) = some (resolveProgram text p)
+named text (ok p next) = some (resolve_program text p)
 named text Answer.none = none
 named text (refused number place) = none
 
 -- the program that a text is read as
 abbrev program_of : String → Option (Program Named)
-program_of s = named (bytes s) (readTreeOfProgram (bytes s))
+program_of s = named (bytes s) (read_tree_of_program (bytes s))
 
 -- the number and the place of a refusal
-abbrev refusedBy : ℕ → ℕ → Outcome
-refusedBy number place = refusal number place []
+abbrev refused_by : ℕ → ℕ → Outcome
+refused_by number place = refusal number place []
 
 abbrev read : String → Outcome
-read s = readProgram (bytes s) 0
+read s = read_program (bytes s) 0
 
 abbrev variable : String → Expr Named
 variable w = IdExpr (bytes w) false
 
 -- statements one after the other
 abbrev all : List (Stmt Named) → Stmts Named
-all [] = noStmts
+all [] = no_stmts
 all (s ∷ l) = stmts s (all l)
 
 abbrev block : List (Stmt Named) → Stmt Named
@@ -65,28 +65,28 @@ body l =
       taggers = [];
       functions = [];
       axioms = [];
-      procedures = record { name = bytes "p"; parameters = []; pre = noAExprs; post = noAExprs; body = some (block l) } ∷ [];
+      procedures = record { name = bytes "p"; parameters = []; pre = no_a_exprs; post = no_a_exprs; body = some (block l) } ∷ [];
     })
 
 -- ---- statements
 
 -- a variable with all its parts, and the statements after it as its body
 var-full : program_of "procedure p() { var a: t autoinv (b) := c d() return }"
-    ≡ body (VarDecl (record { name = bytes "a"; isMutable = true; optionalType = some (bytes "t"); optionalAutoInv = some (variable "b") }) (some (variable "c"))
+    ≡ body (VarDecl (record { name = bytes "a"; is_mutable = true; optional_type = some (bytes "t"); optional_auto_inv = some (variable "b") }) (some (variable "c"))
     (block (Call (bytes "d") [] ∷ Return ∷ [])) ∷ [])
 unfolding computed
 var-full = refl
 
 -- two constants without parts, the second in the first's body
 val-bare : program_of "procedure p() { val a val b }"
-    ≡ body (VarDecl (record { name = bytes "a"; isMutable = false; optionalType = none; optionalAutoInv = none }) none
-    (block (VarDecl (record { name = bytes "b"; isMutable = false; optionalType = none; optionalAutoInv = none }) none (block []) ∷ [])) ∷ [])
+    ≡ body (VarDecl (record { name = bytes "a"; is_mutable = false; optional_type = none; optional_auto_inv = none }) none
+    (block (VarDecl (record { name = bytes "b"; is_mutable = false; optional_type = none; optional_auto_inv = none }) none (block []) ∷ [])) ∷ [])
 unfolding computed
 val-bare = refl
 
 -- in a nested block the body ends with the block
 var-in-block : program_of "procedure p() { { var a } return }"
-    ≡ body (block (VarDecl (record { name = bytes "a"; isMutable = true; optionalType = none; optionalAutoInv = none }) none (block []) ∷ []) ∷ Return ∷ [])
+    ≡ body (block (VarDecl (record { name = bytes "a"; is_mutable = true; optional_type = none; optional_auto_inv = none }) none (block []) ∷ []) ∷ Return ∷ [])
 unfolding computed
 var-in-block = refl
 
@@ -123,20 +123,20 @@ unfolding computed
 conditional = refl
 
 case-by-case : program_of "procedure p() { if case a { return } case b { } if c { } else if case d { } }"
-    ≡ body (IfCase (case (variable "a") (block (Return ∷ [])) (case (variable "b") (block []) noCases))
-    ∷ If (variable "c") (block []) (IfCase (case (variable "d") (block []) noCases)) ∷ [])
+    ≡ body (IfCase (case (variable "a") (block (Return ∷ [])) (case (variable "b") (block []) no_cases))
+    ∷ If (variable "c") (block []) (IfCase (case (variable "d") (block []) no_cases)) ∷ [])
 unfolding computed
 case-by-case = refl
 
 -- invariants that are an expression and an assertion, and none
 loops : program_of "procedure p() { loop invariant a invariant { check b } { return } loop { } }"
-    ≡ body (Loop (aExprs (aExpr (variable "a")) (aExprs (AAssertion (block (Check (variable "b") ∷ []))) noAExprs)) (block (Return ∷ []))
-    ∷ Loop noAExprs (block []) ∷ [])
+    ≡ body (Loop (a_exprs (a_expr (variable "a")) (a_exprs (AAssertion (block (Check (variable "b") ∷ []))) no_a_exprs)) (block (Return ∷ []))
+    ∷ Loop no_a_exprs (block []) ∷ [])
 unfolding computed
 loops = refl
 
 labels : program_of "procedure p() { a: { exit a } b: loop { exit } }"
-    ≡ body (LabeledStmt (bytes "a") (block (Exit (some (bytes "a")) ∷ [])) ∷ LabeledStmt (bytes "b") (Loop noAExprs (block (Exit none ∷ []))) ∷ [])
+    ≡ body (LabeledStmt (bytes "a") (block (Exit (some (bytes "a")) ∷ [])) ∷ LabeledStmt (bytes "b") (Loop no_a_exprs (block (Exit none ∷ []))) ∷ [])
 unfolding computed
 labels = refl
 
@@ -150,15 +150,15 @@ exits = refl
 -- a word with more bytes is no keyword; `out` in brackets is no mode
 longer-words : program_of "procedure p() { returns := a if b { } elsex := c q((out) + 1, outx) }"
     ≡ body (Assign (bytes "returns") (variable "a") ∷ If (variable "b") (block []) (block []) ∷ Assign (bytes "elsex") (variable "c")
-    ∷ Call (bytes "q") (record { mode = In; arg = OperatorExpr Plus (◌then◌ (variable "out") (◌then◌ (ILiteral 1) noExprs)) } ∷ record { mode = In; arg = variable "outx" } ∷ []) ∷ [])
+    ∷ Call (bytes "q") (record { mode = In; arg = OperatorExpr Plus (◌then◌ (variable "out") (◌then◌ (ILiteral 1) no_exprs)) } ∷ record { mode = In; arg = variable "outx" } ∷ []) ∷ [])
 unfolding computed
 longer-words = refl
 
 -- three of each that may be repeated, in the text's order
 threes : program_of "procedure p() { reinit a, b, c if case d { } case e { } case f { } loop invariant g invariant h invariant i { } choose { } or { } or { return } }"
     ≡ body (Reinit (bytes "a" ∷ bytes "b" ∷ bytes "c" ∷ [])
-    ∷ IfCase (case (variable "d") (block []) (case (variable "e") (block []) (case (variable "f") (block []) noCases)))
-    ∷ Loop (aExprs (aExpr (variable "g")) (aExprs (aExpr (variable "h")) (aExprs (aExpr (variable "i")) noAExprs))) (block [])
+    ∷ IfCase (case (variable "d") (block []) (case (variable "e") (block []) (case (variable "f") (block []) no_cases)))
+    ∷ Loop (a_exprs (a_expr (variable "g")) (a_exprs (a_expr (variable "h")) (a_exprs (a_expr (variable "i")) no_a_exprs))) (block [])
     ∷ Choose (all (block [] ∷ block [] ∷ block (Return ∷ []) ∷ [])) ∷ [])
 unfolding computed
 threes = refl
@@ -171,13 +171,13 @@ kinds : program_of "axiom a type t tagger g for u axiom b function f(): v type w
       types = bytes "t" ∷ bytes "w" ∷ [];
       taggers = record { name = bytes "g"; typ = bytes "u" } ∷ record { name = bytes "h"; typ = bytes "x" } ∷ [];
       functions =
-          record { name = bytes "f"; parameters = []; resultType = bytes "v"; tag = none; definition = none }
-          ∷ record { name = bytes "k"; parameters = []; resultType = bytes "y"; tag = none; definition = none }
+          record { name = bytes "f"; parameters = []; result_type = bytes "v"; tag = none; definition = none }
+          ∷ record { name = bytes "k"; parameters = []; result_type = bytes "y"; tag = none; definition = none }
           ∷ [];
       axioms = record { explains = []; expr = variable "a" } ∷ record { explains = []; expr = variable "b" } ∷ [];
       procedures =
-          record { name = bytes "q"; parameters = []; pre = noAExprs; post = noAExprs; body = none }
-          ∷ record { name = bytes "r"; parameters = []; pre = noAExprs; post = noAExprs; body = none }
+          record { name = bytes "q"; parameters = []; pre = no_a_exprs; post = no_a_exprs; body = none }
+          ∷ record { name = bytes "r"; parameters = []; pre = no_a_exprs; post = no_a_exprs; body = none }
           ∷ [];
     })
 unfolding computed
@@ -192,9 +192,9 @@ function-full : program_of "function f(injective a: t, b: u): v tag g when c whe
             name = bytes "f";
             parameters =
                 record { name = bytes "a"; injective = true; typ = bytes "t" } ∷ record { name = bytes "b"; injective = false; typ = bytes "u" } ∷ [];
-            resultType = bytes "v";
+            result_type = bytes "v";
             tag = some (bytes "g");
-            definition = some (record { when = ◌then◌ (variable "c") (◌then◌ (variable "d") noExprs); body = variable "e" });
+            definition = some (record { when = ◌then◌ (variable "c") (◌then◌ (variable "d") no_exprs); body = variable "e" });
           }
           ∷ [];
       axioms = [];
@@ -209,7 +209,7 @@ axiom-explains : program_of "function f(): v { e } axiom explains a, b c"
       types = [];
       taggers = [];
       functions =
-          record { name = bytes "f"; parameters = []; resultType = bytes "v"; tag = none; definition = some (record { when = noExprs; body = variable "e" }) } ∷ [];
+          record { name = bytes "f"; parameters = []; result_type = bytes "v"; tag = none; definition = some (record { when = no_exprs; body = variable "e" }) } ∷ [];
       axioms = record { explains = bytes "a" ∷ bytes "b" ∷ []; expr = variable "c" } ∷ [];
       procedures = [];
     })
@@ -226,12 +226,12 @@ procedure-full : program_of "procedure p(a: t, inout b: u autoinv c, out d: v) r
           record {
             name = bytes "p";
             parameters =
-                record { name = bytes "a"; mode = In; typ = bytes "t"; optionalAutoInv = none }
-                ∷ record { name = bytes "b"; mode = InOut; typ = bytes "u"; optionalAutoInv = some (variable "c") }
-                ∷ record { name = bytes "d"; mode = Out; typ = bytes "v"; optionalAutoInv = none }
+                record { name = bytes "a"; mode = In; typ = bytes "t"; optional_auto_inv = none }
+                ∷ record { name = bytes "b"; mode = InOut; typ = bytes "u"; optional_auto_inv = some (variable "c") }
+                ∷ record { name = bytes "d"; mode = Out; typ = bytes "v"; optional_auto_inv = none }
                 ∷ [];
-            pre = aExprs (aExpr (variable "e")) (aExprs (AAssertion (block (Check (variable "f") ∷ []))) noAExprs);
-            post = aExprs (aExpr (variable "g")) noAExprs;
+            pre = a_exprs (a_expr (variable "e")) (a_exprs (AAssertion (block (Check (variable "f") ∷ []))) no_a_exprs);
+            post = a_exprs (a_expr (variable "g")) no_a_exprs;
             body = some (block (Return ∷ []));
           }
           ∷ [];
@@ -242,26 +242,26 @@ procedure-full = refl
 -- ---- refusals
 
 -- a statement led by a name without a mark: the name's place, also at the text's end
-no-mark : read "procedure p() { x }" ≡ refusedBy 2 16
+no-mark : read "procedure p() { x }" ≡ refused_by 2 16
 unfolding computed
 no-mark = refl
 
-no-mark-at-end : read "procedure p() { x" ≡ refusedBy 2 16
+no-mark-at-end : read "procedure p() { x" ≡ refused_by 2 16
 unfolding computed
 no-mark-at-end = refl
 
 -- `:` is found in `:=`
-sign-in-sign : read "procedure p() { var v autoinv w := 1 }" ≡ refusedBy 2 33
+sign-in-sign : read "procedure p() { var v autoinv w := 1 }" ≡ refused_by 2 33
 unfolding computed
 sign-in-sign = refl
 
 -- what is no declaration
-no-declaration : read "type a check" ≡ refusedBy 2 7
+no-declaration : read "type a check" ≡ refused_by 2 7
 unfolding computed
 no-declaration = refl
 
 -- a definition's body must follow `when`
-when_alone : read "function f(): t when a" ≡ refusedBy 2 22
+when_alone : read "function f(): t when a" ≡ refused_by 2 22
 unfolding computed
 when_alone = refl
 
@@ -278,7 +278,7 @@ loop-deep : (none_left "loop { }").loop 0 ≡ refused 3 0
 unfolding computed
 loop-deep = refl
 
-if-cont-deep : (none_left "case a { }").ifCont 0 ≡ refused 3 0
+if-cont-deep : (none_left "case a { }").if_cont 0 ≡ refused 3 0
 unfolding computed
 if-cont-deep = refl
 
@@ -298,11 +298,11 @@ loop-kept-nothing : (none_left "loops").loop 0 ≡ Answer.none
 unfolding computed
 loop-kept-nothing = refl
 
-if-cont-kept-nothing : (none_left "{ }").ifCont 0 ≡ Answer.none
+if-cont-kept-nothing : (none_left "{ }").if_cont 0 ≡ Answer.none
 unfolding computed
 if-cont-kept-nothing = refl
 
 -- P12 (REFERENCE, "Trials"): a long comment that is never closed runs to the end of the text
-unclosed-comment : readProgram (bytes "/* q") 5 ≡ words 5 (0 ∷ 0 ∷ 0 ∷ 0 ∷ 0 ∷ [])
+unclosed-comment : read_program (bytes "/* q") 5 ≡ words 5 (0 ∷ 0 ∷ 0 ∷ 0 ∷ 0 ∷ [])
 unfolding computed
 unclosed-comment = refl

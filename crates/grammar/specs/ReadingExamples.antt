@@ -5,33 +5,33 @@ use Rattle.std.proofs.Math.Option.{Option, none, some}
 use Rattle.lexing.specs.Answer.{Answer, ok, refused}
 use Rattle.lexing.specs.Examples.{computed as tokens}
 use Rattle.tree.specs.Ast.{Span, binding, Expr, CustomLiteral, IdExpr, OperatorExpr, IfThenElse, FunctionCallExpr, LabeledExpr, LetExpr, QuantifierExpr, ClosureExpr}
-use Rattle.tree.specs.Ast.{Exprs, noExprs, ◌then◌, Patterns, noPatterns, pattern, noClosureBindings, closureBinding, noClosureProperties, closureProperty}
-use Rattle.tree.specs.Resolve.{part, resolveExpr}
+use Rattle.tree.specs.Ast.{Exprs, no_exprs, ◌then◌, Patterns, no_patterns, pattern, no_closure_bindings, closure_binding, no_closure_properties, closure_property}
+use Rattle.tree.specs.Resolve.{part, resolve_expr}
 use Rattle.lexing.specs.Bytes.{bytes}
 use Rattle.grammar.specs.Grammar.{Tree}
 use Rattle.grammar.specs.Steps.{after}
 use Rattle.grammar.specs.Rules
-use Rattle.grammar.specs.Reading.{Outcome, words, refusal, parseText, readTree, readExpression}
+use Rattle.grammar.specs.Reading.{Outcome, words, refusal, parse_text, read_tree, read_expression}
 
 unfoldable pub computed : Unit {0}
-unfolding tokens readExpression readTree parseText after Rules.leftTail Rules.rightTail Rules.onceTail Rules.commaTail
-    Rules.parseNonemptyCommaDelimitedSeq Rules.parseCommaDelimitedSeq Rules.equivOperator Rules.impliesOperator Rules.expliesOperator
-    Rules.andOperator Rules.orOperator Rules.equalityOperator Rules.lessOperator Rules.moreOperator Rules.parseComparisonOperator
-    Rules.termOperator Rules.factorOperator Rules.unaryOperator Rules.parseIdType Rules.parseOptionalType Rules.parseListed Rules.afterIf
-    Rules.afterVal Rules.parseMarked Rules.afterQuantifier Rules.parseParameters Rules.parseClosureBinding Rules.parseClosureProperty
-    Rules.afterLift Rules.afterBar Rules.afterOld Rules.afterName Rules.afterLabel Rules.after_call Rules.afterColon Rules.afterParen
-    Rules.parseAtomicExpr Rules.parsePrimaryExpr Rules.unaryTail Rules.parseUnaryExpr Rules.parseFactorExpr Rules.parseTermExpr
-    Rules.parseJuctExpr Rules.logicalTail Rules.parseLogicalExpr Rules.impExpTail Rules.parseImpExpExpr Rules.parseEquivExpr Rules.opensExpr
-    Rules.opens_at Rules.parseExpr
+unfolding tokens read_expression read_tree parse_text after Rules.left_tail Rules.right_tail Rules.once_tail Rules.comma_tail
+    Rules.parse_nonempty_comma_delimited_seq Rules.parse_comma_delimited_seq Rules.equiv_operator Rules.implies_operator Rules.explies_operator
+    Rules.and_operator Rules.or_operator Rules.equality_operator Rules.less_operator Rules.more_operator Rules.parse_comparison_operator
+    Rules.term_operator Rules.factor_operator Rules.unary_operator Rules.parse_id_type Rules.parse_optional_type Rules.parse_listed Rules.after_if
+    Rules.after_val Rules.parse_marked Rules.after_quantifier Rules.parse_parameters Rules.parse_closure_binding Rules.parse_closure_property
+    Rules.after_lift Rules.after_bar Rules.after_old Rules.after_name Rules.after_label Rules.after_call Rules.after_colon Rules.after_paren
+    Rules.parse_atomic_expr Rules.parse_primary_expr Rules.unary_tail Rules.parse_unary_expr Rules.parse_factor_expr Rules.parse_term_expr
+    Rules.parse_juct_expr Rules.logical_tail Rules.parse_logical_expr Rules.imp_exp_tail Rules.parse_imp_exp_expr Rules.parse_equiv_expr Rules.opens_expr
+    Rules.opens_at Rules.parse_expr
 computed = tt
 
 -- no blank stands after a custom literal's text
-blank-in-literal : readExpression (bytes "|x :t|") 2 ≡ refusal 2 2 (0 ∷ 0 ∷ [])
+blank-in-literal : read_expression (bytes "|x :t|") 2 ≡ refusal 2 2 (0 ∷ 0 ∷ [])
 unfolding computed
 blank-in-literal = refl
 
 -- at one place the depth is judged before a natural
-depth-before-natural : Rules.parseExpr (bytes "18446744073709551616") 21 0 0 ≡ refused 3 0
+depth-before-natural : Rules.parse_expr (bytes "18446744073709551616") 21 0 0 ≡ refused 3 0
 unfolding computed
 depth-before-natural = refl
 
@@ -40,7 +40,7 @@ abbrev count : Outcome → ℕ
 count (words n table) = n
 count (refusal number place table) = 0
 
-dense : count (readExpression (bytes "a+b+c+d") 34) ≡ 31
+dense : count (read_expression (bytes "a+b+c+d") 34) ≡ 31
 unfolding computed
 dense = refl
 
@@ -48,25 +48,25 @@ dense = refl
 
 -- a tree that is read, its names as bytes
 abbrev named : List ℕ → Answer (Expr Span) → Option Tree
-named text (ok e next) = some (resolveExpr text e)
+named text (ok e next) = some (resolve_expr text e)
 named text Answer.none = none
 named text (refused number place) = none
 
 -- the tree that a text is read as
 abbrev tree_of : String → Option Tree
-tree_of s = named (bytes s) (readTree (bytes s))
+tree_of s = named (bytes s) (read_tree (bytes s))
 
 abbrev variable : String → Tree
 variable w = IdExpr (bytes w) false
 
 -- variables one after the other
 abbrev variables : List String → Exprs (List ℕ)
-variables [] = noExprs
+variables [] = no_exprs
 variables (w ∷ ws) = ◌then◌ (variable w) (variables ws)
 
 -- patterns and triggers of variables
 abbrev patterns : List (List String) → Patterns (List ℕ)
-patterns [] = noPatterns
+patterns [] = no_patterns
 patterns (ws ∷ ps) = pattern (variables ws) (patterns ps)
 
 conditional : tree_of "if a b else c" ≡ some (OperatorExpr IfThenElse (variables ("a" ∷ "b" ∷ "c" ∷ [])))
@@ -95,7 +95,7 @@ unfolding computed part
 existential = refl
 
 -- no pattern, and three expressions in one
-patternless : tree_of "forall x : t a" ≡ some (QuantifierExpr true (binding (bytes "x") (bytes "t") ∷ []) noPatterns (variable "a"))
+patternless : tree_of "forall x : t a" ≡ some (QuantifierExpr true (binding (bytes "x") (bytes "t") ∷ []) no_patterns (variable "a"))
 unfolding computed part
 patternless = refl
 
@@ -111,15 +111,15 @@ label = refl
 -- two bindings, of which one has parameters, and two properties, of which one has triggers
 closure : tree_of "lift f(x : t, y : u) := a, g := b into n : v by { trigger c, d trigger e p, q }"
     ≡ some (ClosureExpr
-    (closureBinding (bytes "f") (binding (bytes "x") (bytes "t") ∷ binding (bytes "y") (bytes "u") ∷ []) (variable "a")
-    (closureBinding (bytes "g") [] (variable "b") noClosureBindings)) (bytes "n") (bytes "v")
-    (closureProperty (patterns (("c" ∷ "d" ∷ []) ∷ ("e" ∷ []) ∷ [])) (variable "p") (closureProperty noPatterns (variable "q") noClosureProperties)))
+    (closure_binding (bytes "f") (binding (bytes "x") (bytes "t") ∷ binding (bytes "y") (bytes "u") ∷ []) (variable "a")
+    (closure_binding (bytes "g") [] (variable "b") no_closure_bindings)) (bytes "n") (bytes "v")
+    (closure_property (patterns (("c" ∷ "d" ∷ []) ∷ ("e" ∷ []) ∷ [])) (variable "p") (closure_property no_patterns (variable "q") no_closure_properties)))
 unfolding computed part
 closure = refl
 
 -- a closure without parameters and properties
 closure-bare : tree_of "lift f() := a into n : v by { }"
-    ≡ some (ClosureExpr (closureBinding (bytes "f") [] (variable "a") noClosureBindings) (bytes "n") (bytes "v") noClosureProperties)
+    ≡ some (ClosureExpr (closure_binding (bytes "f") [] (variable "a") no_closure_bindings) (bytes "n") (bytes "v") no_closure_properties)
 unfolding computed part
 closure-bare = refl
 
@@ -130,12 +130,12 @@ custom-literal = refl
 call-in-call : tree_of "f(a, g(b, c), h())"
     ≡ some (FunctionCallExpr (bytes "f")
     (◌then◌ (variable "a")
-    (◌then◌ (FunctionCallExpr (bytes "g") (variables ("b" ∷ "c" ∷ []))) (◌then◌ (FunctionCallExpr (bytes "h") noExprs) noExprs))))
+    (◌then◌ (FunctionCallExpr (bytes "g") (variables ("b" ∷ "c" ∷ []))) (◌then◌ (FunctionCallExpr (bytes "h") no_exprs) no_exprs))))
 unfolding computed part
 call-in-call = refl
 
 -- a word may stand after `old` that is no name elsewhere
 old : tree_of "f(old a, old val)"
-    ≡ some (FunctionCallExpr (bytes "f") (◌then◌ (IdExpr (bytes "a") true) (◌then◌ (IdExpr (bytes "val") true) noExprs)))
+    ≡ some (FunctionCallExpr (bytes "f") (◌then◌ (IdExpr (bytes "a") true) (◌then◌ (IdExpr (bytes "val") true) no_exprs)))
 unfolding computed part
 old = refl

@@ -3,7 +3,7 @@
 use Rattle.std.specs.Prelude.{ℕ, ◌≡◌, refl, List, [], ◌∷◌, map}
 use Prim.Native.String.{String}
 use Rattle.lexing.specs.Bytes.{bytes}
-use Rattle.grammar.specs.Reading.{Outcome, refusal, readExpression, readProgram}
+use Rattle.grammar.specs.Reading.{Outcome, refusal, read_expression, read_program}
 use Rattle.grammar.specs.ProgramExamples.{computed}
 
 infixl 70 ◌stops◌
@@ -15,17 +15,17 @@ abbrev expected : Row → Outcome
 expected (◌stops◌ s place) = refusal 2 place []
 
 -- what the two readings answer with a table of no words
-abbrev expressionOf : Row → Outcome
-expressionOf (◌stops◌ s place) = readExpression (bytes s) 0
+abbrev expression_of : Row → Outcome
+expression_of (◌stops◌ s place) = read_expression (bytes s) 0
 
 abbrev program_of : Row → Outcome
-program_of (◌stops◌ s place) = readProgram (bytes s) 0
+program_of (◌stops◌ s place) = read_program (bytes s) 0
 
 -- ---- expressions
 
 -- operators, operands, brackets and calls
-abbrev operatorRows : List Row
-operatorRows =
+abbrev operator_rows : List Row
+operator_rows =
     "" stops 0
     ∷ "  )" stops 2
     ∷ "a b" stops 2
@@ -54,13 +54,13 @@ operatorRows =
     ∷ "|s:t b" stops 5
     ∷ []
 
-operator-places : map expressionOf operatorRows ≡ map expected operatorRows
+operator-places : map expression_of operator_rows ≡ map expected operator_rows
 unfolding computed
 operator-places = refl
 
 -- conditionals, `val` and quantifiers
-abbrev formRows : List Row
-formRows =
+abbrev form_rows : List Row
+form_rows =
     "if" stops 2
     ∷ "if )" stops 3
     ∷ "if a )" stops 5
@@ -86,13 +86,13 @@ formRows =
     ∷ "forall x : t pattern a )" stops 23
     ∷ []
 
-form-places : map expressionOf formRows ≡ map expected formRows
+form-places : map expression_of form_rows ≡ map expected form_rows
 unfolding computed
 form-places = refl
 
 -- closures
-abbrev closureRows : List Row
-closureRows =
+abbrev closure_rows : List Row
+closure_rows =
     "lift" stops 4
     ∷ "lift 5" stops 5
     ∷ "lift f a" stops 7
@@ -114,15 +114,15 @@ closureRows =
     ∷ "lift f := a into n : t by { b, }" stops 31
     ∷ []
 
-closure-places : map expressionOf closureRows ≡ map expected closureRows
+closure-places : map expression_of closure_rows ≡ map expected closure_rows
 unfolding computed
 closure-places = refl
 
 -- ---- programs
 
 -- statements without blocks, and what ends a block
-abbrev statementRows : List Row
-statementRows =
+abbrev statement_rows : List Row
+statement_rows =
     "procedure p() { return := 1 }" stops 23
     ∷ "procedure p() { { } 5 }" stops 20
     ∷ "procedure p() { var 5 }" stops 20
@@ -148,13 +148,13 @@ statementRows =
     ∷ "procedure p() { q(inout 1) }" stops 24
     ∷ []
 
-statement-places : map program_of statementRows ≡ map expected statementRows
+statement-places : map program_of statement_rows ≡ map expected statement_rows
 unfolding computed
 statement-places = refl
 
 -- statements with blocks, where another statement stands for one
-abbrev blockRows : List Row
-blockRows =
+abbrev block_rows : List Row
+block_rows =
     "procedure p() { forall { } }" stops 23
     ∷ "procedure p() { forall x int { } }" stops 25
     ∷ "procedure p() { forall x: 5 }" stops 26
@@ -174,13 +174,13 @@ blockRows =
     ∷ "procedure p() { loop invariant a check b }" stops 33
     ∷ []
 
-block-places : map program_of blockRows ≡ map expected blockRows
+block-places : map program_of block_rows ≡ map expected block_rows
 unfolding computed
 block-places = refl
 
 -- types, taggers, axioms and functions
-abbrev declarationRows : List Row
-declarationRows =
+abbrev declaration_rows : List Row
+declaration_rows =
     "type 5" stops 5
     ∷ "type t 5" stops 7
     ∷ "tagger 5" stops 7
@@ -207,13 +207,13 @@ declarationRows =
     ∷ "function f(): t { a b" stops 20
     ∷ []
 
-declaration-places : map program_of declarationRows ≡ map expected declarationRows
+declaration-places : map program_of declaration_rows ≡ map expected declaration_rows
 unfolding computed
 declaration-places = refl
 
 -- procedures
-abbrev procedureRows : List Row
-procedureRows =
+abbrev procedure_rows : List Row
+procedure_rows =
     "procedure (" stops 10
     ∷ "procedure p {" stops 12
     ∷ "procedure p(5" stops 12
@@ -231,6 +231,6 @@ procedureRows =
     ∷ "procedure p() ensures a requires b" stops 24
     ∷ []
 
-procedure-places : map program_of procedureRows ≡ map expected procedureRows
+procedure-places : map program_of procedure_rows ≡ map expected procedure_rows
 unfolding computed
 procedure-places = refl

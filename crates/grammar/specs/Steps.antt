@@ -2,8 +2,8 @@
 -- "Choice and repetition").
 use Rattle.std.specs.Prelude.{ℕ, List, drop}
 use Prim.Native.String.{String}
-use Rattle.lexing.specs.Answer.{Answer, ok, refused, moved, unusableToken}
-use Rattle.lexing.specs.Tokens.{parseId, parseCustomLiteral, keyword, sign, signNotPrefix, natural}
+use Rattle.lexing.specs.Answer.{Answer, ok, refused, moved, unusable_token}
+use Rattle.lexing.specs.Tokens.{parse_id, parse_custom_literal, keyword, sign, sign_not_prefix, natural}
 use Rattle.tree.specs.Ast.{Span}
 use Rattle.lexing.specs.Bytes.{bytes}
 
@@ -19,7 +19,7 @@ after (refused number place) stop go = refused number place
 
 -- a step that must follow at a place where tokens were kept before: refusal 2 there where it keeps nothing
 abbrev pub need : {A B : Type 0} → ℕ → Answer A → (A → ℕ → Answer B) → Answer B
-need at r go = after r (refused unusableToken at) go
+need at r go = after r (refused unusable_token at) go
 
 -- the same, and nothing after it
 abbrev pub must : {A : Type 0} → ℕ → Answer A → Answer A
@@ -36,34 +36,34 @@ mapped f r = after r Answer.none (λ a next. ok (f a) next)
 infixr 20 ◌or◌
 module _ (text : List ℕ) where
   -- `T`, `Sym` and `SymNotPrefix` of given bytes
-  abbrev pub keywordAt : List ℕ → Reader ℕ
-  keywordAt w at = moved at (keyword w (drop at text))
+  abbrev pub keyword_at : List ℕ → Reader ℕ
+  keyword_at w at = moved at (keyword w (drop at text))
 
-  abbrev pub signAt : List ℕ → Reader ℕ
-  signAt w at = moved at (sign w (drop at text))
+  abbrev pub sign_at : List ℕ → Reader ℕ
+  sign_at w at = moved at (sign w (drop at text))
 
   abbrev pub T : String → Reader ℕ
-  T w at = keywordAt (bytes w) at
+  T w at = keyword_at (bytes w) at
 
   abbrev pub Sym : String → Reader ℕ
-  Sym w at = signAt (bytes w) at
+  Sym w at = sign_at (bytes w) at
 
   abbrev pub SymNotPrefix : String → String → Reader ℕ
-  SymNotPrefix w longer at = moved at (signNotPrefix (bytes w) (bytes longer) (drop at text))
+  SymNotPrefix w longer at = moved at (sign_not_prefix (bytes w) (bytes longer) (drop at text))
 
   -- a token of that length at a place, as a name
   abbrev pub spanned : ℕ → Answer ℕ → Answer Span
   spanned at r = after r Answer.none (λ n next. ok (record { start = at; len = n }) next)
 
-  abbrev pub parseName : Reader Span
-  parseName at = spanned at (moved at (parseId (drop at text)))
+  abbrev pub parse_name : Reader Span
+  parse_name at = spanned at (moved at (parse_id (drop at text)))
 
   -- `bool`, `int` and `tag` are identifiers too, and each type is the name that stands there
-  abbrev pub parseType : Reader Span
-  parseType at = parseName at
+  abbrev pub parse_type : Reader Span
+  parse_type at = parse_name at
 
-  abbrev pub parseLiteralText : Reader Span
-  parseLiteralText at = spanned at (moved at (parseCustomLiteral (drop at text)))
+  abbrev pub parse_literal_text : Reader Span
+  parse_literal_text at = spanned at (moved at (parse_custom_literal (drop at text)))
 
-  abbrev pub parseNat : Reader ℕ
-  parseNat at = moved at (natural (drop at text))
+  abbrev pub parse_nat : Reader ℕ
+  parse_nat at = moved at (natural (drop at text))

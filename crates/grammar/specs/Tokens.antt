@@ -2,9 +2,9 @@
 -- identifier, a whole natural or the longest of the signs. `false`, `true`, `old`, `div` and `mod` are identifiers.
 use Rattle.std.specs.Prelude.{ℕ, zero, suc, pred, ◌+◌, true, false, List, [], ◌∷◌, length, take, drop}
 use Prim.Native.String.{String}
-use Rattle.lexing.specs.Bytes.{isDigit, run, starts_with, bytes}
+use Rattle.lexing.specs.Bytes.{is_digit, run, starts_with, bytes}
 use Rattle.lexing.specs.Blanks.{Blanks, passed, unclosed, W}
-use Rattle.lexing.specs.Tokens.{identifierLength, decimal}
+use Rattle.lexing.specs.Tokens.{identifier_length, decimal}
 
 pub data Mark : Type 0 where
   lparen rparen comma : Mark
@@ -40,40 +40,40 @@ pub data Cut : Type 0 where
   nothing : Cut
 
 -- the first of the signs that stands at the start
-unfoldable pub signAt : List Spelling → List ℕ → Cut
-signAt [] s = nothing
-signAt (◌is◌ w t ∷ g) s = elim (starts_with (bytes w) s) [ true ↦ token t (length (bytes w)) | false ↦ signAt g s ]
+unfoldable pub sign_at : List Spelling → List ℕ → Cut
+sign_at [] s = nothing
+sign_at (◌is◌ w t ∷ g) s = elim (starts_with (bytes w) s) [ true ↦ token t (length (bytes w)) | false ↦ sign_at g s ]
 
 -- the natural of n digits at the start, else a sign
-unfoldable pub naturalAt : ℕ → List ℕ → Cut
-naturalAt zero s = signAt signs s
-naturalAt (suc n) s = token (nat (decimal 0 (take (suc n) s))) (suc n)
+unfoldable pub natural_at : ℕ → List ℕ → Cut
+natural_at zero s = sign_at signs s
+natural_at (suc n) s = token (nat (decimal 0 (take (suc n) s))) (suc n)
 
 -- the identifier of n bytes at the start, else a natural or a sign
 unfoldable pub name_at : ℕ → List ℕ → Cut
-name_at zero s = naturalAt (run isDigit s) s
+name_at zero s = natural_at (run is_digit s) s
 name_at (suc n) s = token (name (take (suc n) s)) (suc n)
 
 -- the token at the start
-unfoldable pub tokenAt : List ℕ → Cut
-tokenAt s = name_at (identifierLength s) s
+unfoldable pub token_at : List ℕ → Cut
+token_at s = name_at (identifier_length s) s
 
 -- the tokens after blanks, which `rest` finds after so many bytes more
-abbrev pub afterBlanks : Blanks → (ℕ → List Token) → List Token
-afterBlanks (passed k) rest = rest k
-afterBlanks (unclosed place) rest = illegal ∷ []
+abbrev pub after_blanks : Blanks → (ℕ → List Token) → List Token
+after_blanks (passed k) rest = rest k
+after_blanks (unclosed place) rest = illegal ∷ []
 
 -- the tokens of s from a token's start on; `rest` finds those after its first byte and so many bytes more
-unfoldable pub atToken : Cut → List ℕ → (ℕ → List Token) → List Token
-atToken (token t n) s rest = t ∷ afterBlanks (W (drop n s)) (λ k. rest (pred n + k))
-atToken nothing s rest = illegal ∷ []
+unfoldable pub at_token : Cut → List ℕ → (ℕ → List Token) → List Token
+at_token (token t n) s rest = t ∷ after_blanks (W (drop n s)) (λ k. rest (pred n + k))
+at_token nothing s rest = illegal ∷ []
 
 -- the tokens after k bytes, where a token begins: each is cut with the blanks after it
-unfoldable pub tokensAfter : ℕ → List ℕ → List Token
-tokensAfter k [] = []
-tokensAfter zero (a ∷ s) = atToken (tokenAt (a ∷ s)) (a ∷ s) (λ k. tokensAfter k s)
-tokensAfter (suc k) (a ∷ s) = tokensAfter k s
+unfoldable pub tokens_after : ℕ → List ℕ → List Token
+tokens_after k [] = []
+tokens_after zero (a ∷ s) = at_token (token_at (a ∷ s)) (a ∷ s) (λ k. tokens_after k s)
+tokens_after (suc k) (a ∷ s) = tokens_after k s
 
 -- the cut of a text
 unfoldable pub cut : List ℕ → List Token
-cut s = afterBlanks (W s) (λ k. tokensAfter k s)
+cut s = after_blanks (W s) (λ k. tokens_after k s)

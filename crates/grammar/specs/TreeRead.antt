@@ -1,9 +1,9 @@
 -- What it is to read a tree (REFERENCE, "The entries" and "The operator grammar"): the terms of demand 3's second claim.
 use Rattle.std.specs.Prelude.{ℕ, ◌-◌, ◌≡◌, List, [], ◌++◌, length, replicate}
 use Rattle.lexing.specs.Answer.{Answer, ok}
-use Rattle.tree.specs.Resolve.{resolveExpr}
+use Rattle.tree.specs.Resolve.{resolve_expr}
 use Rattle.grammar.specs.Grammar.{Tree}
-use Rattle.grammar.specs.Reading.{Outcome, words, treeWords, readTree, readExpression}
+use Rattle.grammar.specs.Reading.{Outcome, words, tree_words, read_tree, read_expression}
 
 -- Reading a text into a table of n words gives the tree t: the tree read from the whole text is t once its names are bytes, the answer is
 -- the number of its words, and the table holds them and zeros after them. `reading` and `entry` are a kind of tree's, `words_of` and `resolve`
@@ -16,4 +16,4 @@ pub record Gives {A B : Type 0} (reading : List ℕ → Answer A) (entry : List 
   pub answered : entry text n ≡ words (length (words_of tree)) (words_of tree ++ replicate (n - length (words_of tree)) 0)
 
 abbrev pub GivesTree : List ℕ → ℕ → Tree → Type 0
-GivesTree = Gives readTree readExpression (λ e. treeWords e []) resolveExpr
+GivesTree = Gives read_tree read_expression (λ e. tree_words e []) resolve_expr

@@ -7,12 +7,12 @@ use Rattle.layout.specs.declared.power.Side.{Side}
 use Rattle.layout.specs.declared.power.BindingPower.{BindingPower}
 use Rattle.layout.specs.declared.format.ExprFormatOption.{ExprFormatOption}
 use Rattle.layout.specs.declared.format.ExprFormatOption.TheVariants.{MultipleLines}
-use Rattle.layout.specs.PrintUtil.{deeperBy, Deeper, BreakTieInFavorOfOperator, pulls, wins, WinsOver, adjusted, sidePower, SubexpressionPower}
+use Rattle.layout.specs.PrintUtil.{deeper_by, Deeper, BreakTieInFavorOfOperator, pulls, wins, WinsOver, adjusted, side_power, SubexpressionPower}
 
 -- ---- formats
 
 -- broken lines one step deeper
-pub more-lines : (step : ℕ) (f : ExprFormatOption) (i r : ℕ) → f ≡ MultipleLines i → r ≡ deeperBy step i → MultipleLines r ≡ Deeper step f
+pub more-lines : (step : ℕ) (f : ExprFormatOption) (i r : ℕ) → f ≡ MultipleLines i → r ≡ deeper_by step i → MultipleLines r ≡ Deeper step f
 more-lines step f i r e d = ap MultipleLines d ∙ sym (ap (Deeper step) e)
 
 -- ---- strengths
@@ -45,8 +45,8 @@ module _ (op context : BindingPower) (tie l r : Bool) (e : tie ≡ BreakTieInFav
 
 -- the context of the operand at a side
 pub side-power : (op inside context r : BindingPower) (side s : Side) (w : Bool) → w ≡ WinsOver op context → inside ≡ adjusted w context → side ≡ s
-    → r ≡ sidePower op s inside → r ≡ SubexpressionPower op side context
+    → r ≡ side_power op s inside → r ≡ SubexpressionPower op side context
 unfolding SubexpressionPower
 side-power op inside context r side s w e f g h =
-    h ∙ ap (λ (x : BindingPower). sidePower op s x) (f ∙ ap (λ (x : Bool). adjusted x context) e)
-    ∙ ap (λ (x : Side). sidePower op x (adjusted (WinsOver op context) context)) (sym g)
+    h ∙ ap (λ (x : BindingPower). side_power op s x) (f ∙ ap (λ (x : Bool). adjusted x context) e)
+    ∙ ap (λ (x : Side). side_power op x (adjusted (WinsOver op context) context)) (sym g)

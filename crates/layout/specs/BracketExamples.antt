@@ -10,7 +10,7 @@ use Rattle.std.proofs.Math.Option.{none}
 use Rattle.lexing.specs.Answer.{pick}
 use Rattle.lexing.specs.Bytes.{bytes}
 use Rattle.tree.specs.Ast.{binding, Operator, IfThenElse, Equiv, LogicalImp, LogicalAnd, LogicalOr, Eq, Neq, Less, AtMost, Plus, Minus, Times, Div, Mod, LogicalNot, UnaryMinus}
-use Rattle.tree.specs.Ast.{Expr, OperatorExpr, LabeledExpr, LetExpr, QuantifierExpr, noPatterns}
+use Rattle.tree.specs.Ast.{Expr, OperatorExpr, LabeledExpr, LetExpr, QuantifierExpr, no_patterns}
 use Rattle.layout.specs.Examples.{computed, line, list, one, two, a}
 
 abbrev binaries : List Operator
@@ -22,7 +22,7 @@ forms =
     OperatorExpr IfThenElse (list (a ∷ a ∷ a ∷ []))
     ∷ two Equiv a a ∷ two LogicalImp a a ∷ two LogicalAnd a a ∷ two LogicalOr a a ∷ two Eq a a ∷ two Neq a a ∷ two Less a a ∷ two AtMost a a
     ∷ two Plus a a ∷ two Minus a a ∷ two Times a a ∷ two Div a a ∷ two Mod a a ∷ one LogicalNot a ∷ one UnaryMinus a
-    ∷ LabeledExpr "m" a ∷ LetExpr "v" none a a ∷ QuantifierExpr true (binding "k" "int" ∷ []) noPatterns a ∷ []
+    ∷ LabeledExpr "m" a ∷ LetExpr "v" none a a ∷ QuantifierExpr true (binding "k" "int" ∷ []) no_patterns a ∷ []
 
 -- `(` where a print has one, else `.`
 abbrev mark : List ℕ → ℕ

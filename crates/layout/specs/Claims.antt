@@ -8,7 +8,7 @@ use Rattle.layout.specs.declared.power.TieBreaker.{TieBreaker}
 use Rattle.layout.specs.declared.power.Side.TheVariants.{Left, Right}
 use Rattle.layout.specs.declared.power.BindingPower.{BindingPower}
 use Rattle.layout.specs.declared.format.ExprFormatOption.{ExprFormatOption}
-use Rattle.layout.specs.PrintUtil.{More, startIndent, deeperBy, Deeper, BreakTieInFavorOfOperator, power, Init, EndlessOperator, WinsOver, SubexpressionPower}
+use Rattle.layout.specs.PrintUtil.{More, start_indent, deeper_by, Deeper, BreakTieInFavorOfOperator, power, Init, EndlessOperator, WinsOver, SubexpressionPower}
 use Rattle.layout.specs.Indents as indents
 use Rattle.layout.specs.StrengthLaws as strengths
 use Rattle.layout.specs.StrengthLaws.{Favored}
@@ -43,8 +43,8 @@ endless-alone = strengths.endless-alone
 -- ---- indents
 
 -- Where 64 bits hold it, an indent one step deeper is the sum, and the format one step deeper is upstream's `More`.
-pub deeper-held : (step indent : ℕ) → indent + step ≤ 18446744073709551615 → deeperBy step indent ≡ indent + step
+pub deeper-held : (step indent : ℕ) → indent + step ≤ 18446744073709551615 → deeper_by step indent ≡ indent + step
 deeper-held = indents.held
 
-pub format-held : (step : ℕ) (format : ExprFormatOption) → startIndent format + step ≤ 18446744073709551615 → Deeper step format ≡ More step format
+pub format-held : (step : ℕ) (format : ExprFormatOption) → start_indent format + step ≤ 18446744073709551615 → Deeper step format ≡ More step format
 format-held = indents.held-format

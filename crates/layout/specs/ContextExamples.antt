@@ -5,7 +5,7 @@ use Rattle.std.proofs.Math.Option.{none}
 use Rattle.lexing.specs.Bytes.{bytes}
 use Rattle.tree.specs.Ast.{binding, IfThenElse, Equiv, LogicalAnd, Plus, Minus, Times, LogicalNot, UnaryMinus}
 use Rattle.tree.specs.Ast.{Expr, BLiteral, ILiteral, CustomLiteral, IdExpr, OperatorExpr, FunctionCallExpr, LabeledExpr, LetExpr, QuantifierExpr, ClosureExpr}
-use Rattle.tree.specs.Ast.{noPatterns, pattern, noClosureBindings, closureBinding, noClosureProperties, closureProperty}
+use Rattle.tree.specs.Ast.{no_patterns, pattern, no_closure_bindings, closure_binding, no_closure_properties, closure_property}
 use Rattle.layout.specs.Examples.{computed, line, lines, list, one, two, a, b, c}
 
 -- the weakest operator, which needs brackets in any context but the outermost
@@ -24,7 +24,7 @@ m e = LabeledExpr "m" e
 
 -- a closure with the same expression in each of its places
 abbrev lift : Expr String → Expr String
-lift e = ClosureExpr (closureBinding "f" [] e noClosureBindings) "r" "t" (closureProperty (pattern (list (e ∷ [])) noPatterns) e noClosureProperties)
+lift e = ClosureExpr (closure_binding "f" [] e no_closure_bindings) "r" "t" (closure_property (pattern (list (e ∷ [])) no_patterns) e no_closure_properties)
 
 -- ---- contexts: brackets around a part, or none
 
@@ -43,19 +43,19 @@ val-parts : line (two Times c (LetExpr "v" none both equal)) ≡ bytes "c * val 
 unfolding computed
 val-parts = refl
 
-quantifier-parts : line (two Times c (QuantifierExpr true (binding "k" "int" ∷ []) noPatterns equal)) ≡ bytes "c * forall k: int a <==> b"
+quantifier-parts : line (two Times c (QuantifierExpr true (binding "k" "int" ∷ []) no_patterns equal)) ≡ bytes "c * forall k: int a <==> b"
 unfolding computed
 quantifier-parts = refl
 
 -- and on the left of another operator the same are bracketed
-on-the-left : line (two Times (LetExpr "v" none a b) (two Times (QuantifierExpr false [] noPatterns a) (two Times (if a b c) c)))
+on-the-left : line (two Times (LetExpr "v" none a b) (two Times (QuantifierExpr false [] no_patterns a) (two Times (if a b c) c)))
     ≡ bytes "(val v := a b) * ( a) * (if a b else c) * c"
 unfolding computed
 on-the-left = refl
 
 -- arguments, patterns, and all parts of a closure stand alone; a closure has no brackets anywhere
 alone-parts : (line (two Times (FunctionCallExpr "f" (list (equal ∷ []))) c) ≡ bytes "f(a <==> b) * c")
-    × (line (two Times c (QuantifierExpr true (binding "k" "int" ∷ []) (pattern (list (equal ∷ [])) noPatterns) a)) ≡ bytes "c * forall k: int pattern a <==> b a")
+    × (line (two Times c (QuantifierExpr true (binding "k" "int" ∷ []) (pattern (list (equal ∷ [])) no_patterns) a)) ≡ bytes "c * forall k: int pattern a <==> b a")
     × (line (two Times (lift equal) (lift equal)) ≡ bytes "lift f := a <==> b into r: t by { trigger a <==> b :: a <==> b } * lift f := a <==> b into r: t by { trigger a <==> b :: a <==> b }")
 unfolding computed
 alone-parts = (refl, refl, refl)
@@ -113,7 +113,7 @@ unfolding computed
 broken-list = refl
 
 -- a quantifier's patterns stay on one line each, its body is broken
-broken-body : lines 0 (QuantifierExpr true (binding "k" "int" ∷ []) (pattern (list (both ∷ [])) noPatterns) both)
+broken-body : lines 0 (QuantifierExpr true (binding "k" "int" ∷ []) (pattern (list (both ∷ [])) no_patterns) both)
     ≡ bytes "forall k: int\n   pattern a && b\n   a &&\n   b"
 unfolding computed
 broken-body = refl
@@ -138,8 +138,8 @@ alone : Alone (BLiteral true) "if a\n   b\nelse\n   true"
     × Alone (CustomLiteral "1" "t") "if a\n   b\nelse\n   |1: t|"
     × Alone (FunctionCallExpr "f" (list [])) "if a\n   b\nelse\n   f()"
     × Alone (LabeledExpr "m" c) "if a\n   b\nelse\n   m: c"
-    × Alone (QuantifierExpr true [] noPatterns c) "if a\n   b\nelse\n   \n      c"
-    × Alone (ClosureExpr noClosureBindings "d" "t" noClosureProperties) "if a\n   b\nelse\n   lift  into d: t by {  }"
+    × Alone (QuantifierExpr true [] no_patterns c) "if a\n   b\nelse\n   \n      c"
+    × Alone (ClosureExpr no_closure_bindings "d" "t" no_closure_properties) "if a\n   b\nelse\n   lift  into d: t by {  }"
 unfolding computed
 alone = (refl, refl, refl, refl, refl, refl, refl)
 

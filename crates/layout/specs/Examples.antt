@@ -5,15 +5,15 @@ use Rattle.std.proofs.Math.Option.{some}
 use Rattle.lexing.specs.Bytes.{bytes}
 use Rattle.tree.specs.Ast.{binding, Operator, IfThenElse, Equiv, LogicalImp, LogicalAnd, LogicalOr, Eq, Neq, Less, AtMost, Plus, Minus, Times, Div, Mod, LogicalNot, UnaryMinus}
 use Rattle.tree.specs.Ast.{Expr, IdExpr, OperatorExpr, FunctionCallExpr, LabeledExpr, LetExpr, QuantifierExpr}
-use Rattle.tree.specs.Ast.{Exprs, noExprs, ◌then◌, noPatterns, pattern}
+use Rattle.tree.specs.Ast.{Exprs, no_exprs, ◌then◌, no_patterns, pattern}
 use Rattle.layout.specs.declared.format.ExprFormatOption.TheVariants.{SingleLine, MultipleLines}
 use Rattle.layout.specs.Text.{digits}
 use Rattle.layout.specs.PrintUtil.{Init, WinsOver, SubexpressionPower}
-use Rattle.layout.specs.Printer.{ExpressionList, Bindings, Expression, operands, patterns, closureBindings, triggers, properties}
+use Rattle.layout.specs.Printer.{ExpressionList, Bindings, Expression, operands, patterns, closure_bindings, triggers, properties}
 
 -- `unfolding computed` opens the prints, so that they compute on a closed tree
 unfoldable pub computed : Unit {0}
-unfolding digits WinsOver SubexpressionPower ExpressionList Bindings Expression operands patterns closureBindings triggers properties
+unfolding digits WinsOver SubexpressionPower ExpressionList Bindings Expression operands patterns closure_bindings triggers properties
 computed = tt
 
 abbrev pub line : Expr String → List ℕ
@@ -24,7 +24,7 @@ abbrev pub lines : ℕ → Expr String → List ℕ
 lines indent e = Expression bytes 3 e Init (MultipleLines indent) []
 
 abbrev pub list : List (Expr String) → Exprs String
-list [] = noExprs
+list [] = no_exprs
 list (e ∷ es) = ◌then◌ e (list es)
 
 abbrev pub two : Operator → Expr String → Expr String → Expr String
@@ -196,7 +196,7 @@ broken-else : lines 0 (OperatorExpr IfThenElse (list (a ∷ b ∷ OperatorExpr I
 unfolding computed
 broken-else = refl
 
-broken-quantifier : lines 3 (QuantifierExpr false (binding "k" "int" ∷ binding "l" "int" ∷ []) (pattern (list (a ∷ [])) noPatterns) b)
+broken-quantifier : lines 3 (QuantifierExpr false (binding "k" "int" ∷ binding "l" "int" ∷ []) (pattern (list (a ∷ [])) no_patterns) b)
     ≡ bytes "exists k: int, l: int\n      pattern a\n      b"
 unfolding computed
 broken-quantifier = refl

@@ -6,7 +6,7 @@ use Rattle.std.proofs.Math.Option.{none, some}
 use Rattle.lexing.specs.Bytes.{bytes}
 use Rattle.tree.specs.Ast.{Binding, binding, IfThenElse}
 use Rattle.tree.specs.Ast.{Expr, BLiteral, ILiteral, CustomLiteral, IdExpr, OperatorExpr, FunctionCallExpr, LabeledExpr, LetExpr, QuantifierExpr, ClosureExpr}
-use Rattle.tree.specs.Ast.{Patterns, noPatterns, pattern, noClosureBindings, closureBinding, noClosureProperties, closureProperty}
+use Rattle.tree.specs.Ast.{Patterns, no_patterns, pattern, no_closure_bindings, closure_binding, no_closure_properties, closure_property}
 use Rattle.layout.specs.Examples.{computed, line, lines, list}
 
 -- the print on one line, and the print on broken lines
@@ -34,7 +34,7 @@ abbrev two-bindings : List (Binding String)
 two-bindings = binding "a" "b" ∷ binding "c" "d" ∷ []
 
 abbrev two-patterns : Patterns String
-two-patterns = pattern (list (v "e" ∷ v "f" ∷ [])) (pattern (list (v "g" ∷ [])) noPatterns)
+two-patterns = pattern (list (v "e" ∷ v "f" ∷ [])) (pattern (list (v "g" ∷ [])) no_patterns)
 
 universal : Prints (QuantifierExpr true two-bindings two-patterns (v "h")) "forall a: b, c: d pattern e, f pattern g h"
     "forall a: b, c: d\n       pattern e, f\n       pattern g\n       h"
@@ -57,20 +57,20 @@ closure-text = "lift a(b: c, d: e) := f, g(h: i) := j into k: l by { trigger m, 
 
 closure : Prints
     (ClosureExpr
-    (closureBinding "a" (binding "b" "c" ∷ binding "d" "e" ∷ []) (v "f") (closureBinding "g" (binding "h" "i" ∷ []) (v "j") noClosureBindings))
+    (closure_binding "a" (binding "b" "c" ∷ binding "d" "e" ∷ []) (v "f") (closure_binding "g" (binding "h" "i" ∷ []) (v "j") no_closure_bindings))
     "k"
     "l"
-    (closureProperty
-    (pattern (list (v "m" ∷ v "n" ∷ [])) (pattern (list (v "o" ∷ [])) noPatterns))
+    (closure_property
+    (pattern (list (v "m" ∷ v "n" ∷ [])) (pattern (list (v "o" ∷ [])) no_patterns))
     (v "p")
-    (closureProperty (pattern (list (v "q" ∷ [])) noPatterns) (v "r") noClosureProperties)))
+    (closure_property (pattern (list (v "q" ∷ [])) no_patterns) (v "r") no_closure_properties)))
     closure-text closure-text
 unfolding computed
 closure = (refl, refl)
 
 -- neither parameters nor triggers
 bare-closure : Prints
-    (ClosureExpr (closureBinding "a" [] (v "b") noClosureBindings) "c" "d" (closureProperty noPatterns (v "e") noClosureProperties))
+    (ClosureExpr (closure_binding "a" [] (v "b") no_closure_bindings) "c" "d" (closure_property no_patterns (v "e") no_closure_properties))
     "lift a := b into c: d by { e }" "lift a := b into c: d by { e }"
 unfolding computed
 bare-closure = (refl, refl)
@@ -95,6 +95,6 @@ unfolding computed
 literals = (refl, refl)
 
 -- a quantifier without bindings prints neither word
-no-bindings : Prints (QuantifierExpr true [] (pattern (list (v "a" ∷ v "b" ∷ [])) noPatterns) (v "c")) " pattern a, b c" "\n       pattern a, b\n       c"
+no-bindings : Prints (QuantifierExpr true [] (pattern (list (v "a" ∷ v "b" ∷ [])) no_patterns) (v "c")) " pattern a, b c" "\n       pattern a, b\n       c"
 unfolding computed
 no-bindings = (refl, refl)

@@ -26,36 +26,36 @@ More step SingleLine = SingleLine
 More step (MultipleLines indent) = MultipleLines (indent + step)
 
 -- the start indent of a format; 0 on one line
-abbrev pub startIndent : ExprFormatOption → ℕ
-startIndent SingleLine = 0
-startIndent (MultipleLines indent) = indent
+abbrev pub start_indent : ExprFormatOption → ℕ
+start_indent SingleLine = 0
+start_indent (MultipleLines indent) = indent
 
 -- an indent one step deeper, or the greatest that 64 bits hold where that is less
-abbrev pub deeperBy : (step indent : ℕ) → ℕ
-deeperBy step indent = min (indent + step) 18446744073709551615
+abbrev pub deeper_by : (step indent : ℕ) → ℕ
+deeper_by step indent = min (indent + step) 18446744073709551615
 
 -- `More` with such indents: what 64 bits give
 abbrev pub Deeper : ℕ → ExprFormatOption → ExprFormatOption
 Deeper step SingleLine = SingleLine
-Deeper step (MultipleLines indent) = MultipleLines (deeperBy step indent)
+Deeper step (MultipleLines indent) = MultipleLines (deeper_by step indent)
 
 -- ---- BindingPower
 
-abbrev pub isOperatorWins : TieBreaker → Bool
-isOperatorWins OperatorWins = true
-isOperatorWins ContextWins = false
-isOperatorWins (SameFamilyWins n) = false
+abbrev pub is_operator_wins : TieBreaker → Bool
+is_operator_wins OperatorWins = true
+is_operator_wins ContextWins = false
+is_operator_wins (SameFamilyWins n) = false
 
 -- the context's tie breaker is OperatorWins, or SameFamilyWins of n too
-abbrev pub sameFamily : ℕ → TieBreaker → Bool
-sameFamily n OperatorWins = true
-sameFamily n ContextWins = false
-sameFamily n (SameFamilyWins m) = eqb n m
+abbrev pub same_family : ℕ → TieBreaker → Bool
+same_family n OperatorWins = true
+same_family n ContextWins = false
+same_family n (SameFamilyWins m) = eqb n m
 
 abbrev pub BreakTieInFavorOfOperator : TieBreaker → TieBreaker → Bool
 BreakTieInFavorOfOperator OperatorWins context = true
-BreakTieInFavorOfOperator ContextWins context = isOperatorWins context
-BreakTieInFavorOfOperator (SameFamilyWins n) context = sameFamily n context
+BreakTieInFavorOfOperator ContextWins context = is_operator_wins context
+BreakTieInFavorOfOperator (SameFamilyWins n) context = same_family n context
 
 abbrev pub power : ℕ → ℕ → TieBreaker → BindingPower
 power l r t = record { left = l; right = r; tie_breaker = t }
@@ -84,13 +84,13 @@ abbrev pub adjusted : Bool → BindingPower → BindingPower
 adjusted true context = context
 adjusted false context = Init
 
-abbrev pub sidePower : BindingPower → Side → BindingPower → BindingPower
-sidePower op Left context = power context.left op.left op.tie_breaker
-sidePower op Right context = power op.right context.right op.tie_breaker
+abbrev pub side_power : BindingPower → Side → BindingPower → BindingPower
+side_power op Left context = power context.left op.left op.tie_breaker
+side_power op Right context = power op.right context.right op.tie_breaker
 
 -- the context of the operand at a side
 unfoldable pub SubexpressionPower : BindingPower → Side → BindingPower → BindingPower
-SubexpressionPower op side context = sidePower op side (adjusted (WinsOver op context) context)
+SubexpressionPower op side context = side_power op side (adjusted (WinsOver op context) context)
 
 abbrev pub parenthesis : Bool → Side → List ℕ
 parenthesis true side = []

@@ -2,17 +2,17 @@
 use Rattle.std.specs.Prelude.{ℕ, Bool, true, false, List, []}
 use Prim.Native.String.{String}
 use Rattle.lexing.specs.Bytes.{bytes}
-use Rattle.tree.specs.Ast.{Exprs, noExprs, ◌then◌, Stmt}
+use Rattle.tree.specs.Ast.{Exprs, no_exprs, ◌then◌, Stmt}
 use Rattle.tree.specs.Ast.{Tagger, FParameter, FunctionDefinition, Function, Axiom, PParameter, Procedure as Proc, Program as Tree}
 use Rattle.layout.specs.declared.format.ExprFormatOption.TheVariants.{MultipleLines}
 use Rattle.layout.specs.Text.{◌▹◌, ◌▸◌}
 use Rattle.layout.specs.PrintUtil.{Indent, Init}
 use Rattle.layout.specs.Printer.{Expression}
-use Rattle.layout.specs.Statements.{Before, separated, optional, modeText, inline, OptionalAutoInvariant, shown, StmtAsBlock, PrintAExprs}
+use Rattle.layout.specs.Statements.{Before, separated, optional, mode_text, inline, OptionalAutoInvariant, shown, StmtAsBlock, PrintAExprs}
 
-abbrev pub injectiveText : Bool → String
-injectiveText true = "injective "
-injectiveText false = ""
+abbrev pub injective_text : Bool → String
+injective_text true = "injective "
+injective_text false = ""
 
 -- declarations, an empty line before each
 abbrev pub declarations : {A : Type 0} → (A → Before) → List A → Before
@@ -27,22 +27,22 @@ module _ {N : Type 0} (name : N → List ℕ) where
 
   -- a function's parameter
   abbrev pub formal : FParameter N → Before
-  formal p rest = injectiveText p.injective ▸ name p.name ▹ ": " ▸ name p.typ ▹ rest
+  formal p rest = injective_text p.injective ▸ name p.name ▹ ": " ▸ name p.typ ▹ rest
 
 module _ {N : Type 0} (name : N → List ℕ) (step : ℕ) where
-  unfoldable pub whenClauses : Exprs N → Before
-  whenClauses noExprs rest = rest
-  whenClauses (◌then◌ e es) rest = Indent step ▹ "when " ▸ inline name step e ("\n" ▸ whenClauses es rest)
+  unfoldable pub when_clauses : Exprs N → Before
+  when_clauses no_exprs rest = rest
+  when_clauses (◌then◌ e es) rest = Indent step ▹ "when " ▸ inline name step e ("\n" ▸ when_clauses es rest)
 
   abbrev pub definition : FunctionDefinition N → Before
   definition d rest =
-      whenClauses d.when ("{\n" ▸ Indent step ▹ Expression name step d.body Init (MultipleLines step) ("\n}\n" ▸ rest))
+      when_clauses d.when ("{\n" ▸ Indent step ▹ Expression name step d.body Init (MultipleLines step) ("\n}\n" ▸ rest))
 
   abbrev pub FunctionDecl : Function N → Before
   FunctionDecl f rest =
       "function " ▸ name f.name ▹ "("
       ▸ separated (formal name) [] (bytes ", ") f.parameters
-      ("): " ▸ name f.resultType ▹ optional (λ t r. name t ▹ r) (bytes " tag ") f.tag ("\n" ▸ optional definition [] f.definition rest))
+      ("): " ▸ name f.result_type ▹ optional (λ t r. name t ▹ r) (bytes " tag ") f.tag ("\n" ▸ optional definition [] f.definition rest))
 
   abbrev pub AxiomDecl : Axiom N → Before
   AxiomDecl a rest =
@@ -52,7 +52,7 @@ module _ {N : Type 0} (name : N → List ℕ) (step : ℕ) where
 
   -- a procedure's parameter
   abbrev pub parameter : PParameter N → Before
-  parameter p rest = modeText p.mode ▸ name p.name ▹ ": " ▸ name p.typ ▹ OptionalAutoInvariant name step p.optionalAutoInv rest
+  parameter p rest = mode_text p.mode ▸ name p.name ▹ ": " ▸ name p.typ ▹ OptionalAutoInvariant name step p.optional_auto_inv rest
 
   abbrev pub body : Stmt N → Before
   body s rest = StmtAsBlock name step (shown name step s) 0 "\n" rest

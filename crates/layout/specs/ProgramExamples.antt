@@ -4,15 +4,15 @@ use Rattle.std.specs.Prelude.{◌≡◌, refl, true, false, [], ◌∷◌}
 use Prim.Native.String.{String}
 use Rattle.std.proofs.Math.Option.{none, some}
 use Rattle.lexing.specs.Bytes.{bytes}
-use Rattle.tree.specs.Ast.{In, InOut, Out, OperatorExpr, IfThenElse, LogicalAnd, Exit, aExpr, AAssertion, Check, noAExprs, aExprs, noExprs}
+use Rattle.tree.specs.Ast.{In, InOut, Out, OperatorExpr, IfThenElse, LogicalAnd, Exit, a_expr, AAssertion, Check, no_a_exprs, a_exprs, no_exprs}
 use Rattle.tree.specs.Ast.{Tagger, FParameter, FunctionDefinition, Function, Axiom, PParameter, Procedure as Proc, Program as Tree}
 use Rattle.layout.specs.Examples.{list as exprs}
 use Rattle.layout.specs.StatementExamples.{statements-computed, v, both, block}
-use Rattle.layout.specs.Program.{TypeDecl, TaggerDecl, whenClauses, FunctionDecl, AxiomDecl, Procedure, Program}
+use Rattle.layout.specs.Program.{TypeDecl, TaggerDecl, when_clauses, FunctionDecl, AxiomDecl, Procedure, Program}
 
 -- `unfolding program-computed` opens the prints of programs too
 unfoldable pub program-computed : Unit {0}
-unfolding statements-computed whenClauses Program
+unfolding statements-computed when_clauses Program
 program-computed = tt
 
 type-decl : TypeDecl bytes "a" [] ≡ bytes "type a\n"
@@ -26,7 +26,7 @@ function-decl : FunctionDecl bytes 3
     (record {
       name = "a";
       parameters = record { name = "b"; injective = false; typ = "c" } ∷ record { name = "d"; injective = true; typ = "e" } ∷ [];
-      resultType = "f";
+      result_type = "f";
       tag = some "g";
       definition = some (record { when = exprs (v "h" ∷ both ∷ []); body = OperatorExpr LogicalAnd (exprs (v "j" ∷ v "k" ∷ [])) });
     }) []
@@ -34,13 +34,13 @@ function-decl : FunctionDecl bytes 3
 unfolding program-computed
 function-decl = refl
 
-bare-function : FunctionDecl bytes 2 (record { name = "a"; parameters = []; resultType = "b"; tag = none; definition = none }) [] ≡ bytes "function a(): b\n"
+bare-function : FunctionDecl bytes 2 (record { name = "a"; parameters = []; result_type = "b"; tag = none; definition = none }) [] ≡ bytes "function a(): b\n"
 unfolding program-computed
 bare-function = refl
 
 -- a definition without `when`
 function-body : FunctionDecl bytes 2
-    (record { name = "a"; parameters = []; resultType = "b"; tag = none; definition = some (record { when = noExprs; body = v "c" }) }) []
+    (record { name = "a"; parameters = []; result_type = "b"; tag = none; definition = some (record { when = no_exprs; body = v "c" }) }) []
     ≡ bytes "function a(): b\n{\n  c\n}\n"
 unfolding program-computed
 function-body = refl
@@ -58,24 +58,24 @@ bare-axiom = refl
 procedure : Procedure bytes 3
     (record {
       name = "a";
-      parameters = record { name = "b"; mode = In; typ = "c"; optionalAutoInv = none }
-          ∷ record { name = "d"; mode = InOut; typ = "e"; optionalAutoInv = some (v "f") }
-          ∷ record { name = "g"; mode = Out; typ = "h"; optionalAutoInv = none }
+      parameters = record { name = "b"; mode = In; typ = "c"; optional_auto_inv = none }
+          ∷ record { name = "d"; mode = InOut; typ = "e"; optional_auto_inv = some (v "f") }
+          ∷ record { name = "g"; mode = Out; typ = "h"; optional_auto_inv = none }
           ∷ [];
-      pre = aExprs (aExpr (v "i")) (aExprs (AAssertion (Check (v "j"))) noAExprs);
-      post = aExprs (AAssertion (Check (v "k"))) (aExprs (aExpr (v "l")) noAExprs);
+      pre = a_exprs (a_expr (v "i")) (a_exprs (AAssertion (Check (v "j"))) no_a_exprs);
+      post = a_exprs (AAssertion (Check (v "k"))) (a_exprs (a_expr (v "l")) no_a_exprs);
       body = some (block (Exit (some "m") ∷ []));
     }) []
     ≡ bytes "procedure a(b: c, inout d: e autoinv f, out g: h)\n   requires i\n   requires check j\n   ensures check k\n   ensures l\n{\n   exit m\n}\n"
 unfolding program-computed
 procedure = refl
 
-bare-procedure : Procedure bytes 2 (record { name = "a"; parameters = []; pre = noAExprs; post = noAExprs; body = none }) [] ≡ bytes "procedure a()\n"
+bare-procedure : Procedure bytes 2 (record { name = "a"; parameters = []; pre = no_a_exprs; post = no_a_exprs; body = none }) [] ≡ bytes "procedure a()\n"
 unfolding program-computed
 bare-procedure = refl
 
 -- a body that is no block
-procedure-body : Procedure bytes 2 (record { name = "a"; parameters = []; pre = noAExprs; post = noAExprs; body = some (Exit (some "b")) }) []
+procedure-body : Procedure bytes 2 (record { name = "a"; parameters = []; pre = no_a_exprs; post = no_a_exprs; body = some (Exit (some "b")) }) []
     ≡ bytes "procedure a()\n{\n  exit b\n}\n"
 unfolding program-computed
 procedure-body = refl
@@ -85,9 +85,9 @@ function-steps : FunctionDecl bytes 3
     (record {
       name = "a";
       parameters = [];
-      resultType = "b";
+      result_type = "b";
       tag = none;
-      definition = some (record { when = noExprs; body = OperatorExpr IfThenElse (exprs (v "c" ∷ v "d" ∷ v "e" ∷ [])) });
+      definition = some (record { when = no_exprs; body = OperatorExpr IfThenElse (exprs (v "c" ∷ v "d" ∷ v "e" ∷ [])) });
     }) []
     ≡ bytes "function a(): b\n{\n   if c\n      d\n   else\n      e\n}\n"
 unfolding program-computed
@@ -102,8 +102,8 @@ procedure-steps : Procedure bytes 3
     (record {
       name = "a";
       parameters = [];
-      pre = aExprs (AAssertion (block (Check (v "b") ∷ []))) noAExprs;
-      post = aExprs (AAssertion (block (Check (v "c") ∷ []))) noAExprs;
+      pre = a_exprs (AAssertion (block (Check (v "b") ∷ []))) no_a_exprs;
+      post = a_exprs (AAssertion (block (Check (v "c") ∷ []))) no_a_exprs;
       body = some (block (block (Exit (some "d") ∷ []) ∷ []));
     }) []
     ≡ bytes "procedure a()\n   requires {\n      check b\n   }\n   ensures {\n      check c\n   }\n{\n   {\n      exit d\n   }\n}\n"
@@ -115,12 +115,12 @@ program : Program bytes 2
     (record {
       types = "a" ∷ "b" ∷ [];
       taggers = record { name = "c"; typ = "d" } ∷ record { name = "e"; typ = "f" } ∷ [];
-      functions = record { name = "g"; parameters = []; resultType = "h"; tag = none; definition = none }
-          ∷ record { name = "i"; parameters = []; resultType = "j"; tag = none; definition = none }
+      functions = record { name = "g"; parameters = []; result_type = "h"; tag = none; definition = none }
+          ∷ record { name = "i"; parameters = []; result_type = "j"; tag = none; definition = none }
           ∷ [];
       axioms = record { explains = []; expr = v "k" } ∷ record { explains = []; expr = v "l" } ∷ [];
-      procedures = record { name = "m"; parameters = []; pre = noAExprs; post = noAExprs; body = none }
-          ∷ record { name = "n"; parameters = []; pre = noAExprs; post = noAExprs; body = none }
+      procedures = record { name = "m"; parameters = []; pre = no_a_exprs; post = no_a_exprs; body = none }
+          ∷ record { name = "n"; parameters = []; pre = no_a_exprs; post = no_a_exprs; body = none }
           ∷ [];
     }) []
     ≡ bytes

@@ -6,7 +6,7 @@ use Rattle.std.proofs.Math.Option.{Option, none, some}
 use Rattle.lexing.specs.Bytes.{bytes}
 use Rattle.tree.specs.Ast.{In, InOut, Out, Variable, CallArgument, Expr, IdExpr, LogicalAnd}
 use Rattle.tree.specs.Ast.{Stmt, VarDecl, Assign, Reinit, Block, Call, Check, Assume, Reach, Assert, AForall, Choose, If, IfCase, Loop, LabeledStmt, Exit, Return, Probe}
-use Rattle.tree.specs.Ast.{Stmts, noStmts, stmts, noCases, case, aExpr, AAssertion, noAExprs, aExprs}
+use Rattle.tree.specs.Ast.{Stmts, no_stmts, stmts, no_cases, case, a_expr, AAssertion, no_a_exprs, a_exprs}
 use Rattle.layout.specs.Examples.{computed, two}
 use Rattle.layout.specs.Statements.{separated, shown, StatementList, choices, case_list, aexpr, PrintAExprs, Statement}
 
@@ -26,7 +26,7 @@ abbrev pub v : String → Expr String
 v n = IdExpr n false
 
 abbrev pub list : List (Stmt String) → Stmts String
-list [] = noStmts
+list [] = no_stmts
 list (s ∷ ss) = stmts s (list ss)
 
 abbrev pub block : List (Stmt String) → Stmt String
@@ -42,10 +42,10 @@ exit n = Exit (some n)
 -- ---- variables
 
 abbrev var-a : Stmt String → Stmt String
-var-a body = VarDecl (record { name = "a"; isMutable = true; optionalType = some "b"; optionalAutoInv = some (v "c") }) (some (v "d")) body
+var-a body = VarDecl (record { name = "a"; is_mutable = true; optional_type = some "b"; optional_auto_inv = some (v "c") }) (some (v "d")) body
 
 abbrev val-a : Stmt String → Stmt String
-val-a body = VarDecl (record { name = "a"; isMutable = false; optionalType = none; optionalAutoInv = none }) none body
+val-a body = VarDecl (record { name = "a"; is_mutable = false; optional_type = none; optional_auto_inv = none }) none body
 
 -- braces of its own where no `}` follows, else none
 variable : Prints (var-a (block (Assign "e" (v "f") ∷ [])))
@@ -157,7 +157,7 @@ choose : Prints (Choose (list (block (exit "a" ∷ exit "b" ∷ []) ∷ exit "c"
 unfolding statements-computed
 choose = refl
 
-no-branches : Prints (Choose noStmts) "    choose { }\n"
+no-branches : Prints (Choose no_stmts) "    choose { }\n"
 unfolding statements-computed
 no-branches = refl
 
@@ -176,12 +176,12 @@ unfolding statements-computed
 plain-else = refl
 
 -- a conditional after `else` stays on the line
-else-if : Prints (If (v "a") (exit "b") (If (v "c") (exit "d") (IfCase (case (v "e") (exit "f") noCases))))
+else-if : Prints (If (v "a") (exit "b") (If (v "c") (exit "d") (IfCase (case (v "e") (exit "f") no_cases))))
     "    if a {\n       exit b\n    } else if c {\n       exit d\n    } else if case e {\n       exit f\n    }\n"
 unfolding statements-computed
 else-if = refl
 
-else-loop : Prints (If (v "a") (exit "b") (Loop noAExprs (exit "c"))) "    if a {\n       exit b\n    } else {\n       loop {\n          exit c\n       }\n    }\n"
+else-loop : Prints (If (v "a") (exit "b") (Loop no_a_exprs (exit "c"))) "    if a {\n       exit b\n    } else {\n       loop {\n          exit c\n       }\n    }\n"
 unfolding statements-computed
 else-loop = refl
 
@@ -190,35 +190,35 @@ else-block : Prints (If (v "a") (exit "b") (block (block [] ∷ []))) "    if a 
 unfolding statements-computed
 else-block = refl
 
-if-cases : Prints (IfCase (case (v "a") (block (exit "b" ∷ exit "c" ∷ [])) (case (v "d") (exit "e") (case (v "f") (block []) noCases))))
+if-cases : Prints (IfCase (case (v "a") (block (exit "b" ∷ exit "c" ∷ [])) (case (v "d") (exit "e") (case (v "f") (block []) no_cases))))
     "    if case a {\n       exit b\n       exit c\n    } case d {\n       exit e\n    } case f {\n    }\n"
 unfolding statements-computed
 if-cases = refl
 
 -- upstream prints the indent inside the line
-no_cases : Prints (IfCase noCases) "    if     case false {\n    }\n"
+no_cases_lem : Prints (IfCase no_cases) "    if     case false {\n    }\n"
 unfolding statements-computed
-no_cases = refl
+no_cases_lem = refl
 
-bare-loop : Prints (Loop noAExprs (block (exit "a" ∷ []))) "    loop {\n       exit a\n    }\n"
+bare-loop : Prints (Loop no_a_exprs (block (exit "a" ∷ []))) "    loop {\n       exit a\n    }\n"
 unfolding statements-computed
 bare-loop = refl
 
 -- any statement may stand as an assertion
 loop : Prints
-    (Loop (aExprs (aExpr (v "a")) (aExprs (AAssertion (Check (v "b"))) (aExprs (AAssertion (block (exit "c" ∷ []))) noAExprs))) (exit "d"))
+    (Loop (a_exprs (a_expr (v "a")) (a_exprs (AAssertion (Check (v "b"))) (a_exprs (AAssertion (block (exit "c" ∷ []))) no_a_exprs))) (exit "d"))
     "    loop\n       invariant a\n       invariant check b\n       invariant {\n          exit c\n       }\n    {\n       exit d\n    }\n"
 unfolding statements-computed
 loop = refl
 
 -- a variable as an assertion has braces of its own
-loop-variable : Prints (Loop (aExprs (AAssertion (val-a (exit "b"))) noAExprs) (block []))
+loop-variable : Prints (Loop (a_exprs (AAssertion (val-a (exit "b"))) no_a_exprs) (block []))
     "    loop\n       invariant {\n          val a\n          exit b\n       }\n    {\n    }\n"
 unfolding statements-computed
 loop-variable = refl
 
 -- a loop after a label stays on the line
-labelled-loop : Prints (LabeledStmt "a" (Loop noAExprs (exit "b"))) "    a: loop {\n       exit b\n    }\n"
+labelled-loop : Prints (LabeledStmt "a" (Loop no_a_exprs (exit "b"))) "    a: loop {\n       exit b\n    }\n"
 unfolding statements-computed
 labelled-loop = refl
 
@@ -230,7 +230,7 @@ labelled-if : Prints (LabeledStmt "a" (If (v "b") (exit "c") (block []))) "    a
 unfolding statements-computed
 labelled-if = refl
 
-labelled-cases : Prints (LabeledStmt "a" (IfCase (case (v "b") (exit "c") noCases))) "    a: {\n       if case b {\n          exit c\n       }\n    }\n"
+labelled-cases : Prints (LabeledStmt "a" (IfCase (case (v "b") (exit "c") no_cases))) "    a: {\n       if case b {\n          exit c\n       }\n    }\n"
 unfolding statements-computed
 labelled-cases = refl
 
@@ -245,9 +245,9 @@ on-their-line : Prints
     ∷ Check both
     ∷ Call "p" (record { mode = Out; arg = both } ∷ [])
     ∷ If both (block []) (block [])
-    ∷ IfCase (case both (block []) noCases)
-    ∷ Loop (aExprs (aExpr both) noAExprs) (block [])
-    ∷ VarDecl (record { name = "d"; isMutable = true; optionalType = none; optionalAutoInv = some both }) (some both) (block [])
+    ∷ IfCase (case both (block []) no_cases)
+    ∷ Loop (a_exprs (a_expr both) no_a_exprs) (block [])
+    ∷ VarDecl (record { name = "d"; is_mutable = true; optional_type = none; optional_auto_inv = some both }) (some both) (block [])
     ∷ []))
     "    {\n       c := a && b\n       check a && b\n       p(out a && b)\n       if a && b {\n       }\n       if case a && b {\n       }\n       loop\n          invariant a && b\n       {\n       }\n       var d autoinv a && b := a && b\n    }\n"
 unfolding statements-computed
@@ -258,7 +258,7 @@ two-spaces : Statement bytes 2 (block (block (exit "a" ∷ []) ∷ [])) 1 false 
 unfolding statements-computed
 two-spaces = refl
 
--- with `omitInitialIndent`
+-- with `omit_initial_indent`
 no-first-indent : Statement bytes 3 (block (exit "a" ∷ [])) 4 false true [] ≡ bytes "{\n       exit a\n    }\n"
 unfolding statements-computed
 no-first-indent = refl

@@ -7,7 +7,7 @@ use Rattle.lexing.specs.Answer.{pick}
 use Rattle.lexing.specs.Bytes.{bytes}
 use Rattle.tree.specs.Ast.{Expr, ParameterMode, In, InOut, Out, Variable, CallArgument}
 use Rattle.tree.specs.Ast.{Stmt, VarDecl, Assign, Reinit, Block, Call, Check, Assume, Reach, Assert, AForall, Choose, If, IfCase, Loop, LabeledStmt, Exit, Return, Probe}
-use Rattle.tree.specs.Ast.{Stmts, noStmts, stmts, Cases, noCases, case, AExpr, aExpr, AAssertion, AExprs, noAExprs, aExprs}
+use Rattle.tree.specs.Ast.{Stmts, no_stmts, stmts, Cases, no_cases, case, AExpr, a_expr, AAssertion, AExprs, no_a_exprs, a_exprs}
 use Rattle.layout.specs.declared.format.ExprFormatOption.TheVariants.{SingleLine}
 use Rattle.layout.specs.Text.{◌▹◌, ◌▸◌}
 use Rattle.layout.specs.PrintUtil.{Indent, Init}
@@ -19,30 +19,30 @@ Before = List ℕ → List ℕ
 
 -- a statement as the methods see it that print one inside another
 pub record Shown : Type 0 where
-  -- `Statement` with `omitInitialIndent`, by the indent and `followedByEndCurly`
+  -- `Statement` with `omit_initial_indent`, by the indent and `followed_by_end_curly`
   pub print : ℕ → Bool → Before
   -- a Block's statements by `StatementList`, by the indent
   pub list : Option (ℕ → Before)
-  pub isEmptyBlock : Bool
+  pub is_empty_block : Bool
   -- `If? || IfCase?`
-  pub isIf : Bool
-  pub isLoop : Bool
+  pub is_if : Bool
+  pub is_loop : Bool
 
 -- a statement that is neither Block, If, IfCase nor Loop
 abbrev pub plain : (ℕ → Bool → Before) → Shown
-plain p = record { print = p; list = none; isEmptyBlock = false; isIf = false; isLoop = false }
+plain p = record { print = p; list = none; is_empty_block = false; is_if = false; is_loop = false }
 
-abbrev pub isNoStmts : {N : Type 0} → Stmts N → Bool
-isNoStmts noStmts = true
-isNoStmts (stmts s ss) = false
+abbrev pub is_no_stmts : {N : Type 0} → Stmts N → Bool
+is_no_stmts no_stmts = true
+is_no_stmts (stmts s ss) = false
 
-abbrev pub isNoCases : {N : Type 0} → Cases N → Bool
-isNoCases noCases = true
-isNoCases (case e s cs) = false
+abbrev pub is_no_cases : {N : Type 0} → Cases N → Bool
+is_no_cases no_cases = true
+is_no_cases (case e s cs) = false
 
-abbrev pub isNoAExprs : {N : Type 0} → AExprs N → Bool
-isNoAExprs noAExprs = true
-isNoAExprs (aExprs a es) = false
+abbrev pub is_no_a_exprs : {N : Type 0} → AExprs N → Bool
+is_no_a_exprs no_a_exprs = true
+is_no_a_exprs (a_exprs a es) = false
 
 -- items, one separator before the first and another before each other
 unfoldable pub separated : {A : Type 0} → (A → Before) → (first next : List ℕ) → List A → Before
@@ -55,10 +55,10 @@ optional item prefix none rest = rest
 optional item prefix (some a) rest = prefix ▹ item a rest
 
 -- the function `ParameterMode`
-abbrev pub modeText : ParameterMode → String
-modeText In = ""
-modeText InOut = "inout "
-modeText Out = "out "
+abbrev pub mode_text : ParameterMode → String
+mode_text In = ""
+mode_text InOut = "inout "
+mode_text Out = "out "
 
 abbrev pub mutability : Bool → String
 mutability true = "var "
@@ -73,7 +73,7 @@ module _ {N : Type 0} (name : N → List ℕ) (step : ℕ) where
   OptionalAutoInvariant = optional inline (bytes " autoinv ")
 
   -- `BlockAsStatementList`
-  abbrev pub BlockAsStatementList : Shown → ℕ → (followedByEndCurly : Bool) → Before
+  abbrev pub BlockAsStatementList : Shown → ℕ → (followed_by_end_curly : Bool) → Before
   BlockAsStatementList s indent followed rest = elim s.list [ none ↦ Indent indent ▹ s.print indent followed rest | some list ↦ list indent rest ]
 
   -- `StmtAsBlock`
@@ -83,32 +83,32 @@ module _ {N : Type 0} (name : N → List ℕ) (step : ℕ) where
   abbrev pub ExpressionStmt : String → Expr N → Shown
   ExpressionStmt prefix e = plain (λ indent followed rest. prefix ▸ " " ▸ inline e ("\n" ▸ rest))
 
-  abbrev pub VariableDeclaration : Variable N → Option (Expr N) → Shown → ℕ → (followedByEndCurly : Bool) → Before
+  abbrev pub VariableDeclaration : Variable N → Option (Expr N) → Shown → ℕ → (followed_by_end_curly : Bool) → Before
   VariableDeclaration v init body indent followed rest =
-      IdTypeDecl name (bytes (mutability v.isMutable)) v.name v.optionalType
-      (OptionalAutoInvariant v.optionalAutoInv (optional inline (bytes " := ") init ("\n" ▸ BlockAsStatementList body indent followed rest)))
+      IdTypeDecl name (bytes (mutability v.is_mutable)) v.name v.optional_type
+      (OptionalAutoInvariant v.optional_auto_inv (optional inline (bytes " := ") init ("\n" ▸ BlockAsStatementList body indent followed rest)))
 
   -- a declaration that no `}` follows has braces of its own
-  abbrev pub declaration : (ℕ → Bool → Before) → ℕ → (followedByEndCurly : Bool) → Before
+  abbrev pub declaration : (ℕ → Bool → Before) → ℕ → (followed_by_end_curly : Bool) → Before
   declaration p indent true rest = p indent true rest
   declaration p indent false rest = "{\n" ▸ Indent (indent + step) ▹ p (indent + step) true (Indent indent ▹ "}\n" ▸ rest)
 
   abbrev pub argument : CallArgument N → Before
-  argument a rest = modeText a.mode ▸ inline a.arg rest
+  argument a rest = mode_text a.mode ▸ inline a.arg rest
 
   -- after `else`
-  abbrev pub elseStatement : Shown → ℕ → Before
-  elseStatement els indent rest = pick els.isIf (els.print indent false rest) (StmtAsBlock els indent "\n" rest)
+  abbrev pub else_statement : Shown → ℕ → Before
+  else_statement els indent rest = pick els.is_if (els.print indent false rest) (StmtAsBlock els indent "\n" rest)
 
   -- an else part that is an empty block is not printed
   abbrev pub conditional : Expr N → Shown → Shown → ℕ → Before
   conditional cond thn els indent rest =
       "if " ▸ inline cond
-      (" " ▸ pick els.isEmptyBlock (StmtAsBlock thn indent "\n" rest) (StmtAsBlock thn indent " else " (elseStatement els indent rest)))
+      (" " ▸ pick els.is_empty_block (StmtAsBlock thn indent "\n" rest) (StmtAsBlock thn indent " else " (else_statement els indent rest)))
 
   -- after a label
   abbrev pub labelled : Shown → ℕ → Before
-  labelled body indent rest = pick body.isLoop (body.print indent false rest) (StmtAsBlock body indent "\n" rest)
+  labelled body indent rest = pick body.is_loop (body.print indent false rest) (StmtAsBlock body indent "\n" rest)
 
   unfoldable mutual
     -- `Statement`
@@ -120,9 +120,9 @@ module _ {N : Type 0} (name : N → List ℕ) (step : ℕ) where
         record {
           print = λ indent followed rest. "{\n" ▸ StatementList ss (indent + step) (Indent indent ▹ "}\n" ▸ rest);
           list = some (λ indent rest. StatementList ss indent rest);
-          isEmptyBlock = isNoStmts ss;
-          isIf = false;
-          isLoop = false;
+          is_empty_block = is_no_stmts ss;
+          is_if = false;
+          is_loop = false;
         }
     shown (Call proc args) = plain (λ indent followed rest. name proc ▹ "(" ▸ separated argument [] (bytes ", ") args (")\n" ▸ rest))
     shown (Check e) = ExpressionStmt "check" e
@@ -130,33 +130,33 @@ module _ {N : Type 0} (name : N → List ℕ) (step : ℕ) where
     shown (Reach e) = ExpressionStmt "reach" e
     shown (Assert e) = ExpressionStmt "assert" e
     shown (AForall n t body) = plain (λ indent followed rest. "forall " ▸ name n ▹ ": " ▸ name t ▹ " " ▸ StmtAsBlock (shown body) indent "\n" rest)
-    shown (Choose branches) = plain (λ indent followed rest. "choose " ▸ pick (isNoStmts branches) ("{ }\n" ▸ rest) (choices branches indent rest))
+    shown (Choose branches) = plain (λ indent followed rest. "choose " ▸ pick (is_no_stmts branches) ("{ }\n" ▸ rest) (choices branches indent rest))
     shown (If cond thn els) =
         record {
           print = λ indent followed rest. conditional cond (shown thn) (shown els) indent rest;
           list = none;
-          isEmptyBlock = false;
-          isIf = true;
-          isLoop = false;
+          is_empty_block = false;
+          is_if = true;
+          is_loop = false;
         }
     shown (IfCase cs) =
         record {
           print = λ indent followed rest.
-              "if " ▸ pick (isNoCases cs) (Indent indent ▹ "case false {\n" ▸ Indent indent ▹ "}\n" ▸ rest) (case_list cs indent rest);
+              "if " ▸ pick (is_no_cases cs) (Indent indent ▹ "case false {\n" ▸ Indent indent ▹ "}\n" ▸ rest) (case_list cs indent rest);
           list = none;
-          isEmptyBlock = false;
-          isIf = true;
-          isLoop = false;
+          is_empty_block = false;
+          is_if = true;
+          is_loop = false;
         }
     shown (Loop invariants body) =
         record {
           print = λ indent followed rest.
               let block = StmtAsBlock (shown body) indent "\n" rest in
-              "loop" ▸ pick (isNoAExprs invariants) (" " ▸ block) ("\n" ▸ PrintAExprs invariants (bytes "invariant") (indent + step) (Indent indent ▹ block));
+              "loop" ▸ pick (is_no_a_exprs invariants) (" " ▸ block) ("\n" ▸ PrintAExprs invariants (bytes "invariant") (indent + step) (Indent indent ▹ block));
           list = none;
-          isEmptyBlock = false;
-          isIf = false;
-          isLoop = true;
+          is_empty_block = false;
+          is_if = false;
+          is_loop = true;
         }
     shown (LabeledStmt lbl body) = plain (λ indent followed rest. name lbl ▹ ": " ▸ labelled (shown body) indent rest)
     shown (Exit lbl) = plain (λ indent followed rest. "exit" ▸ optional (λ l r. name l ▹ r) (bytes " ") lbl ("\n" ▸ rest))
@@ -165,30 +165,30 @@ module _ {N : Type 0} (name : N → List ℕ) (step : ℕ) where
 
     -- `StatementList`: the last statement is followed by `}`
     pub StatementList : Stmts N → ℕ → Before
-    StatementList noStmts indent rest = rest
-    StatementList (stmts s ss) indent rest = Indent indent ▹ (shown s).print indent (isNoStmts ss) (StatementList ss indent rest)
+    StatementList no_stmts indent rest = rest
+    StatementList (stmts s ss) indent rest = Indent indent ▹ (shown s).print indent (is_no_stmts ss) (StatementList ss indent rest)
 
     -- the branches of a Choose
     pub choices : Stmts N → ℕ → Before
-    choices noStmts indent rest = rest
-    choices (stmts s ss) indent rest = StmtAsBlock (shown s) indent (pick (isNoStmts ss) "\n" " or ") (choices ss indent rest)
+    choices no_stmts indent rest = rest
+    choices (stmts s ss) indent rest = StmtAsBlock (shown s) indent (pick (is_no_stmts ss) "\n" " or ") (choices ss indent rest)
 
     -- the cases of an IfCase
     pub case_list : Cases N → ℕ → Before
-    case_list noCases indent rest = rest
+    case_list no_cases indent rest = rest
     case_list (case cond body cs) indent rest =
-        "case " ▸ inline cond (" " ▸ StmtAsBlock (shown body) indent (pick (isNoCases cs) "\n" " ") (case_list cs indent rest))
+        "case " ▸ inline cond (" " ▸ StmtAsBlock (shown body) indent (pick (is_no_cases cs) "\n" " ") (case_list cs indent rest))
 
     pub aexpr : AExpr N → ℕ → Before
-    aexpr (aExpr e) indent rest = inline e ("\n" ▸ rest)
+    aexpr (a_expr e) indent rest = inline e ("\n" ▸ rest)
     aexpr (AAssertion s) indent rest = (shown s).print indent false rest
 
     -- `PrintAExprs`
     pub PrintAExprs : AExprs N → (prefix : List ℕ) → ℕ → Before
-    PrintAExprs noAExprs prefix indent rest = rest
-    PrintAExprs (aExprs a es) prefix indent rest = Indent indent ▹ prefix ▹ " " ▸ aexpr a indent (PrintAExprs es prefix indent rest)
+    PrintAExprs no_a_exprs prefix indent rest = rest
+    PrintAExprs (a_exprs a es) prefix indent rest = Indent indent ▹ prefix ▹ " " ▸ aexpr a indent (PrintAExprs es prefix indent rest)
 
   -- `Statement` with its two flags
-  abbrev pub Statement : Stmt N → ℕ → (followedByEndCurly omitInitialIndent : Bool) → Before
+  abbrev pub Statement : Stmt N → ℕ → (followed_by_end_curly omit_initial_indent : Bool) → Before
   Statement s indent followed true rest = (shown s).print indent followed rest
   Statement s indent followed false rest = Indent indent ▹ (shown s).print indent followed rest

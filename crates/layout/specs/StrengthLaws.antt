@@ -11,7 +11,7 @@ use Rattle.layout.specs.declared.power.TieBreaker.{TieBreaker}
 use Rattle.layout.specs.declared.power.TieBreaker.TheVariants.{OperatorWins, ContextWins, SameFamilyWins}
 use Rattle.layout.specs.declared.power.Side.TheVariants.{Left, Right}
 use Rattle.layout.specs.declared.power.BindingPower.{BindingPower}
-use Rattle.layout.specs.PrintUtil.{BreakTieInFavorOfOperator, power, Init, EndlessOperator, WinsOver, adjusted, sidePower, SubexpressionPower}
+use Rattle.layout.specs.PrintUtil.{BreakTieInFavorOfOperator, power, Init, EndlessOperator, WinsOver, adjusted, side_power, SubexpressionPower}
 
 -- `this == OperatorWins || context == OperatorWins || (this.SameFamilyWins? && this == context)`
 abbrev pub Favored : TieBreaker → TieBreaker → Type 0
@@ -58,7 +58,7 @@ module _ (op context : BindingPower) where
   unfolding SubexpressionPower
   left-operand = by-test (WinsOver op context)
     where
-      by-test : (w : Bool) → sidePower op Left (adjusted w context) ≡ power (pick w context.left 0) op.left op.tie_breaker
+      by-test : (w : Bool) → side_power op Left (adjusted w context) ≡ power (pick w context.left 0) op.left op.tie_breaker
       by-test true = refl
       by-test false = refl
 
@@ -66,7 +66,7 @@ module _ (op context : BindingPower) where
   unfolding SubexpressionPower
   right_operand = by-test (WinsOver op context)
     where
-      by-test : (w : Bool) → sidePower op Right (adjusted w context) ≡ power op.right (pick w context.right 0) op.tie_breaker
+      by-test : (w : Bool) → side_power op Right (adjusted w context) ≡ power op.right (pick w context.right 0) op.tie_breaker
       by-test true = refl
       by-test false = refl
 

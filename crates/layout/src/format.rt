@@ -1,7 +1,7 @@
 // PrintUtil.dfy's formats of an expression.
 ghost use Rattle.std.specs.Prelude.{◌≡◌};
 ghost use Rattle.lexing.specs.Answer.{pick};
-ghost use Rattle.layout.specs.PrintUtil.{startIndent, deeperBy, Deeper};
+ghost use Rattle.layout.specs.PrintUtil.{start_indent, deeper_by, Deeper};
 
 pub const INDENT_AMOUNT: usize = 2;
 
@@ -13,7 +13,7 @@ pub enum ExprFormatOption {
 
 // An indent one step deeper, or the greatest where it would pass that. No print has one that does.
 pub fn deeper(indent: usize, step: usize) -> usize
-    ensures { result ≡ deeperBy step indent }
+    ensures { result ≡ deeper_by step indent }
 {
     if usize::MAX - step < indent {
         return usize::MAX;
@@ -35,7 +35,7 @@ impl ExprFormatOption {
 
     // The indent that the lines start from; 0 on one line.
     pub fn start_indent(self) -> usize
-        ensures { result ≡ startIndent self }
+        ensures { result ≡ start_indent self }
     {
         match self {
             ExprFormatOption::SingleLine => 0,

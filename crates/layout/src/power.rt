@@ -1,6 +1,6 @@
 // PrintUtil.dfy's binding strengths.
 ghost use Rattle.std.specs.Prelude.{◌≡◌};
-ghost use Rattle.layout.specs.PrintUtil.{isOperatorWins, sameFamily, BreakTieInFavorOfOperator, power, pulls, WinsOver, adjusted, SubexpressionPower};
+ghost use Rattle.layout.specs.PrintUtil.{is_operator_wins, same_family, BreakTieInFavorOfOperator, power, pulls, WinsOver, adjusted, SubexpressionPower};
 
 // Who wins where an operator and its context pull equally.
 #[derive(Drop)]
@@ -26,7 +26,7 @@ pub struct BindingPower {
 }
 
 fn is_operator_wins(t: TieBreaker) -> bool
-    ensures { result ≡ isOperatorWins t }
+    ensures { result ≡ is_operator_wins t }
 {
     match t {
         TieBreaker::OperatorWins => true,
@@ -36,7 +36,7 @@ fn is_operator_wins(t: TieBreaker) -> bool
 }
 
 fn same_family(n: u8, context: TieBreaker) -> bool
-    ensures { result ≡ sameFamily n context }
+    ensures { result ≡ same_family n context }
 {
     match context {
         TieBreaker::OperatorWins => true,

@@ -10,10 +10,10 @@ use lib.ListN.{length, get_or, drop, take, drop_of_length-le, length-drop, lengt
 use lib.Seq.{drop-cons}
 use lib.Dec.{eqb}
 use borrow.Author.Tests.{eq-eqb, ne_eqb, le-leb, lt-leb}
-use Rattle.lexing.specs.Bytes.{one_of, run, starts_with, sameBytes}
-use Rattle.lexing.specs.Blanks.{Mark, closing, mark, plus, atMark, longComment, positionAfterEndOfLongComment, or_else}
-use Rattle.lexing.specs.Tokens.{decimal, mostNatural}
-use Rattle.lexing.specs.BlankLaws.{plus-plus, longComment-inside}
+use Rattle.lexing.specs.Bytes.{one_of, run, starts_with, same_bytes}
+use Rattle.lexing.specs.Blanks.{Mark, closing, mark, plus, at_mark, long_comment, position_after_end_of_long_comment, or_else}
+use Rattle.lexing.specs.Tokens.{decimal, most_natural}
+use Rattle.lexing.specs.BlankLaws.{plus-plus, long_comment-inside}
 use Rattle.lexing.specs.CodeAnswers.{Position, mark_of, end_of, number_of}
 use Rattle.lexing.specs.declared.blank.Pair.{Pair}
 use Rattle.lexing.specs.declared.blank.Pair.TheVariants.{Closing, Opening, Neither}
@@ -97,27 +97,27 @@ and-false true u e = e
 and-false false u e = refl
 
 -- a text does not start with a longer one
-pub startsWith-long : (w s : List ℕ) → length s < length w → starts_with w s ≡ false
+pub starts_with-long : (w s : List ℕ) → length s < length w → starts_with w s ≡ false
 unfolding starts_with
-startsWith-long [] s h = absurd (omega arith)
-startsWith-long (a ∷ w) [] h = refl
-startsWith-long (a ∷ w) (b ∷ s) h = and-false (eqb a b) (starts_with w s) (startsWith-long w s (omega arith))
+starts_with-long [] s h = absurd (omega arith)
+starts_with-long (a ∷ w) [] h = refl
+starts_with-long (a ∷ w) (b ∷ s) h = and-false (eqb a b) (starts_with w s) (starts_with-long w s (omega arith))
 
 -- of the same length, one starts with the other where they are the same
-pub sameBytes-starts : (a b : List ℕ) → length a ≡ length b → starts_with b a ≡ sameBytes a b
-unfolding starts_with sameBytes
-sameBytes-starts [] [] h = refl
-sameBytes-starts [] (y ∷ b) h = absurd (omega arith)
-sameBytes-starts (x ∷ a) [] h = absurd (omega arith)
-sameBytes-starts (x ∷ a) (y ∷ b) h = ap (λ t. eqb y x && t) (sameBytes-starts a b (omega arith))
+pub same_bytes-starts : (a b : List ℕ) → length a ≡ length b → starts_with b a ≡ same_bytes a b
+unfolding starts_with same_bytes
+same_bytes-starts [] [] h = refl
+same_bytes-starts [] (y ∷ b) h = absurd (omega arith)
+same_bytes-starts (x ∷ a) [] h = absurd (omega arith)
+same_bytes-starts (x ∷ a) (y ∷ b) h = ap (λ t. eqb y x && t) (same_bytes-starts a b (omega arith))
 
 -- texts of different lengths are not the same
-pub sameBytes-lengths : (a b : List ℕ) → (length a ≡ length b → ⊥) → sameBytes a b ≡ false
-unfolding sameBytes
-sameBytes-lengths [] [] h = absurd (h refl)
-sameBytes-lengths [] (y ∷ b) h = refl
-sameBytes-lengths (x ∷ a) [] h = refl
-sameBytes-lengths (x ∷ a) (y ∷ b) h = and-false (eqb y x) (sameBytes a b) (sameBytes-lengths a b (λ e. h (ap suc e)))
+pub same_bytes-lengths : (a b : List ℕ) → (length a ≡ length b → ⊥) → same_bytes a b ≡ false
+unfolding same_bytes
+same_bytes-lengths [] [] h = absurd (h refl)
+same_bytes-lengths [] (y ∷ b) h = refl
+same_bytes-lengths (x ∷ a) [] h = refl
+same_bytes-lengths (x ∷ a) (y ∷ b) h = and-false (eqb y x) (same_bytes a b) (same_bytes-lengths a b (λ e. h (ap suc e)))
 
 -- the number by its next digit
 decimal-next : (s : List ℕ) (i v : ℕ) → i < length s → decimal v (drop i s) ≡ decimal (v * 10 + (get_or s i 0 - 48)) (drop (i + 1) s)
@@ -138,7 +138,7 @@ decimal-grows v (d ∷ s) = omega (arith, decimal-grows (v * 10 + (d - 48)) s)
 -- the loop of `decimal` at i, where the digits before stand for v
 pub record Summed (s : List ℕ) (v i : ℕ) : Type 0 where
   pub inside : i ≤ length s
-  pub fits : v ≤ mostNatural
+  pub fits : v ≤ most_natural
   pub says : decimal 0 s ≡ decimal v (drop i s)
 
 pub summed-start : (s : List ℕ) → Summed s 0 0
@@ -149,36 +149,36 @@ module _ {s : List ℕ} {v i d : ℕ} (o : Summed s v i) (h : i < length s) (e :
   summed-next = o.says ∙ decimal-next s i v h ∙ ap (λ k. decimal (v * 10 + k) (drop (i + 1) s)) (sym e)
 
   -- a digit that takes the number past the largest natural
-  pub summed-exceeds : (mostNatural - d) / 10 < v → TooLarge ≡ number_of (decimal 0 s)
+  pub summed-exceeds : (most_natural - d) / 10 < v → TooLarge ≡ number_of (decimal 0 s)
   summed-exceeds p =
-      let q : mostNatural < decimal 0 s = rw summed-next (omega (arith, decimal-grows (v * 10 + d) (drop (i + 1) s))) in
+      let q : most_natural < decimal 0 s = rw summed-next (omega (arith, decimal-grows (v * 10 + d) (drop (i + 1) s))) in
       simp (lt-leb _ _ q)
 
-  pub summed-more : d ≤ mostNatural → v ≤ (mostNatural - d) / 10 → Summed s (v * 10 + d) (i + 1)
+  pub summed-more : d ≤ most_natural → v ≤ (most_natural - d) / 10 → Summed s (v * 10 + d) (i + 1)
   summed-more k p = record { inside = omega arith; fits = omega arith; says = summed-next }
 
 pub summed-end : {s : List ℕ} {v i : ℕ} → Summed s v i → length s ≤ i → Value v ≡ number_of (decimal 0 s)
 summed-end {s} {v} {i} o h = let q : decimal 0 s ≡ v = o.says ∙ decimal-end s i v h in simp (q, le-leb _ _ o.fits)
 
 -- two bytes of a long comment
-longComment-two : (d a b : ℕ) (t u : List ℕ) → u ≡ b ∷ t → longComment d (a ∷ u) ≡ atMark (mark a b) d (λ k. longComment k t) (λ k. longComment k u)
-unfolding longComment
-longComment-two d a b t u e = rw e
+long_comment-two : (d a b : ℕ) (t u : List ℕ) → u ≡ b ∷ t → long_comment d (a ∷ u) ≡ at_mark (mark a b) d (λ k. long_comment k t) (λ k. long_comment k u)
+unfolding long_comment
+long_comment-two d a b t u e = rw e
 
 -- the end of a long comment by the two bytes at a place
-pub longComment-at : (d : ℕ) (s : List ℕ) (i : ℕ) → i + 1 < length s
-    → longComment d (drop i s)
-    ≡ atMark (mark (get_or s i 0) (get_or s (i + 1) 0)) d (λ k. longComment k (drop (i + 2) s)) (λ k. longComment k (drop (i + 1) s))
-longComment-at d s i h =
+pub long_comment-at : (d : ℕ) (s : List ℕ) (i : ℕ) → i + 1 < length s
+    → long_comment d (drop i s)
+    ≡ at_mark (mark (get_or s i 0) (get_or s (i + 1) 0)) d (λ k. long_comment k (drop (i + 2) s)) (λ k. long_comment k (drop (i + 1) s))
+long_comment-at d s i h =
     let two : i + 1 + 1 ≡ i + 2 = omega arith in
-    ap (longComment d) (rest s i (omega arith)) ∙ longComment-two d _ _ _ _ (rest s (i + 1) h ∙ ap (λ k. get_or s (i + 1) 0 ∷ drop k s) two)
+    ap (long_comment d) (rest s i (omega arith)) ∙ long_comment-two d _ _ _ _ (rest s (i + 1) h ∙ ap (λ k. get_or s (i + 1) 0 ∷ drop k s) two)
 
 -- with fewer than two bytes left it is not closed
-pub longComment-end : (d : ℕ) (s : List ℕ) (i : ℕ) → length s ≤ i + 1 → longComment d (drop i s) ≡ none
-unfolding longComment
-longComment-end d s i h = by-rest (drop i s) (length-drop i s)
+pub long_comment-end : (d : ℕ) (s : List ℕ) (i : ℕ) → length s ≤ i + 1 → long_comment d (drop i s) ≡ none
+unfolding long_comment
+long_comment-end d s i h = by-rest (drop i s) (length-drop i s)
   where
-    by-rest : (t : List ℕ) → length t ≡ length s - i → longComment d t ≡ none
+    by-rest : (t : List ℕ) → length t ≡ length s - i → long_comment d t ≡ none
     by-rest [] e = refl
     by-rest (a ∷ []) e = refl
     by-rest (a ∷ (b ∷ t)) e = absurd (omega arith)
@@ -187,10 +187,10 @@ longComment-end d s i h = by-rest (drop i s) (length-drop i s)
 pub record Open (s : List ℕ) (d i : ℕ) : Type 0 where
   pub inside : i ≤ length s
   pub few : d ≤ i
-  pub says : longComment 0 s ≡ plus i (longComment d (drop i s))
+  pub says : long_comment 0 s ≡ plus i (long_comment d (drop i s))
 
 pub open-start : (s : List ℕ) → Open s 0 0
-open-start s = record { inside = omega arith; few = omega arith; says = by_end (longComment 0 s) }
+open-start s = record { inside = omega arith; few = omega arith; says = by_end (long_comment 0 s) }
   where
     by_end : (r : Option ℕ) → r ≡ plus 0 r
     by_end none = refl
@@ -198,59 +198,59 @@ open-start s = record { inside = omega arith; few = omega arith; says = by_end (
 
 -- one turn, by the mark that `mark_at` found at i
 module _ {s : List ℕ} {d i : ℕ} (m : Pair) (o : Open s d i) (h : i + 1 < length s) (e : mark_of m ≡ mark (get_or s i 0) (get_or s (i + 1) 0)) where
-  at_mark : {t : Mark} → mark_of m ≡ t → longComment 0 s ≡ plus i (atMark t d (λ k. longComment k (drop (i + 2) s)) (λ k. longComment k (drop (i + 1) s)))
-  at_mark {t} p =
+  at_mark_lem : {t : Mark} → mark_of m ≡ t → long_comment 0 s ≡ plus i (at_mark t d (λ k. long_comment k (drop (i + 2) s)) (λ k. long_comment k (drop (i + 1) s)))
+  at_mark_lem {t} p =
       o.says
-      ∙ ap (plus i) (longComment-at d s i h ∙ ap (λ m. atMark m d (λ k. longComment k (drop (i + 2) s)) (λ k. longComment k (drop (i + 1) s))) (sym e ∙ p))
+      ∙ ap (plus i) (long_comment-at d s i h ∙ ap (λ m. at_mark m d (λ k. long_comment k (drop (i + 2) s)) (λ k. long_comment k (drop (i + 1) s))) (sym e ∙ p))
 
-  pub open-close : m ≡ Closing → d ≡ 0 → some (i + 2) ≡ longComment 0 s
-  open-close p z = sym (at_mark (ap mark_of p) ∙ ap (λ k. plus i (atMark closing k (λ k. longComment k (drop (i + 2) s)) (λ k. longComment k (drop (i + 1) s)))) z)
+  pub open-close : m ≡ Closing → d ≡ 0 → some (i + 2) ≡ long_comment 0 s
+  open-close p z = sym (at_mark_lem (ap mark_of p) ∙ ap (λ k. plus i (at_mark closing k (λ k. long_comment k (drop (i + 2) s)) (λ k. long_comment k (drop (i + 1) s)))) z)
 
   pub open-inner : m ≡ Closing → (d ≡ 0 → ⊥) → Open s (d - 1) (i + 2)
-  open-inner p z = record { inside = omega arith; few = omega (arith, o.few); says = by-depth d z (at_mark (ap mark_of p)) }
+  open-inner p z = record { inside = omega arith; few = omega (arith, o.few); says = by-depth d z (at_mark_lem (ap mark_of p)) }
     where
       by-depth : (d : ℕ) → (d ≡ 0 → ⊥)
-          → longComment 0 s ≡ plus i (atMark closing d (λ k. longComment k (drop (i + 2) s)) (λ k. longComment k (drop (i + 1) s)))
-          → longComment 0 s ≡ plus (i + 2) (longComment (d - 1) (drop (i + 2) s))
+          → long_comment 0 s ≡ plus i (at_mark closing d (λ k. long_comment k (drop (i + 2) s)) (λ k. long_comment k (drop (i + 1) s)))
+          → long_comment 0 s ≡ plus (i + 2) (long_comment (d - 1) (drop (i + 2) s))
       by-depth zero z q = absurd (z refl)
-      by-depth (suc d) z q = let less : suc d - 1 ≡ d = omega arith in rw less (q ∙ plus-plus i 2 (longComment d (drop (i + 2) s)))
+      by-depth (suc d) z q = let less : suc d - 1 ≡ d = omega arith in rw less (q ∙ plus-plus i 2 (long_comment d (drop (i + 2) s)))
 
   pub open_more : m ≡ Opening → Open s (d + 1) (i + 2)
   open_more p =
       record {
         inside = omega arith;
         few = omega (arith, o.few);
-        says = rw add-one (at_mark (ap mark_of p) ∙ plus-plus i 2 (longComment (suc d) (drop (i + 2) s)));
+        says = rw add-one (at_mark_lem (ap mark_of p) ∙ plus-plus i 2 (long_comment (suc d) (drop (i + 2) s)));
       }
 
   pub open-on : m ≡ Neither → Open s d (i + 1)
   open-on p =
-      record { inside = omega arith; few = omega (arith, o.few); says = at_mark (ap mark_of p) ∙ plus-plus i 1 (longComment d (drop (i + 1) s)) }
+      record { inside = omega arith; few = omega (arith, o.few); says = at_mark_lem (ap mark_of p) ∙ plus-plus i 1 (long_comment d (drop (i + 1) s)) }
 
-pub open-never : {s : List ℕ} {d i : ℕ} → Open s d i → length s ≤ i + 1 → none ≡ longComment 0 s
-open-never {s} {d} {i} o h = sym (o.says ∙ ap (plus i) (longComment-end d s i h))
+pub open-never : {s : List ℕ} {d i : ℕ} → Open s d i → length s ≤ i + 1 → none ≡ long_comment 0 s
+open-never {s} {d} {i} o h = sym (o.says ∙ ap (plus i) (long_comment-end d s i h))
 
 -- the two ways out of `position_after_end_of_long_comment`
 module _ (input : List ℕ) (start end : ℕ) (r : End) (h : start ≤ end) (k : end ≤ length input)
-    (e : end_of r ≡ longComment 0 (take (end - start) (drop start input))) where
+    (e : end_of r ≡ long_comment 0 (take (end - start) (drop start input))) where
   -- the part between start and end is as long as they say
   part_length : length (take (end - start) (drop start input)) ≡ end - start
   part_length = simp (length-take, length-drop) (omega arith)
 
   -- the place after a comment that is closed
   pub position_at : {n : ℕ} → r ≡ At n → Position (take (end - start) (drop start input)) start end (start + n)
-  unfolding positionAfterEndOfLongComment
+  unfolding position_after_end_of_long_comment
   position_at {n} p =
-      let q : some n ≡ longComment 0 (take (end - start) (drop start input)) = sym (ap end_of p) ∙ e in
+      let q : some n ≡ long_comment 0 (take (end - start) (drop start input)) = sym (ap end_of p) ∙ e in
       record {
         after-start = omega arith;
-        before-end = omega (arith, longComment-inside 0 (take (end - start) (drop start input)) (sym q), part_length);
+        before-end = omega (arith, long_comment-inside 0 (take (end - start) (drop start input)) (sym q), part_length);
         value = ap (λ o. start + or_else (length (take (end - start) (drop start input))) o) q;
       }
 
   -- the place after one that is not: the end
   pub position-end : r ≡ Never → Position (take (end - start) (drop start input)) start end end
-  unfolding positionAfterEndOfLongComment
+  unfolding position_after_end_of_long_comment
   position-end p =
       let l : end ≡ start + length (take (end - start) (drop start input)) = omega (arith, part_length) in
       record {

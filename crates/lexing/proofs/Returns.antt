@@ -9,12 +9,12 @@ use native.Mathlib.Numerals.{one-add}
 use lib.ListN.{length, get_or, drop, take, length-drop, drop_of_length-le}
 use lib.Seq.{take_all, drop-drop}
 use lib.Dec.{leb}
-use Rattle.lexing.specs.Answer.{Answer, ok, refused, largeNatural, pick}
-use Rattle.lexing.specs.Bytes.{isSpace, sameBytes, notNewline, run, starts_with, isDigit, canStartIdentifierChar, identifierChar}
-use Rattle.lexing.specs.Blanks.{passed, unclosed, further, blank, blanksFrom, W, positionAfterEndOfLongComment}
-use Rattle.lexing.specs.Tokens.{identifierLength, keyword, lexeme, closed, decimal, natural, mostNatural}
-use Rattle.lexing.specs.CodeAnswers.{reachOf, number_of, Position}
-use Rattle.lexing.specs.TokenLaws.{unlessEmpty-none, unlessEmpty-some}
+use Rattle.lexing.specs.Answer.{Answer, ok, refused, large_natural, pick}
+use Rattle.lexing.specs.Bytes.{is_space, same_bytes, not_newline, run, starts_with, is_digit, can_start_identifier_char, identifier_char}
+use Rattle.lexing.specs.Blanks.{passed, unclosed, further, blank, blanks_from, W, position_after_end_of_long_comment}
+use Rattle.lexing.specs.Tokens.{identifier_length, keyword, lexeme, closed, decimal, natural, most_natural}
+use Rattle.lexing.specs.CodeAnswers.{reach_of, number_of, Position}
+use Rattle.lexing.specs.TokenLaws.{unless_empty-none, unless_empty-some}
 use Rattle.lexing.specs.RunLaws.{run_inside}
 use Rattle.lexing.specs.BlankLaws.{W-blank, W-none, W-unclosed, further-zero, further-further, blank-inside, reach, W-inside}
 use Rattle.lexing.specs.declared.blank.Reach.{Reach}
@@ -34,26 +34,26 @@ blank-empty (a ∷ s) h = absurd (omega arith)
 
 -- `blank` by its tests, in the order of the code
 blank-by : (s : List ℕ) → 0 < length s → blank s
-    ≡ pick (isSpace (get_or s 0 0)) (passed 1)
-    (pick (starts_with (47 ∷ 47 ∷ []) s) (passed (1 + run notNewline (drop 1 s)))
-    (pick (starts_with (47 ∷ 42 ∷ []) s) (passed (2 + positionAfterEndOfLongComment (drop 2 s))) (passed 0)))
+    ≡ pick (is_space (get_or s 0 0)) (passed 1)
+    (pick (starts_with (47 ∷ 47 ∷ []) s) (passed (1 + run not_newline (drop 1 s)))
+    (pick (starts_with (47 ∷ 42 ∷ []) s) (passed (2 + position_after_end_of_long_comment (drop 2 s))) (passed 0)))
 unfolding blank
 blank-by [] h = absurd (omega arith)
 blank-by (a ∷ s) h = refl
 
 module _ (s : List ℕ) (h : 0 < length s) where
-  pub blank-space : isSpace (get_or s 0 0) ≡ true → passed 1 ≡ blank s
+  pub blank-space : is_space (get_or s 0 0) ≡ true → passed 1 ≡ blank s
   blank-space p = simp (blank-by s h, p)
 
-  pub blank-line : isSpace (get_or s 0 0) ≡ false → starts_with (47 ∷ 47 ∷ []) s ≡ true → (n : ℕ) → n ≡ run notNewline (take (length s - 1) (drop 1 s))
+  pub blank-line : is_space (get_or s 0 0) ≡ false → starts_with (47 ∷ 47 ∷ []) s ≡ true → (n : ℕ) → n ≡ run not_newline (take (length s - 1) (drop 1 s))
       → passed (1 + n) ≡ blank s
-  blank-line p q n e = simp (blank-by s h, p, q) (ap (λ k. passed (1 + k)) (e ∙ ap (run notNewline) (suffix s 1)))
+  blank-line p q n e = simp (blank-by s h, p, q) (ap (λ k. passed (1 + k)) (e ∙ ap (run not_newline) (suffix s 1)))
 
-  pub blank-long : isSpace (get_or s 0 0) ≡ false → starts_with (47 ∷ 47 ∷ []) s ≡ false → starts_with (47 ∷ 42 ∷ []) s ≡ true
+  pub blank-long : is_space (get_or s 0 0) ≡ false → starts_with (47 ∷ 47 ∷ []) s ≡ false → starts_with (47 ∷ 42 ∷ []) s ≡ true
       → {n : ℕ} → Position (take (length s - 2) (drop 2 s)) 2 (length s) n → passed n ≡ blank s
-  blank-long p q r {n} e = simp (blank-by s h, p, q, r) (ap passed (e.value ∙ ap (λ t. 2 + positionAfterEndOfLongComment t) (suffix s 2)))
+  blank-long p q r {n} e = simp (blank-by s h, p, q, r) (ap passed (e.value ∙ ap (λ t. 2 + position_after_end_of_long_comment t) (suffix s 2)))
 
-  pub blank_none : isSpace (get_or s 0 0) ≡ false → starts_with (47 ∷ 47 ∷ []) s ≡ false → starts_with (47 ∷ 42 ∷ []) s ≡ false → passed 0 ≡ blank s
+  pub blank_none : is_space (get_or s 0 0) ≡ false → starts_with (47 ∷ 47 ∷ []) s ≡ false → starts_with (47 ∷ 42 ∷ []) s ≡ false → passed 0 ≡ blank s
   blank_none p q r = simp (blank-by s h, p, q, r)
 
 -- a run of the rest after the first byte ends inside the text
@@ -69,21 +69,21 @@ pub reached-start : (s : List ℕ) → Reached s 0
 reached-start s = record { inside = omega arith; says = sym (further-zero (W s)) }
 
 -- one turn, by what `blank_at_start` answered for the rest from `at` on
-module _ {s : List ℕ} {at : ℕ} (r : Reach) (o : Reached s at) (e : reachOf r ≡ blank (take (length s - at) (drop at s))) where
-  reached-here : reachOf r ≡ blank (drop at s)
+module _ {s : List ℕ} {at : ℕ} (r : Reach) (o : Reached s at) (e : reach_of r ≡ blank (take (length s - at) (drop at s))) where
+  reached-here : reach_of r ≡ blank (drop at s)
   reached-here = e ∙ ap blank (suffix s at)
 
-  pub reached-inside : {q : Reach} → r ≡ q → at + reach (reachOf q) ≤ length s
-  reached-inside p = omega (arith, ap (λ r. reach (reachOf r)) (sym p) ∙ ap reach reached-here, blank-inside (drop at s), length-drop at s, o.inside)
+  pub reached-inside : {q : Reach} → r ≡ q → at + reach (reach_of q) ≤ length s
+  reached-inside p = omega (arith, ap (λ r. reach (reach_of r)) (sym p) ∙ ap reach reached-here, blank-inside (drop at s), length-drop at s, o.inside)
 
   pub reached-end : {n : ℕ} → r ≡ Passed n → n ≡ 0 → passed at ≡ W s
   reached-end p z =
-      let h : blank (drop at s) ≡ passed 0 = sym reached-here ∙ ap reachOf p ∙ ap passed z in
+      let h : blank (drop at s) ≡ passed 0 = sym reached-here ∙ ap reach_of p ∙ ap passed z in
       let q : at + 0 ≡ at = omega arith in
       sym (o.says ∙ ap (further at) (W-none (drop at s) h) ∙ ap passed q)
 
   pub reached-more : {n : ℕ} → r ≡ Passed n → (n ≡ 0 → ⊥) → Reached s (at + n)
-  reached-more {n} p z = record { inside = reached-inside p; says = by_count n (sym reached-here ∙ ap reachOf p) z }
+  reached-more {n} p z = record { inside = reached-inside p; says = by_count n (sym reached-here ∙ ap reach_of p) z }
     where
       by_count : (n : ℕ) → blank (drop at s) ≡ passed n → (n ≡ 0 → ⊥) → W s ≡ further (at + n) (W (drop (at + n) s))
       by_count zero e z = absurd (z refl)
@@ -92,40 +92,40 @@ module _ {s : List ℕ} {at : ℕ} (r : Reach) (o : Reached s at) (e : reachOf r
           ∙ ap (λ t. further (at + suc k) (W t)) (drop-drop (suc k) at s)
 
   pub reached-open : {n : ℕ} → r ≡ Unclosed n → unclosed (at + n) ≡ W s
-  reached-open {n} p = sym (o.says ∙ ap (further at) (W-unclosed (drop at s) n (sym reached-here ∙ ap reachOf p)))
+  reached-open {n} p = sym (o.says ∙ ap (further at) (W-unclosed (drop at s) n (sym reached-here ∙ ap reach_of p)))
 
 -- an identifier by its tests
-pub identifier-empty : (s : List ℕ) → length s ≡ 0 → 0 ≡ identifierLength s
-unfolding identifierLength
+pub identifier-empty : (s : List ℕ) → length s ≡ 0 → 0 ≡ identifier_length s
+unfolding identifier_length
 identifier-empty [] h = refl
 identifier-empty (a ∷ s) h = absurd (omega arith)
 
 -- an identifier of a text that is not empty, by the test of its first byte
-identifier-by : (s : List ℕ) → 0 < length s → identifierLength s ≡ pick (canStartIdentifierChar (get_or s 0 0)) (1 + run identifierChar (drop 1 s)) 0
-unfolding identifierLength
+identifier-by : (s : List ℕ) → 0 < length s → identifier_length s ≡ pick (can_start_identifier_char (get_or s 0 0)) (1 + run identifier_char (drop 1 s)) 0
+unfolding identifier_length
 identifier-by [] h = absurd (omega arith)
-identifier-by (a ∷ s) h = ap (λ k. pick (canStartIdentifierChar a) k 0) (sym (one-add (run identifierChar s)))
+identifier-by (a ∷ s) h = ap (λ k. pick (can_start_identifier_char a) k 0) (sym (one-add (run identifier_char s)))
 
 module _ (s : List ℕ) (h : 0 < length s) where
-  pub identifier-run : canStartIdentifierChar (get_or s 0 0) ≡ true → (n : ℕ) → n ≡ run identifierChar (take (length s - 1) (drop 1 s)) → 1 + n ≡ identifierLength s
-  identifier-run p n e = simp (identifier-by s h, p) (ap (λ k. 1 + k) (e ∙ ap (run identifierChar) (suffix s 1)))
+  pub identifier-run : can_start_identifier_char (get_or s 0 0) ≡ true → (n : ℕ) → n ≡ run identifier_char (take (length s - 1) (drop 1 s)) → 1 + n ≡ identifier_length s
+  identifier-run p n e = simp (identifier-by s h, p) (ap (λ k. 1 + k) (e ∙ ap (run identifier_char) (suffix s 1)))
 
-  pub identifier-none : canStartIdentifierChar (get_or s 0 0) ≡ false → 0 ≡ identifierLength s
+  pub identifier-none : can_start_identifier_char (get_or s 0 0) ≡ false → 0 ≡ identifier_length s
   identifier-none p = simp (identifier-by s h, p)
 
 -- a keyword, by the length of the identifier that was read
-module _ (w s : List ℕ) (n : ℕ) (e : n ≡ identifierLength s) where
-  pub keyword-found : sameBytes (take n s) w ≡ true → lexeme 0 n s ≡ keyword w s
+module _ (w s : List ℕ) (n : ℕ) (e : n ≡ identifier_length s) where
+  pub keyword-found : same_bytes (take n s) w ≡ true → lexeme 0 n s ≡ keyword w s
   unfolding keyword
   keyword-found p = rw (← e, p)
 
-  pub keyword-missing : sameBytes (take n s) w ≡ false → Answer.none ≡ keyword w s
+  pub keyword-missing : same_bytes (take n s) w ≡ false → Answer.none ≡ keyword w s
   unfolding keyword
   keyword-missing p = rw (← e, p)
 
 -- no blanks stand at the end of the text
 nothing : W [] ≡ passed 0
-unfolding W blanksFrom
+unfolding W blanks_from
 nothing = refl
 
 -- blanks after a token
@@ -137,43 +137,43 @@ lexeme-past s v n h =
     rw (drop_of_length-le s past, nothing) (ap (ok v) (sym z))
 
 -- by what `blanks` answered for the rest after the token
-module _ (s : List ℕ) (n : ℕ) (r : Reach) (e : reachOf r ≡ W (take (length s - n) (drop n s))) where
-  pub lexeme-inside : {q : Reach} → r ≡ q → n ≤ length s → n + reach (reachOf q) ≤ length s
-  lexeme-inside p h = omega (arith, ap (λ r. reach (reachOf r)) (sym p) ∙ ap reach (e ∙ ap W (suffix s n)), W-inside (drop n s), length-drop n s)
+module _ (s : List ℕ) (n : ℕ) (r : Reach) (e : reach_of r ≡ W (take (length s - n) (drop n s))) where
+  pub lexeme-inside : {q : Reach} → r ≡ q → n ≤ length s → n + reach (reach_of q) ≤ length s
+  lexeme-inside p h = omega (arith, ap (λ r. reach (reach_of r)) (sym p) ∙ ap reach (e ∙ ap W (suffix s n)), W-inside (drop n s), length-drop n s)
 
-  pub lexeme-is : {q : Reach} → r ≡ q → (v : ℕ) → closed v n (reachOf q) ≡ lexeme v n s
+  pub lexeme-is : {q : Reach} → r ≡ q → (v : ℕ) → closed v n (reach_of q) ≡ lexeme v n s
   unfolding lexeme
-  lexeme-is p v = ap (closed v n) (ap reachOf (sym p) ∙ e ∙ ap W (suffix s n))
+  lexeme-is p v = ap (closed v n) (ap reach_of (sym p) ∙ e ∙ ap W (suffix s n))
 
 -- what `decimal` answers of the number n
-number-value : (n v : ℕ) → Value v ≡ number_of n → (leb n mostNatural ≡ true) × (v ≡ n)
-number-value n v e = by-test (leb n mostNatural) refl e
+number-value : (n v : ℕ) → Value v ≡ number_of n → (leb n most_natural ≡ true) × (v ≡ n)
+number-value n v e = by-test (leb n most_natural) refl e
   where
-    by-test : (t : Bool) → leb n mostNatural ≡ t → Value v ≡ pick t (Value n) TooLarge → (leb n mostNatural ≡ true) × (v ≡ n)
+    by-test : (t : Bool) → leb n most_natural ≡ t → Value v ≡ pick t (Value n) TooLarge → (leb n most_natural ≡ true) × (v ≡ n)
     by-test true p e = (p, cc)
     by-test false p e = absurd (false≢true cc)
 
 -- and where it answers that the number is too large
-number-large : (n : ℕ) → TooLarge ≡ number_of n → leb n mostNatural ≡ false
-number-large n e = by-test (leb n mostNatural) refl e
+number-large : (n : ℕ) → TooLarge ≡ number_of n → leb n most_natural ≡ false
+number-large n e = by-test (leb n most_natural) refl e
   where
-    by-test : (t : Bool) → leb n mostNatural ≡ t → TooLarge ≡ pick t (Value n) TooLarge → leb n mostNatural ≡ false
+    by-test : (t : Bool) → leb n most_natural ≡ t → TooLarge ≡ pick t (Value n) TooLarge → leb n most_natural ≡ false
     by-test true p e = absurd (false≢true cc)
     by-test false p e = p
 
 -- a natural, by the number of its digits and what `decimal` answered for them
-module _ (s : List ℕ) {n : ℕ} (d : n ≡ run isDigit s) where
+module _ (s : List ℕ) {n : ℕ} (d : n ≡ run is_digit s) where
   pub natural-none : n ≡ 0 → Answer.none ≡ natural s
   unfolding natural
-  natural-none z = unlessEmpty-none _ _ (sym d ∙ z)
+  natural-none z = unless_empty-none _ _ (sym d ∙ z)
 
   module _ (z : n ≡ 0 → ⊥) {r : Number} (e : r ≡ number_of (decimal 0 (take n s))) where
     pub natural-value : {v : ℕ} → r ≡ Value v → lexeme v n s ≡ natural s
     unfolding natural
     natural-value {v} q =
         let (p, w) = number-value (decimal 0 (take n s)) v (sym q ∙ e) in
-        rw (← d) (simp (p, ← w) (unlessEmpty-some n _ z))
+        rw (← d) (simp (p, ← w) (unless_empty-some n _ z))
 
-    pub natural-large : r ≡ TooLarge → refused largeNatural 0 ≡ natural s
+    pub natural-large : r ≡ TooLarge → refused large_natural 0 ≡ natural s
     unfolding natural
-    natural-large q = rw (← d) (simp (number-large (decimal 0 (take n s)) (sym q ∙ e)) (unlessEmpty-some n _ z))
+    natural-large q = rw (← d) (simp (number-large (decimal 0 (take n s)) (sym q ∙ e)) (unless_empty-some n _ z))

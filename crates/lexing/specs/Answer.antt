@@ -11,28 +11,28 @@ pub data Answer (A : Type 0) : Type 0 where
   refused : ℕ → ℕ → Answer A
 
 -- The numbers of a reading's refusals (REFERENCE, "The refusals"). The text is longer than it may be:
-abbrev pub textTooLong : ℕ
-textTooLong = 1
+abbrev pub text_too_long : ℕ
+text_too_long = 1
 
 -- the rules can't go on:
-abbrev pub unusableToken : ℕ
-unusableToken = 2
+abbrev pub unusable_token : ℕ
+unusable_token = 2
 
 -- one level more than may be would be opened:
-abbrev pub levelTooDeep : ℕ
-levelTooDeep = 3
+abbrev pub level_too_deep : ℕ
+level_too_deep = 3
 
 -- a natural is above the largest:
-abbrev pub largeNatural : ℕ
-largeNatural = 4
+abbrev pub large_natural : ℕ
+large_natural = 4
 
 -- the tree has more words than the table, or than a table may have:
-abbrev pub treeTooLarge : ℕ
-treeTooLarge = 5
+abbrev pub tree_too_large : ℕ
+tree_too_large = 5
 
 -- a long comment is not closed:
-abbrev pub unclosedComment : ℕ
-unclosedComment = 2
+abbrev pub unclosed_comment : ℕ
+unclosed_comment = 2
 
 -- the answer of a step over `drop at text`, with its places counted in `text`
 abbrev pub moved : {A : Type 0} → ℕ → Answer A → Answer A

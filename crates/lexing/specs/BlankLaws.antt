@@ -4,9 +4,9 @@ use Rattle.std.proofs.Common.{sym, ap, ◌∙◌, zero-le, suc-le-suc, arith, le
 use Rattle.std.proofs.lemmas.Bool.{false≢true}
 use Rattle.std.proofs.Math.Option.{Option, none, some}
 use Rattle.std.proofs.Math.Seq.{drop-length}
-use Rattle.lexing.specs.Bytes.{starts_with, isSpace, notNewline}
+use Rattle.lexing.specs.Bytes.{starts_with, is_space, not_newline}
 use Rattle.lexing.specs.RunLaws.{pick-case, run_inside}
-use Rattle.lexing.specs.Blanks.{Blanks, passed, unclosed, further, Mark, closing, opening, neither, mark, plus, atMark, longComment, or_else, positionAfterEndOfLongComment, blank, onward, blanksFrom, W}
+use Rattle.lexing.specs.Blanks.{Blanks, passed, unclosed, further, Mark, closing, opening, neither, mark, plus, at_mark, long_comment, or_else, position_after_end_of_long_comment, blank, onward, blanks_from, W}
 
 -- ---- blanks
 
@@ -26,39 +26,39 @@ plus-some k none {n} e = absurd (false≢true cc)
 plus-some k (some m) {n} e = (m, refl, cc)
 
 -- a long comment that is closed ends inside the text
-pub longComment-inside : (d : ℕ) (s : List ℕ) {n : ℕ} → longComment d s ≡ some n → n ≤ length s
-unfolding longComment
-longComment-inside d [] {n} e = absurd (false≢true cc)
-longComment-inside d (a ∷ []) {n} e = absurd (false≢true cc)
-longComment-inside d (a ∷ (b ∷ s)) {n} e = by-mark (mark a b) d e (λ k m. longComment-inside k s {n = m}) (λ k m. longComment-inside k (b ∷ s) {n = m})
+pub long_comment-inside : (d : ℕ) (s : List ℕ) {n : ℕ} → long_comment d s ≡ some n → n ≤ length s
+unfolding long_comment
+long_comment-inside d [] {n} e = absurd (false≢true cc)
+long_comment-inside d (a ∷ []) {n} e = absurd (false≢true cc)
+long_comment-inside d (a ∷ (b ∷ s)) {n} e = by-mark (mark a b) d e (λ k m. long_comment-inside k s {n = m}) (λ k m. long_comment-inside k (b ∷ s) {n = m})
   where
-    by-mark : (t : Mark) (d : ℕ) → atMark t d (λ k. longComment k s) (λ k. longComment k (b ∷ s)) ≡ some n
-        → ((k m : ℕ) → longComment k s ≡ some m → m ≤ length s)
-        → ((k m : ℕ) → longComment k (b ∷ s) ≡ some m → m ≤ suc (length s)) → n ≤ suc (suc (length s))
+    by-mark : (t : Mark) (d : ℕ) → at_mark t d (λ k. long_comment k s) (λ k. long_comment k (b ∷ s)) ≡ some n
+        → ((k m : ℕ) → long_comment k s ≡ some m → m ≤ length s)
+        → ((k m : ℕ) → long_comment k (b ∷ s) ≡ some m → m ≤ suc (length s)) → n ≤ suc (suc (length s))
     by-mark closing zero e over on = let h : 2 ≡ n = cc in omega arith
-    by-mark closing (suc d) e over on = let (m, p, q) = plus-some 2 (longComment d s) e in omega (arith, over d m p)
-    by-mark opening d e over on = let (m, p, q) = plus-some 2 (longComment (suc d) s) e in omega (arith, over (suc d) m p)
-    by-mark neither d e over on = let (m, p, q) = plus-some 1 (longComment d (b ∷ s)) e in omega (arith, on d m p)
+    by-mark closing (suc d) e over on = let (m, p, q) = plus-some 2 (long_comment d s) e in omega (arith, over d m p)
+    by-mark opening d e over on = let (m, p, q) = plus-some 2 (long_comment (suc d) s) e in omega (arith, over (suc d) m p)
+    by-mark neither d e over on = let (m, p, q) = plus-some 1 (long_comment d (b ∷ s)) e in omega (arith, on d m p)
 
 -- upstream's `start <= len <= end`, its `start` being 0 here
-pub position-inside : (s : List ℕ) → positionAfterEndOfLongComment s ≤ length s
-unfolding positionAfterEndOfLongComment
-position-inside s = by_end (longComment 0 s) refl
+pub position-inside : (s : List ℕ) → position_after_end_of_long_comment s ≤ length s
+unfolding position_after_end_of_long_comment
+position-inside s = by_end (long_comment 0 s) refl
   where
-    by_end : (r : Option ℕ) → longComment 0 s ≡ r → or_else (length s) r ≤ length s
+    by_end : (r : Option ℕ) → long_comment 0 s ≡ r → or_else (length s) r ≤ length s
     by_end none e = le_refl _
-    by_end (some n) e = longComment-inside 0 s e
+    by_end (some n) e = long_comment-inside 0 s e
 
 -- the blank at the start lies inside the text
 pub blank-inside : (s : List ℕ) → reach (blank s) ≤ length s
 unfolding blank starts_with
 blank-inside [] = le_refl _
 blank-inside (a ∷ s) =
-    pick-case (λ r. reach r ≤ suc (length s)) (isSpace a) (λ _. suc-le-suc zero-le)
-    (λ _. pick-case (λ r. reach r ≤ suc (length s)) (starts_with (47 ∷ 47 ∷ []) (a ∷ s)) (λ _. omega (arith, run_inside notNewline s))
+    pick-case (λ r. reach r ≤ suc (length s)) (is_space a) (λ _. suc-le-suc zero-le)
+    (λ _. pick-case (λ r. reach r ≤ suc (length s)) (starts_with (47 ∷ 47 ∷ []) (a ∷ s)) (λ _. omega (arith, run_inside not_newline s))
     (λ _. pick-case (λ r. reach r ≤ suc (length s)) (starts_with (47 ∷ 42 ∷ []) (a ∷ s)) (λ e. long s e) (λ _. zero-le)))
   where
-    long : (s : List ℕ) → starts_with (47 ∷ 42 ∷ []) (a ∷ s) ≡ true → 2 + positionAfterEndOfLongComment (drop 1 s) ≤ suc (length s)
+    long : (s : List ℕ) → starts_with (47 ∷ 42 ∷ []) (a ∷ s) ≡ true → 2 + position_after_end_of_long_comment (drop 1 s) ≤ suc (length s)
     long [] e = absurd (by-test (eqb 47 a) e)
       where
         by-test : (t : Bool) → (t && false) ≡ true → ⊥
@@ -73,16 +73,16 @@ onward-inside n (passed (suc k)) on h f = omega (arith, f k, reach-further 1 (on
 onward-inside n (unclosed m) on h f = h
 
 -- blanks with k bytes still to pass lie inside the text
-blanksFrom-inside : (k : ℕ) (s : List ℕ) → reach (blanksFrom k s) ≤ length s
-unfolding blanksFrom
-blanksFrom-inside k [] = le_refl _
-blanksFrom-inside zero (a ∷ s) = onward-inside (length s) (blank (a ∷ s)) (λ k. blanksFrom k s) (blank-inside (a ∷ s)) (λ k. blanksFrom-inside k s)
-blanksFrom-inside (suc k) (a ∷ s) = omega (arith, blanksFrom-inside k s, reach-further 1 (blanksFrom k s))
+blanks_from-inside : (k : ℕ) (s : List ℕ) → reach (blanks_from k s) ≤ length s
+unfolding blanks_from
+blanks_from-inside k [] = le_refl _
+blanks_from-inside zero (a ∷ s) = onward-inside (length s) (blank (a ∷ s)) (λ k. blanks_from k s) (blank-inside (a ∷ s)) (λ k. blanks_from-inside k s)
+blanks_from-inside (suc k) (a ∷ s) = omega (arith, blanks_from-inside k s, reach-further 1 (blanks_from k s))
 
 -- blanks lie inside the text
 pub W-inside : (s : List ℕ) → reach (W s) ≤ length s
 unfolding W
-W-inside s = blanksFrom-inside 0 s
+W-inside s = blanks_from-inside 0 s
 
 -- no byte further back is the same
 pub further-zero : (r : Blanks) → further 0 r ≡ r
@@ -95,33 +95,33 @@ further-further j k (passed n) = ap passed (omega arith)
 further-further j k (unclosed n) = ap unclosed (omega arith)
 
 -- the bytes of a blank are passed one by one
-blanksFrom-passes : (k : ℕ) (s : List ℕ) → k ≤ length s → blanksFrom k s ≡ further k (W (drop k s))
-unfolding blanksFrom W
-blanksFrom-passes zero s h = sym (further-zero (blanksFrom 0 s))
-blanksFrom-passes (suc k) [] h = absurd (omega arith)
-blanksFrom-passes (suc k) (a ∷ s) h =
-    ap (further 1) (blanksFrom-passes k s (omega arith)) ∙ further-further 1 k (W (drop k s)) ∙ ap (λ j. further j (W (drop k s))) (one-add k)
+blanks_from-passes : (k : ℕ) (s : List ℕ) → k ≤ length s → blanks_from k s ≡ further k (W (drop k s))
+unfolding blanks_from W
+blanks_from-passes zero s h = sym (further-zero (blanks_from 0 s))
+blanks_from-passes (suc k) [] h = absurd (omega arith)
+blanks_from-passes (suc k) (a ∷ s) h =
+    ap (further 1) (blanks_from-passes k s (omega arith)) ∙ further-further 1 k (W (drop k s)) ∙ ap (λ j. further j (W (drop k s))) (one-add k)
 
 -- blanks are the blank at the start and the blanks after it
 pub W-blank : (s : List ℕ) (k : ℕ) → blank s ≡ passed (suc k) → W s ≡ further (suc k) (W (drop (suc k) s))
-unfolding W blanksFrom blank
+unfolding W blanks_from blank
 W-blank [] k e = let z : 0 ≡ suc k = cc in absurd (omega arith)
 W-blank (a ∷ s) k e =
     let h : suc k ≤ suc (length s) = rw e at (blank-inside (a ∷ s)) in
-    ap (λ r. onward r (λ j. blanksFrom j s)) e ∙ ap (further 1) (blanksFrom-passes k s (omega arith)) ∙ further-further 1 k (W (drop k s))
+    ap (λ r. onward r (λ j. blanks_from j s)) e ∙ ap (further 1) (blanks_from-passes k s (omega arith)) ∙ further-further 1 k (W (drop k s))
     ∙ ap (λ j. further j (W (drop k s))) (one-add k)
 
 -- where no blank stands, there are no blanks
 pub W-none : (s : List ℕ) → blank s ≡ passed 0 → W s ≡ passed 0
-unfolding W blanksFrom
+unfolding W blanks_from
 W-none [] e = refl
-W-none (a ∷ s) e = ap (λ r. onward r (λ j. blanksFrom j s)) e
+W-none (a ∷ s) e = ap (λ r. onward r (λ j. blanks_from j s)) e
 
 -- where the blank at the start is not closed, neither are the blanks
 pub W-unclosed : (s : List ℕ) (n : ℕ) → blank s ≡ unclosed n → W s ≡ unclosed n
-unfolding W blanksFrom blank
+unfolding W blanks_from blank
 W-unclosed [] n e = e
-W-unclosed (a ∷ s) n e = ap (λ r. onward r (λ j. blanksFrom j s)) e
+W-unclosed (a ∷ s) n e = ap (λ r. onward r (λ j. blanks_from j s)) e
 
 -- blanks that are passed from k bytes further back are passed from here
 further-passed : (k : ℕ) (r : Blanks) {n : ℕ} → further k r ≡ passed n → (m : ℕ) × (r ≡ passed m) × (k + m ≡ n)
@@ -130,20 +130,20 @@ further-passed k (unclosed m) {n} e = absurd (false≢true cc)
 
 -- after k bytes of a blank and the blanks behind them no blank stands
 Stops : List ℕ → ℕ → Type 0
-Stops s k = (n : ℕ) → blanksFrom k s ≡ passed n → blank (drop n s) ≡ passed 0
+Stops s k = (n : ℕ) → blanks_from k s ≡ passed n → blank (drop n s) ≡ passed 0
 
 -- the same with one byte more in front
-stops-later : (a : ℕ) (s : List ℕ) (k n : ℕ) → Stops s k → further 1 (blanksFrom k s) ≡ passed n → blank (drop n (a ∷ s)) ≡ passed 0
+stops-later : (a : ℕ) (s : List ℕ) (k n : ℕ) → Stops s k → further 1 (blanks_from k s) ≡ passed n → blank (drop n (a ∷ s)) ≡ passed 0
 unfolding Stops
-stops-later a s k n f e = let (m, p, q) = further-passed 1 (blanksFrom k s) e in rw (← q, one-add) (f m p)
+stops-later a s k n f e = let (m, p, q) = further-passed 1 (blanks_from k s) e in rw (← q, one-add) (f m p)
 
 -- that holds of every text
 stops : (s : List ℕ) (k : ℕ) → Stops s k
-unfolding Stops blanksFrom blank
+unfolding Stops blanks_from blank
 stops [] k n e = let h : 0 ≡ n = cc in rw (← h) refl
 stops (a ∷ s) zero n e = by-blanks (blank (a ∷ s)) refl e (λ k. stops s k)
   where
-    by-blanks : (r : Blanks) → blank (a ∷ s) ≡ r → onward r (λ k. blanksFrom k s) ≡ passed n → ((k : ℕ) → Stops s k) → blank (drop n (a ∷ s)) ≡ passed 0
+    by-blanks : (r : Blanks) → blank (a ∷ s) ≡ r → onward r (λ k. blanks_from k s) ≡ passed n → ((k : ℕ) → Stops s k) → blank (drop n (a ∷ s)) ≡ passed 0
     by-blanks (passed zero) p e f = let h : 0 ≡ n = cc in rw (← h) p
     by-blanks (passed (suc k)) p e f = stops-later a s k n (f k) e
     by-blanks (unclosed m) p e f = absurd (false≢true cc)
@@ -166,7 +166,7 @@ blank-closed : (s : List ℕ) → Passed (blank s)
 unfolding blank
 blank-closed [] = refl
 blank-closed (a ∷ s) =
-    pick-case Passed (isSpace a) (λ _. refl)
+    pick-case Passed (is_space a) (λ _. refl)
     (λ _. pick-case Passed (starts_with (47 ∷ 47 ∷ []) (a ∷ s)) (λ _. refl)
     (λ _. pick-case Passed (starts_with (47 ∷ 42 ∷ []) (a ∷ s)) (λ _. refl) (λ _. refl)))
 
@@ -179,26 +179,26 @@ onward-closed (passed zero) on e f = refl
 onward-closed (passed (suc k)) on e f = further-closed 1 (on k) (f k)
 onward-closed (unclosed n) on e f = absurd (false≢true cc)
 
-blanksFrom-closed : (k : ℕ) (s : List ℕ) → Passed (blanksFrom k s)
-unfolding blanksFrom
-blanksFrom-closed k [] = refl
-blanksFrom-closed zero (a ∷ s) = onward-closed (blank (a ∷ s)) (λ k. blanksFrom k s) (blank-closed (a ∷ s)) (λ k. blanksFrom-closed k s)
-blanksFrom-closed (suc k) (a ∷ s) = further-closed 1 (blanksFrom k s) (blanksFrom-closed k s)
+blanks_from-closed : (k : ℕ) (s : List ℕ) → Passed (blanks_from k s)
+unfolding blanks_from
+blanks_from-closed k [] = refl
+blanks_from-closed zero (a ∷ s) = onward-closed (blank (a ∷ s)) (λ k. blanks_from k s) (blank-closed (a ∷ s)) (λ k. blanks_from-closed k s)
+blanks_from-closed (suc k) (a ∷ s) = further-closed 1 (blanks_from k s) (blanks_from-closed k s)
 
 pub W-closed : (s : List ℕ) → W s ≡ passed (reach (W s))
 unfolding W
-W-closed s = blanksFrom-closed 0 s
+W-closed s = blanks_from-closed 0 s
 
 -- ---- upstream's equations of `PositionAfterEndOfLongComment`
 
 -- at most two bytes: the end, whatever they are
-pub position-short : (s : List ℕ) → length s ≤ 2 → positionAfterEndOfLongComment s ≡ length s
-unfolding positionAfterEndOfLongComment longComment
+pub position-short : (s : List ℕ) → length s ≤ 2 → position_after_end_of_long_comment s ≡ length s
+unfolding position_after_end_of_long_comment long_comment
 position-short [] h = refl
 position-short (a ∷ []) h = refl
 position-short (a ∷ (b ∷ [])) h = by-mark (mark a b)
   where
-    by-mark : (t : Mark) → or_else 2 (atMark t 0 (λ k. none) (λ k. none)) ≡ 2
+    by-mark : (t : Mark) → or_else 2 (at_mark t 0 (λ k. none) (λ k. none)) ≡ 2
     by-mark closing = refl
     by-mark opening = refl
     by-mark neither = refl
@@ -220,63 +220,63 @@ afterwards-plus k none f g h = refl
 afterwards-plus k (some n) f g h = ap (plus (k + n)) (h n) ∙ sym (plus-plus k n (g n))
 
 -- with e + d + 1 comments open inside the outermost, the inner e and one more are closed first
-longComment-nested : (e d j : ℕ) (s : List ℕ) → j ≡ e + d → longComment (suc j) s ≡ afterwards (longComment e s) (λ n. longComment d (drop n s))
-unfolding longComment
-longComment-nested e d j [] h = refl
-longComment-nested e d j (a ∷ []) h = refl
-longComment-nested e d j (a ∷ (b ∷ s)) h = by-mark (mark a b) e j h (λ e j. longComment-nested e d j s) (λ e j. longComment-nested e d j (b ∷ s))
+long_comment-nested : (e d j : ℕ) (s : List ℕ) → j ≡ e + d → long_comment (suc j) s ≡ afterwards (long_comment e s) (λ n. long_comment d (drop n s))
+unfolding long_comment
+long_comment-nested e d j [] h = refl
+long_comment-nested e d j (a ∷ []) h = refl
+long_comment-nested e d j (a ∷ (b ∷ s)) h = by-mark (mark a b) e j h (λ e j. long_comment-nested e d j s) (λ e j. long_comment-nested e d j (b ∷ s))
   where
     Nested : List ℕ → Type 0
-    Nested t = (e j : ℕ) → j ≡ e + d → longComment (suc j) t ≡ afterwards (longComment e t) (λ n. longComment d (drop n t))
+    Nested t = (e j : ℕ) → j ≡ e + d → long_comment (suc j) t ≡ afterwards (long_comment e t) (λ n. long_comment d (drop n t))
 
     two_is : (n : ℕ) → 2 + n ≡ suc (suc n)
     two_is n = omega arith
 
-    two : (n : ℕ) → longComment d (drop (2 + n) (a ∷ (b ∷ s))) ≡ longComment d (drop n s)
-    two n = ap (λ k. longComment d (drop k (a ∷ (b ∷ s)))) (two_is n)
+    two : (n : ℕ) → long_comment d (drop (2 + n) (a ∷ (b ∷ s))) ≡ long_comment d (drop n s)
+    two n = ap (λ k. long_comment d (drop k (a ∷ (b ∷ s)))) (two_is n)
 
-    one : (n : ℕ) → longComment d (drop (1 + n) (a ∷ (b ∷ s))) ≡ longComment d (drop n (b ∷ s))
-    one n = ap (λ k. longComment d (drop k (a ∷ (b ∷ s)))) (one-add n)
+    one : (n : ℕ) → long_comment d (drop (1 + n) (a ∷ (b ∷ s))) ≡ long_comment d (drop n (b ∷ s))
+    one n = ap (λ k. long_comment d (drop k (a ∷ (b ∷ s)))) (one-add n)
 
     by-mark : (t : Mark) (e j : ℕ) → j ≡ e + d → Nested s → Nested (b ∷ s)
-        → atMark t (suc j) (λ k. longComment k s) (λ k. longComment k (b ∷ s))
-        ≡ afterwards (atMark t e (λ k. longComment k s) (λ k. longComment k (b ∷ s))) (λ n. longComment d (drop n (a ∷ (b ∷ s))))
-    by-mark closing zero j h over on = let q : j ≡ d = omega arith in ap (λ k. plus 2 (longComment k s)) q
+        → at_mark t (suc j) (λ k. long_comment k s) (λ k. long_comment k (b ∷ s))
+        ≡ afterwards (at_mark t e (λ k. long_comment k s) (λ k. long_comment k (b ∷ s))) (λ n. long_comment d (drop n (a ∷ (b ∷ s))))
+    by-mark closing zero j h over on = let q : j ≡ d = omega arith in ap (λ k. plus 2 (long_comment k s)) q
     by-mark closing (suc e) j h over on =
         let q : j ≡ suc (e + d) = omega arith in
-        ap (λ k. plus 2 (longComment k s)) q ∙ ap (plus 2) (over e (e + d) refl) ∙ sym (afterwards-plus 2 (longComment e s) _ _ two)
-    by-mark opening e j h over on = ap (plus 2) (over (suc e) (suc j) (omega arith)) ∙ sym (afterwards-plus 2 (longComment (suc e) s) _ _ two)
-    by-mark neither e j h over on = ap (plus 1) (on e j h) ∙ sym (afterwards-plus 1 (longComment e (b ∷ s)) _ _ one)
+        ap (λ k. plus 2 (long_comment k s)) q ∙ ap (plus 2) (over e (e + d) refl) ∙ sym (afterwards-plus 2 (long_comment e s) _ _ two)
+    by-mark opening e j h over on = ap (plus 2) (over (suc e) (suc j) (omega arith)) ∙ sym (afterwards-plus 2 (long_comment (suc e) s) _ _ two)
+    by-mark neither e j h over on = ap (plus 1) (on e j h) ∙ sym (afterwards-plus 1 (long_comment e (b ∷ s)) _ _ one)
 
 -- upstream's four cases, of what lies between `start` and `end`, with places counted from `start`. The first is `position-short`
-pub position-closing : (a b : ℕ) (s : List ℕ) → mark a b ≡ closing → positionAfterEndOfLongComment (a ∷ (b ∷ s)) ≡ 2
-unfolding positionAfterEndOfLongComment longComment
-position-closing a b s e = ap (λ t. or_else (suc (suc (length s))) (atMark t 0 (λ k. longComment k s) (λ k. longComment k (b ∷ s)))) e
+pub position-closing : (a b : ℕ) (s : List ℕ) → mark a b ≡ closing → position_after_end_of_long_comment (a ∷ (b ∷ s)) ≡ 2
+unfolding position_after_end_of_long_comment long_comment
+position-closing a b s e = ap (λ t. or_else (suc (suc (length s))) (at_mark t 0 (λ k. long_comment k s) (λ k. long_comment k (b ∷ s)))) e
 
 -- an opening mark: the inner comment's end, and the outer's after it
-pub position-opening : (a b : ℕ) (s : List ℕ) → mark a b ≡ opening → positionAfterEndOfLongComment (a ∷ (b ∷ s))
-    ≡ 2 + (positionAfterEndOfLongComment s + positionAfterEndOfLongComment (drop (positionAfterEndOfLongComment s) s))
-unfolding positionAfterEndOfLongComment longComment
+pub position-opening : (a b : ℕ) (s : List ℕ) → mark a b ≡ opening → position_after_end_of_long_comment (a ∷ (b ∷ s))
+    ≡ 2 + (position_after_end_of_long_comment s + position_after_end_of_long_comment (drop (position_after_end_of_long_comment s) s))
+unfolding position_after_end_of_long_comment long_comment
 position-opening a b s e =
-    ap (λ t. or_else (suc (suc (length s))) (atMark t 0 (λ k. longComment k s) (λ k. longComment k (b ∷ s)))) e
-    ∙ ap (λ r. or_else (suc (suc (length s))) (plus 2 r)) (longComment-nested 0 0 0 s refl)
-    ∙ inner (longComment 0 s) refl
+    ap (λ t. or_else (suc (suc (length s))) (at_mark t 0 (λ k. long_comment k s) (λ k. long_comment k (b ∷ s)))) e
+    ∙ ap (λ r. or_else (suc (suc (length s))) (plus 2 r)) (long_comment-nested 0 0 0 s refl)
+    ∙ inner (long_comment 0 s) refl
   where
     outer : (n : ℕ) (r : Option ℕ) → n ≤ length s → or_else (suc (suc (length s))) (plus 2 (plus n r)) ≡ 2 + (n + or_else (length (drop n s)) r)
     outer n none h = omega (arith, length-drop n s)
     outer n (some m) h = refl
 
-    inner : (r : Option ℕ) → longComment 0 s ≡ r
-        → or_else (suc (suc (length s))) (plus 2 (afterwards r (λ n. longComment 0 (drop n s))))
-        ≡ 2 + (or_else (length s) r + or_else (length (drop (or_else (length s) r) s)) (longComment 0 (drop (or_else (length s) r) s)))
+    inner : (r : Option ℕ) → long_comment 0 s ≡ r
+        → or_else (suc (suc (length s))) (plus 2 (afterwards r (λ n. long_comment 0 (drop n s))))
+        ≡ 2 + (or_else (length s) r + or_else (length (drop (or_else (length s) r) s)) (long_comment 0 (drop (or_else (length s) r) s)))
     inner none p = rw drop-length (omega arith)
-    inner (some n) p = outer n (longComment 0 (drop n s)) (longComment-inside 0 s p)
+    inner (some n) p = outer n (long_comment 0 (drop n s)) (long_comment-inside 0 s p)
 
 -- no mark: one byte on
-pub position-neither : (a b : ℕ) (s : List ℕ) → mark a b ≡ neither → positionAfterEndOfLongComment (a ∷ (b ∷ s)) ≡ 1 + positionAfterEndOfLongComment (b ∷ s)
-unfolding positionAfterEndOfLongComment longComment
+pub position-neither : (a b : ℕ) (s : List ℕ) → mark a b ≡ neither → position_after_end_of_long_comment (a ∷ (b ∷ s)) ≡ 1 + position_after_end_of_long_comment (b ∷ s)
+unfolding position_after_end_of_long_comment long_comment
 position-neither a b s e =
-    ap (λ t. or_else (suc (suc (length s))) (atMark t 0 (λ k. longComment k s) (λ k. longComment k (b ∷ s)))) e ∙ by_end (longComment 0 (b ∷ s))
+    ap (λ t. or_else (suc (suc (length s))) (at_mark t 0 (λ k. long_comment k s) (λ k. long_comment k (b ∷ s)))) e ∙ by_end (long_comment 0 (b ∷ s))
   where
     by_end : (r : Option ℕ) → or_else (suc (suc (length s))) (plus 1 r) ≡ 1 + or_else (suc (length s)) r
     by_end none = omega arith

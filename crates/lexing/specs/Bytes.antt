@@ -18,30 +18,30 @@ one_of [] b = false
 one_of (a ∷ w) b = eqb b a || one_of w b
 
 -- space, tab, CR, LF
-unfoldable pub isSpace : ℕ → Bool
-isSpace b = one_of (32 ∷ 9 ∷ 13 ∷ 10 ∷ []) b
+unfoldable pub is_space : ℕ → Bool
+is_space b = one_of (32 ∷ 9 ∷ 13 ∷ 10 ∷ []) b
 
 -- `0` to `9`
-unfoldable pub isDigit : ℕ → Bool
-isDigit b = between 48 57 b
+unfoldable pub is_digit : ℕ → Bool
+is_digit b = between 48 57 b
 
 -- an ASCII letter or `%`
-unfoldable pub canStartIdentifierChar : ℕ → Bool
-canStartIdentifierChar b = between 97 122 b || between 65 90 b || eqb b 37
+unfoldable pub can_start_identifier_char : ℕ → Bool
+can_start_identifier_char b = between 97 122 b || between 65 90 b || eqb b 37
 
 -- those, digits, `_`, `$` and `.`
-unfoldable pub identifierChar : ℕ → Bool
-unfolding canStartIdentifierChar isDigit
-identifierChar b = canStartIdentifierChar b || isDigit b || one_of (95 ∷ 36 ∷ 46 ∷ []) b
+unfoldable pub identifier_char : ℕ → Bool
+unfolding can_start_identifier_char is_digit
+identifier_char b = can_start_identifier_char b || is_digit b || one_of (95 ∷ 36 ∷ 46 ∷ []) b
 
 -- those, and `+-*/@#!^`
-unfoldable pub customLiteralChar : ℕ → Bool
-unfolding identifierChar
-customLiteralChar b = identifierChar b || one_of (43 ∷ 45 ∷ 42 ∷ 47 ∷ 64 ∷ 35 ∷ 33 ∷ 94 ∷ []) b
+unfoldable pub custom_literal_char : ℕ → Bool
+unfolding identifier_char
+custom_literal_char b = identifier_char b || one_of (43 ∷ 45 ∷ 42 ∷ 47 ∷ 64 ∷ 35 ∷ 33 ∷ 94 ∷ []) b
 
 -- anything except a line end
-unfoldable pub notNewline : ℕ → Bool
-notNewline b = not (eqb b 10)
+unfoldable pub not_newline : ℕ → Bool
+not_newline b = not (eqb b 10)
 
 -- `CharTest(p).Rep()`: how many bytes from the start on satisfy p
 unfoldable pub run : (ℕ → Bool) → List ℕ → ℕ
@@ -55,8 +55,8 @@ starts_with (a ∷ w) [] = false
 starts_with (a ∷ w) (b ∷ s) = eqb a b && starts_with w s
 
 -- the same bytes
-unfoldable pub sameBytes : List ℕ → List ℕ → Bool
-sameBytes [] [] = true
-sameBytes [] (b ∷ s) = false
-sameBytes (a ∷ w) [] = false
-sameBytes (a ∷ w) (b ∷ s) = eqb b a && sameBytes w s
+unfoldable pub same_bytes : List ℕ → List ℕ → Bool
+same_bytes [] [] = true
+same_bytes [] (b ∷ s) = false
+same_bytes (a ∷ w) [] = false
+same_bytes (a ∷ w) (b ∷ s) = eqb b a && same_bytes w s

@@ -3,9 +3,9 @@ use Rattle.std.specs.Prelude.{◌≡◌, refl, List, [], ◌∷◌, ℕ}
 use Prim.Native.Char.{code}
 use Prim.Native.String.{String, [] as end, ◌∷◌ as ◌then◌}
 use Rattle.lexing.specs.Answer.{ok, none, refused}
-use Rattle.lexing.specs.Bytes.{isSpace, isDigit, canStartIdentifierChar, identifierChar, customLiteralChar, notNewline, run, starts_with, sameBytes}
-use Rattle.lexing.specs.Blanks.{passed, mark, longComment, positionAfterEndOfLongComment, blank, blanksFrom, W}
-use Rattle.lexing.specs.Tokens.{lexeme, identifierLength, parseId, parseCustomLiteral, keyword, sign, signNotPrefix, natural, decimal}
+use Rattle.lexing.specs.Bytes.{is_space, is_digit, can_start_identifier_char, identifier_char, custom_literal_char, not_newline, run, starts_with, same_bytes}
+use Rattle.lexing.specs.Blanks.{passed, mark, long_comment, position_after_end_of_long_comment, blank, blanks_from, W}
+use Rattle.lexing.specs.Tokens.{lexeme, identifier_length, parse_id, parse_custom_literal, keyword, sign, sign_not_prefix, natural, decimal}
 
 -- the bytes of an ASCII text
 abbrev pub ascii : String → List ℕ
@@ -14,7 +14,7 @@ ascii (c then s) = code c ∷ ascii s
 
 -- `unfolding computed` opens the crate's definitions, so that they compute on a closed text
 unfoldable pub computed : Unit {0}
-unfolding isSpace isDigit canStartIdentifierChar identifierChar customLiteralChar notNewline run starts_with sameBytes mark longComment positionAfterEndOfLongComment blank blanksFrom W lexeme identifierLength parseId parseCustomLiteral keyword sign signNotPrefix natural decimal
+unfolding is_space is_digit can_start_identifier_char identifier_char custom_literal_char not_newline run starts_with same_bytes mark long_comment position_after_end_of_long_comment blank blanks_from W lexeme identifier_length parse_id parse_custom_literal keyword sign sign_not_prefix natural decimal
 computed = tt
 
 -- ---- blanks
@@ -51,11 +51,11 @@ spaces = refl
 -- ---- words
 
 -- `%` continues a name, and starts one
-percent : parseId (ascii "a%b c") ≡ ok 3 4
+percent : parse_id (ascii "a%b c") ≡ ok 3 4
 unfolding computed
 percent = refl
 
-percent-first : parseId (ascii "%_$.9//") ≡ ok 5 7
+percent-first : parse_id (ascii "%_$.9//") ≡ ok 5 7
 unfolding computed
 percent-first = refl
 
@@ -91,12 +91,12 @@ no-end-check = refl
 -- ---- custom literals and signs
 
 -- `/` and `*` are literal characters
-literal : parseCustomLiteral (ascii "a/**/:int") ≡ ok 5 5
+literal : parse_custom_literal (ascii "a/**/:int") ≡ ok 5 5
 unfolding computed
 literal = refl
 
 -- no blank is taken after a literal
-literal-blank : parseCustomLiteral (ascii "a :int") ≡ ok 1 1
+literal-blank : parse_custom_literal (ascii "a :int") ≡ ok 1 1
 unfolding computed
 literal-blank = refl
 
@@ -105,6 +105,6 @@ inside : sign (ascii ":") (ascii ":= 1") ≡ ok 0 1
 unfolding computed
 inside = refl
 
-excluded : signNotPrefix (ascii ":") (ascii ":=") (ascii ":= 1") ≡ none
+excluded : sign_not_prefix (ascii ":") (ascii ":=") (ascii ":= 1") ≡ none
 unfolding computed
 excluded = refl

@@ -2,10 +2,10 @@
 use Rattle.std.specs.Prelude.{◌≡◌, refl, Bool, true, false, ◌&&◌, List, [], ◌∷◌, ◌++◌, ℕ, zero, suc, ◌+◌, ◌≤◌, ◌<◌, length, take, drop, get_or, leb, eqb}
 use Rattle.std.proofs.Common.{sym, ap, ◌∙◌, zero-le, suc-le-suc, arith, le_refl, length-drop, length-take, drop-drop, eqb-true, eq-eqb}
 use Rattle.std.proofs.lemmas.Bool.{false≢true}
-use Rattle.lexing.specs.Answer.{Answer, ok, none, refused, largeNatural, pick}
-use Rattle.lexing.specs.Bytes.{run, starts_with, sameBytes, isDigit, identifierChar, canStartIdentifierChar, customLiteralChar}
+use Rattle.lexing.specs.Answer.{Answer, ok, none, refused, large_natural, pick}
+use Rattle.lexing.specs.Bytes.{run, starts_with, same_bytes, is_digit, identifier_char, can_start_identifier_char, custom_literal_char}
 use Rattle.lexing.specs.Blanks.{Blanks, passed, unclosed, W, blank}
-use Rattle.lexing.specs.Tokens.{closed, lexeme, unlessEmpty, identifierLength, parseId, parseCustomLiteral, keyword, sign, signNotPrefix, natural, decimal, mostNatural}
+use Rattle.lexing.specs.Tokens.{closed, lexeme, unless_empty, identifier_length, parse_id, parse_custom_literal, keyword, sign, sign_not_prefix, natural, decimal, most_natural}
 use Rattle.lexing.specs.RunLaws.{pick-case, run_inside, run_ends}
 use Rattle.lexing.specs.BlankLaws.{W-inside, W-stops, reach}
 
@@ -27,7 +27,7 @@ lexeme-within v k n s h l = by-blanks (W (drop n s)) (W-inside (drop n s))
 -- What the readers of tokens answer: nothing, a natural that is too large, or a token of at least k bytes with the blanks after it.
 pub data Token (k : ℕ) (s : List ℕ) : Answer ℕ → Type 0 where
   absent : Token k s none
-  too_large : Token k s (refused largeNatural 0)
+  too_large : Token k s (refused large_natural 0)
   present : (v n : ℕ) → k ≤ n → n ≤ length s → Token k s (lexeme v n s)
 
 -- a token lies inside the text
@@ -58,69 +58,69 @@ token-stops too_large = tt
 token-stops {k} {s} (present v n h l) = lexeme-stops v n s
 
 -- a token of no bytes is none
-pub unlessEmpty-none : (n : ℕ) (r : Answer ℕ) → n ≡ 0 → none ≡ unlessEmpty n r
-unlessEmpty-none zero r h = refl
-unlessEmpty-none (suc n) r h = absurd (omega arith)
+pub unless_empty-none : (n : ℕ) (r : Answer ℕ) → n ≡ 0 → none ≡ unless_empty n r
+unless_empty-none zero r h = refl
+unless_empty-none (suc n) r h = absurd (omega arith)
 
 -- one of some bytes is read
-pub unlessEmpty-some : (n : ℕ) (r : Answer ℕ) → (n ≡ 0 → ⊥) → r ≡ unlessEmpty n r
-unlessEmpty-some zero r h = absurd (h refl)
-unlessEmpty-some (suc n) r h = refl
+pub unless_empty-some : (n : ℕ) (r : Answer ℕ) → (n ≡ 0 → ⊥) → r ≡ unless_empty n r
+unless_empty-some zero r h = absurd (h refl)
+unless_empty-some (suc n) r h = refl
 
 -- either way the answer is that of a token
-unlessEmpty-token : (n k : ℕ) (s : List ℕ) (r : Answer ℕ) → (0 < n → Token k s r) → Token k s (unlessEmpty n r)
-unlessEmpty-token zero k s r f = absent
-unlessEmpty-token (suc n) k s r f = f (omega arith)
+unless_empty-token : (n k : ℕ) (s : List ℕ) (r : Answer ℕ) → (0 < n → Token k s r) → Token k s (unless_empty n r)
+unless_empty-token zero k s r f = absent
+unless_empty-token (suc n) k s r f = f (omega arith)
 
 -- an identifier lies inside the text
-pub identifier-inside : (s : List ℕ) → identifierLength s ≤ length s
-unfolding identifierLength
+pub identifier-inside : (s : List ℕ) → identifier_length s ≤ length s
+unfolding identifier_length
 identifier-inside [] = le_refl _
-identifier-inside (a ∷ s) = pick-case (λ n. n ≤ suc (length s)) (canStartIdentifierChar a) (λ _. suc-le-suc (run_inside identifierChar s)) (λ _. zero-le)
+identifier-inside (a ∷ s) = pick-case (λ n. n ≤ suc (length s)) (can_start_identifier_char a) (λ _. suc-le-suc (run_inside identifier_char s)) (λ _. zero-le)
 
 -- an identifier is maximal: its first byte can start one, all its bytes are identifier characters, and the byte after it is none
-pub identifier-starts : (s : List ℕ) → 0 < identifierLength s → canStartIdentifierChar (get_or s 0 0) ≡ true
-unfolding identifierLength
+pub identifier-starts : (s : List ℕ) → 0 < identifier_length s → can_start_identifier_char (get_or s 0 0) ≡ true
+unfolding identifier_length
 identifier-starts [] h = absurd (omega arith)
-identifier-starts (a ∷ s) h = pick-case (λ n. 0 < n → canStartIdentifierChar a ≡ true) (canStartIdentifierChar a) (λ e _. e) (λ _ h. absurd (omega arith)) h
+identifier-starts (a ∷ s) h = pick-case (λ n. 0 < n → can_start_identifier_char a ≡ true) (can_start_identifier_char a) (λ e _. e) (λ _ h. absurd (omega arith)) h
 
 -- the byte after an identifier cannot continue it
-pub identifier-maximal : (s : List ℕ) → 0 < identifierLength s → identifierChar (get_or s (identifierLength s) 0) ≡ false
-unfolding identifierLength identifierChar
+pub identifier-maximal : (s : List ℕ) → 0 < identifier_length s → identifier_char (get_or s (identifier_length s) 0) ≡ false
+unfolding identifier_length identifier_char
 identifier-maximal [] h = absurd (omega arith)
 identifier-maximal (a ∷ s) h =
-    pick-case (λ n. 0 < n → identifierChar (get_or (a ∷ s) n 0) ≡ false) (canStartIdentifierChar a) (λ _ _. run_ends identifierChar refl s)
+    pick-case (λ n. 0 < n → identifier_char (get_or (a ∷ s) n 0) ≡ false) (can_start_identifier_char a) (λ _ _. run_ends identifier_char refl s)
     (λ _ h. absurd (omega arith)) h
 
 -- a name is a token of at least one byte
-pub parseId-token : (s : List ℕ) → Token 1 s (parseId s)
-unfolding parseId
-parseId-token s = unlessEmpty-token (identifierLength s) 1 s _ (λ h. present _ _ h (identifier-inside s))
+pub parse_id-token : (s : List ℕ) → Token 1 s (parse_id s)
+unfolding parse_id
+parse_id-token s = unless_empty-token (identifier_length s) 1 s _ (λ h. present _ _ h (identifier-inside s))
 
 -- so it lies inside the text
-pub parseId-within : (s : List ℕ) → Within 1 (length s) (parseId s)
-parseId-within s = token-within (parseId-token s)
+pub parse_id-within : (s : List ℕ) → Within 1 (length s) (parse_id s)
+parse_id-within s = token-within (parse_id-token s)
 
 -- a custom literal's text has at least one byte and lies inside the text
-pub parseCustomLiteral-within : (s : List ℕ) → Within 1 (length s) (parseCustomLiteral s)
-unfolding parseCustomLiteral
-parseCustomLiteral-within s = by_count (run customLiteralChar s) (run_inside customLiteralChar s)
+pub parse_custom_literal-within : (s : List ℕ) → Within 1 (length s) (parse_custom_literal s)
+unfolding parse_custom_literal
+parse_custom_literal-within s = by_count (run custom_literal_char s) (run_inside custom_literal_char s)
   where
-    by_count : (n : ℕ) → n ≤ length s → Within 1 (length s) (unlessEmpty n (ok n n))
+    by_count : (n : ℕ) → n ≤ length s → Within 1 (length s) (unless_empty n (ok n n))
     by_count zero h = tt
     by_count (suc n) h = (omega arith, h)
 
 -- a natural is maximal: the byte after its digits is none
-pub natural-maximal : (s : List ℕ) → isDigit (get_or s (run isDigit s) 0) ≡ false
-unfolding isDigit
-natural-maximal s = run_ends isDigit refl s
+pub natural-maximal : (s : List ℕ) → is_digit (get_or s (run is_digit s) 0) ≡ false
+unfolding is_digit
+natural-maximal s = run_ends is_digit refl s
 
 -- a natural is a token of at least one byte
 pub natural-token : (s : List ℕ) → Token 1 s (natural s)
 unfolding natural
 natural-token s =
-    unlessEmpty-token (run isDigit s) 1 s _
-    (λ h. pick-case (Token 1 s) (leb (decimal 0 (take (run isDigit s) s)) mostNatural) (λ _. present _ _ h (run_inside isDigit s)) (λ _. too_large))
+    unless_empty-token (run is_digit s) 1 s _
+    (λ h. pick-case (Token 1 s) (leb (decimal 0 (take (run is_digit s) s)) most_natural) (λ _. present _ _ h (run_inside is_digit s)) (λ _. too_large))
 
 -- so it lies inside the text
 pub natural-within : (s : List ℕ) → Within 1 (length s) (natural s)
@@ -132,68 +132,68 @@ and-true true b e = (refl, e)
 and-true false b e = absurd (false≢true cc)
 
 -- texts that are the same bytes are equal
-pub sameBytes-true : (a b : List ℕ) → sameBytes a b ≡ true → a ≡ b
-unfolding sameBytes
-sameBytes-true [] [] e = refl
-sameBytes-true [] (y ∷ b) e = absurd (false≢true cc)
-sameBytes-true (x ∷ a) [] e = absurd (false≢true cc)
-sameBytes-true (x ∷ a) (y ∷ b) e =
-    let (p, q) = and-true (eqb y x) (sameBytes a b) e in
+pub same_bytes-true : (a b : List ℕ) → same_bytes a b ≡ true → a ≡ b
+unfolding same_bytes
+same_bytes-true [] [] e = refl
+same_bytes-true [] (y ∷ b) e = absurd (false≢true cc)
+same_bytes-true (x ∷ a) [] e = absurd (false≢true cc)
+same_bytes-true (x ∷ a) (y ∷ b) e =
+    let (p, q) = and-true (eqb y x) (same_bytes a b) e in
     let h : y ≡ x = eqb-true y x p in
-    let t : a ≡ b = sameBytes-true a b q in cc
+    let t : a ≡ b = same_bytes-true a b q in cc
 
 -- and equal texts are the same bytes
-pub sameBytes-refl : (a : List ℕ) → sameBytes a a ≡ true
-unfolding sameBytes
-sameBytes-refl [] = refl
-sameBytes-refl (x ∷ a) = rw (eq-eqb x x refl) (sameBytes-refl a)
+pub same_bytes-refl : (a : List ℕ) → same_bytes a a ≡ true
+unfolding same_bytes
+same_bytes-refl [] = refl
+same_bytes-refl (x ∷ a) = rw (eq-eqb x x refl) (same_bytes-refl a)
 
 -- w stands at the start: the text is w and the rest
-pub startsWith-true : (w s : List ℕ) → starts_with w s ≡ true → s ≡ w ++ drop (length w) s
+pub starts_with-true : (w s : List ℕ) → starts_with w s ≡ true → s ≡ w ++ drop (length w) s
 unfolding starts_with
-startsWith-true [] s e = refl
-startsWith-true (a ∷ w) [] e = absurd (false≢true cc)
-startsWith-true (a ∷ w) (b ∷ s) e =
+starts_with-true [] s e = refl
+starts_with-true (a ∷ w) [] e = absurd (false≢true cc)
+starts_with-true (a ∷ w) (b ∷ s) e =
     let (p, q) = and-true (eqb a b) (starts_with w s) e in
     let h : a ≡ b = eqb-true a b p in
-    let t : s ≡ w ++ drop (length w) s = startsWith-true w s q in cc
+    let t : s ≡ w ++ drop (length w) s = starts_with-true w s q in cc
 
 -- what stands at the start is no longer than the text
-pub startsWith-inside : (w s : List ℕ) → starts_with w s ≡ true → length w ≤ length s
+pub starts_with-inside : (w s : List ℕ) → starts_with w s ≡ true → length w ≤ length s
 unfolding starts_with
-startsWith-inside [] s e = zero-le
-startsWith-inside (a ∷ w) [] e = absurd (false≢true cc)
-startsWith-inside (a ∷ w) (b ∷ s) e = suc-le-suc (startsWith-inside w s (and-true (eqb a b) (starts_with w s) e).1)
+starts_with-inside [] s e = zero-le
+starts_with-inside (a ∷ w) [] e = absurd (false≢true cc)
+starts_with-inside (a ∷ w) (b ∷ s) e = suc-le-suc (starts_with-inside w s (and-true (eqb a b) (starts_with w s) e).1)
 
 -- a sign is a token of its own bytes
 pub sign-token : (w s : List ℕ) → Token (length w) s (sign w s)
 unfolding sign
-sign-token w s = pick-case (Token (length w) s) (starts_with w s) (λ e. present _ _ (le_refl _) (startsWith-inside w s e)) (λ _. absent)
+sign-token w s = pick-case (Token (length w) s) (starts_with w s) (λ e. present _ _ (le_refl _) (starts_with-inside w s e)) (λ _. absent)
 
 -- so it lies inside the text
 pub sign-within : (w s : List ℕ) → Within (length w) (length s) (sign w s)
 sign-within w s = token-within (sign-token w s)
 
 -- the same of a sign that is no prefix of a longer one
-pub signNotPrefix-token : (w longer s : List ℕ) → Token (length w) s (signNotPrefix w longer s)
-unfolding signNotPrefix
-signNotPrefix-token w longer s = pick-case (Token (length w) s) (starts_with longer s) (λ _. absent) (λ _. sign-token w s)
+pub sign_not_prefix-token : (w longer s : List ℕ) → Token (length w) s (sign_not_prefix w longer s)
+unfolding sign_not_prefix
+sign_not_prefix-token w longer s = pick-case (Token (length w) s) (starts_with longer s) (λ _. absent) (λ _. sign-token w s)
 
 -- so it lies inside the text
-pub signNotPrefix-within : (w longer s : List ℕ) → Within (length w) (length s) (signNotPrefix w longer s)
-signNotPrefix-within w longer s = token-within (signNotPrefix-token w longer s)
+pub sign_not_prefix-within : (w longer s : List ℕ) → Within (length w) (length s) (sign_not_prefix w longer s)
+sign_not_prefix-within w longer s = token-within (sign_not_prefix-token w longer s)
 
 -- a keyword is an identifier equal to its bytes
-pub keyword-is : (w s : List ℕ) → sameBytes (take (identifierLength s) s) w ≡ true → (take (identifierLength s) s ≡ w) × (identifierLength s ≡ length w)
+pub keyword-is : (w s : List ℕ) → same_bytes (take (identifier_length s) s) w ≡ true → (take (identifier_length s) s ≡ w) × (identifier_length s ≡ length w)
 keyword-is w s e =
-    let h : take (identifierLength s) s ≡ w = sameBytes-true _ w e in
-    (h, omega (arith, length-take (identifierLength s) s, ap length h, identifier-inside s))
+    let h : take (identifier_length s) s ≡ w = same_bytes-true _ w e in
+    (h, omega (arith, length-take (identifier_length s) s, ap length h, identifier-inside s))
 
 -- a keyword is a token of its own bytes
 pub keyword-token : (w s : List ℕ) → Token (length w) s (keyword w s)
 unfolding keyword
 keyword-token w s =
-    pick-case (Token (length w) s) (sameBytes (take (identifierLength s) s) w)
+    pick-case (Token (length w) s) (same_bytes (take (identifier_length s) s) w)
     (λ e. present _ _ (omega (arith, (keyword-is w s e).1)) (identifier-inside s)) (λ _. absent)
 
 -- so it lies inside the text
@@ -209,30 +209,30 @@ lexeme-value u v n s {w} {m} e = by-blanks (W (drop n s)) e
     by-blanks (passed k) e = (cc, let h : n + k ≡ m = cc in ap (ok v) h)
     by-blanks (unclosed k) e = absurd (false≢true cc)
 
--- the value of `parseId` is the identifier's length
-pub parseId-value : (s : List ℕ) {v n : ℕ} → parseId s ≡ ok v n → (identifierLength s ≡ v) × (lexeme v v s ≡ ok v n)
-unfolding parseId
-parseId-value s {v} {n} e = by_length (identifierLength s) e
+-- the value of `parse_id` is the identifier's length
+pub parse_id-value : (s : List ℕ) {v n : ℕ} → parse_id s ≡ ok v n → (identifier_length s ≡ v) × (lexeme v v s ≡ ok v n)
+unfolding parse_id
+parse_id-value s {v} {n} e = by_length (identifier_length s) e
   where
-    by_length : (k : ℕ) → unlessEmpty k (lexeme k k s) ≡ ok v n → (k ≡ v) × (lexeme v v s ≡ ok v n)
+    by_length : (k : ℕ) → unless_empty k (lexeme k k s) ≡ ok v n → (k ≡ v) × (lexeme v v s ≡ ok v n)
     by_length zero e = absurd (false≢true cc)
     by_length (suc k) e = let h : suc k ≡ v = (lexeme-value (suc k) 0 (suc k) s e).0 in (h, rw h at e)
 
--- where a keyword stands `parseId` reads its bytes, and where `parseId` reads them the keyword stands
-pub keyword-parseId : (w s : List ℕ) {v n : ℕ} → 0 < length w → keyword w s ≡ ok v n → (parseId s ≡ ok (length w) n) × (take (length w) s ≡ w)
-unfolding keyword parseId
-keyword-parseId w s {v} {n} h e = by-test (sameBytes (take (identifierLength s) s) w) refl e
+-- where a keyword stands `parse_id` reads its bytes, and where `parse_id` reads them the keyword stands
+pub keyword-parse_id : (w s : List ℕ) {v n : ℕ} → 0 < length w → keyword w s ≡ ok v n → (parse_id s ≡ ok (length w) n) × (take (length w) s ≡ w)
+unfolding keyword parse_id
+keyword-parse_id w s {v} {n} h e = by-test (same_bytes (take (identifier_length s) s) w) refl e
   where
-    by-test : (t : Bool) → sameBytes (take (identifierLength s) s) w ≡ t → pick t (lexeme 0 (identifierLength s) s) none ≡ ok v n
-        → (unlessEmpty (identifierLength s) (lexeme (identifierLength s) (identifierLength s) s) ≡ ok (length w) n) × (take (length w) s ≡ w)
+    by-test : (t : Bool) → same_bytes (take (identifier_length s) s) w ≡ t → pick t (lexeme 0 (identifier_length s) s) none ≡ ok v n
+        → (unless_empty (identifier_length s) (lexeme (identifier_length s) (identifier_length s) s) ≡ ok (length w) n) × (take (length w) s ≡ w)
     by-test true q e =
         let (p, l) = keyword-is w s q in
-        (rw l (sym (unlessEmpty-some (length w) _ (λ z. omega arith)) ∙ (lexeme-value 0 (length w) (length w) s (rw l at e)).1), rw l at p)
+        (rw l (sym (unless_empty-some (length w) _ (λ z. omega arith)) ∙ (lexeme-value 0 (length w) (length w) s (rw l at e)).1), rw l at p)
     by-test false q e = absurd (false≢true cc)
 
 -- and the identifier with these bytes is the keyword
-pub parseId-keyword : (w s : List ℕ) {n : ℕ} → parseId s ≡ ok (length w) n → take (length w) s ≡ w → keyword w s ≡ ok 0 n
+pub parse_id-keyword : (w s : List ℕ) {n : ℕ} → parse_id s ≡ ok (length w) n → take (length w) s ≡ w → keyword w s ≡ ok 0 n
 unfolding keyword
-parseId-keyword w s {n} e p =
-    let (l, q) = parseId-value s e in
-    rw (l, p, sameBytes-refl w) (lexeme-value (length w) 0 (length w) s q).1
+parse_id-keyword w s {n} e p =
+    let (l, q) = parse_id-value s e in
+    rw (l, p, same_bytes-refl w) (lexeme-value (length w) 0 (length w) s q).1

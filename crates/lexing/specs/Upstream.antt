@@ -6,15 +6,15 @@ use Rattle.std.proofs.Math.Path.{ap}
 use Rattle.std.proofs.lemmas.Bool.{false≢true}
 use Rattle.std.proofs.Math.Seq.{take-append_seam, slice, slice-cons, length-slice}
 use Rattle.lexing.specs.Answer.{Answer, none, pick}
-use Rattle.lexing.specs.Bytes.{identifierChar, canStartIdentifierChar, run, starts_with, sameBytes}
-use Rattle.lexing.specs.Tokens.{lexeme, identifierLength, keyword}
-use Rattle.lexing.specs.Blanks.{closing, opening, neither, mark, positionAfterEndOfLongComment}
+use Rattle.lexing.specs.Bytes.{identifier_char, can_start_identifier_char, run, starts_with, same_bytes}
+use Rattle.lexing.specs.Tokens.{lexeme, identifier_length, keyword}
+use Rattle.lexing.specs.Blanks.{closing, opening, neither, mark, position_after_end_of_long_comment}
 use Rattle.lexing.specs.BlankLaws.{position-inside, position-short, position-closing, position-opening, position-neither}
-use Rattle.lexing.specs.TokenLaws.{sameBytes-refl, startsWith-true, identifier-maximal, keyword-is}
+use Rattle.lexing.specs.TokenLaws.{same_bytes-refl, starts_with-true, identifier-maximal, keyword-is}
 
 -- the place after the long comment that is open at `start`, as the code's contract has it
-unfoldable pub positionFrom : List ℕ → ℕ → ℕ → ℕ
-positionFrom input start end = start + positionAfterEndOfLongComment (take (end - start) (drop start input))
+unfoldable pub position_from : List ℕ → ℕ → ℕ → ℕ
+position_from input start end = start + position_after_end_of_long_comment (take (end - start) (drop start input))
 
 part : (s : List ℕ) (start end : ℕ) → start ≤ end → end ≤ length s → take (end - start) (drop start s) ≡ slice start end s
 part s zero end h k = let z : end - 0 ≡ end = omega arith in ap (λ n. take n s) z
@@ -25,16 +25,16 @@ part (a ∷ s) (suc start) (suc end) h k =
     ap (λ n. take n (drop start s)) z ∙ part s start end (omega arith) (omega arith)
 
 module _ (input : List ℕ) (start end : ℕ) (h : start ≤ end) (k : end ≤ length input) where
-  from-slice : positionFrom input start end ≡ start + positionAfterEndOfLongComment (slice start end input)
-  unfolding positionFrom
-  from-slice = ap (λ s. start + positionAfterEndOfLongComment s) (part input start end h k)
+  from-slice : position_from input start end ≡ start + position_after_end_of_long_comment (slice start end input)
+  unfolding position_from
+  from-slice = ap (λ s. start + position_after_end_of_long_comment s) (part input start end h k)
 
   -- `start <= len <= end`
-  pub position-range : (start ≤ positionFrom input start end) × (positionFrom input start end ≤ end)
+  pub position-range : (start ≤ position_from input start end) × (position_from input start end ≤ end)
   position-range =
       omega (arith, from-slice, position-inside (slice start end input), length-slice start end input k)
 
-  pub position-last : end ≤ start + 2 → positionFrom input start end ≡ end
+  pub position-last : end ≤ start + 2 → position_from input start end ≡ end
   position-last l =
       let n : length (slice start end input) ≡ end - start = length-slice start end input k in
       omega (arith, from-slice, position-short (slice start end input) (omega arith))
@@ -43,39 +43,39 @@ module _ (input : List ℕ) (start end : ℕ) (h : start + 2 < end) (k : end ≤
   one : (i j : ℕ) → j ≡ i + 1 → i < end → slice i end input ≡ get_or input i 0 ∷ slice j end input
   one i j e l = rw (e, add-one) (slice-cons i end input 0 l k)
 
-  two : positionFrom input start end
-      ≡ start + positionAfterEndOfLongComment (get_or input start 0 ∷ (get_or input (start + 1) 0 ∷ slice (start + 2) end input))
+  two : position_from input start end
+      ≡ start + position_after_end_of_long_comment (get_or input start 0 ∷ (get_or input (start + 1) 0 ∷ slice (start + 2) end input))
   two =
       from-slice input start end (omega arith) k
-      ∙ ap (λ s. start + positionAfterEndOfLongComment s)
+      ∙ ap (λ s. start + position_after_end_of_long_comment s)
       (one start (start + 1) refl (omega arith) ∙ ap (λ s. get_or input start 0 ∷ s) (one (start + 1) (start + 2) (omega arith) (omega arith)))
 
-  pub position-at-closing : mark (get_or input start 0) (get_or input (start + 1) 0) ≡ closing → positionFrom input start end ≡ start + 2
+  pub position-at-closing : mark (get_or input start 0) (get_or input (start + 1) 0) ≡ closing → position_from input start end ≡ start + 2
   position-at-closing e = two ∙ ap (λ n. start + n) (position-closing _ _ _ e)
 
   pub position-at-opening : mark (get_or input start 0) (get_or input (start + 1) 0) ≡ opening
-      → positionFrom input start end ≡ positionFrom input (positionFrom input (start + 2) end) end
+      → position_from input start end ≡ position_from input (position_from input (start + 2) end) end
   position-at-opening e =
       let s = slice (start + 2) end input in
-      let n : ℕ = positionAfterEndOfLongComment s in
-      let q : positionFrom input (start + 2) end ≡ start + 2 + n = from-slice input (start + 2) end (omega arith) k in
+      let n : ℕ = position_after_end_of_long_comment s in
+      let q : position_from input (start + 2) end ≡ start + 2 + n = from-slice input (start + 2) end (omega arith) k in
       let l : start + 2 + n ≤ end = omega (arith, position-range input (start + 2) end (omega arith) k) in
-      let r : positionFrom input (start + 2 + n) end ≡ start + 2 + n + positionAfterEndOfLongComment (drop n s) =
-      from-slice input (start + 2 + n) end l k ∙ ap (λ t. start + 2 + n + positionAfterEndOfLongComment t) (sym (drop-drop n (start + 2) (take end input))) in
+      let r : position_from input (start + 2 + n) end ≡ start + 2 + n + position_after_end_of_long_comment (drop n s) =
+      from-slice input (start + 2 + n) end l k ∙ ap (λ t. start + 2 + n + position_after_end_of_long_comment t) (sym (drop-drop n (start + 2) (take end input))) in
       rw q (omega (arith, two, r, position-opening _ _ s e))
 
-  pub position-at-neither : mark (get_or input start 0) (get_or input (start + 1) 0) ≡ neither → positionFrom input start end ≡ positionFrom input (start + 1) end
+  pub position-at-neither : mark (get_or input start 0) (get_or input (start + 1) 0) ≡ neither → position_from input start end ≡ position_from input (start + 1) end
   position-at-neither e =
       let s = slice (start + 2) end input in
-      let q : positionFrom input (start + 1) end ≡ start + 1 + positionAfterEndOfLongComment (get_or input (start + 1) 0 ∷ s) =
+      let q : position_from input (start + 1) end ≡ start + 1 + position_after_end_of_long_comment (get_or input (start + 1) 0 ∷ s) =
       from-slice input (start + 1) end (omega arith) k
-      ∙ ap (λ t. start + 1 + positionAfterEndOfLongComment t) (one (start + 1) (start + 2) (omega arith) (omega arith)) in
+      ∙ ap (λ t. start + 1 + position_after_end_of_long_comment t) (one (start + 1) (start + 2) (omega arith) (omega arith)) in
       omega (arith, two, position-neither _ (get_or input (start + 1) 0) s e)
 
 -- ---- `T(s)`
 
 unfoldable pub T : List ℕ → List ℕ → Answer ℕ
-T w s = pick (starts_with w s && not (identifierChar (get_or s (length w) 0))) (lexeme 0 (length w) s) none
+T w s = pick (starts_with w s && not (identifier_char (get_or s (length w) 0))) (lexeme 0 (length w) s) none
 
 -- a run ends where the bytes after it fail the test
 pub run-append : (p : ℕ → Bool) (w r : List ℕ) → run p w ≡ length w → p (get_or r 0 0) ≡ false → run p (w ++ r) ≡ length w
@@ -89,49 +89,49 @@ run-append p (a ∷ w) r h e = by-test (p a) refl h (run-append p w r)
     by-test true q h f = let i : run p w ≡ length w = omega arith in let j = f i e in rw (q, run) (ap suc j)
     by-test false q h f = absurd (omega arith)
 
-pub identifier-append : (w r : List ℕ) → 0 < length w → identifierLength w ≡ length w → identifierChar (get_or r 0 0) ≡ false
-    → identifierLength (w ++ r) ≡ length w
-unfolding identifierLength
+pub identifier-append : (w r : List ℕ) → 0 < length w → identifier_length w ≡ length w → identifier_char (get_or r 0 0) ≡ false
+    → identifier_length (w ++ r) ≡ length w
+unfolding identifier_length
 identifier-append [] r h l e = absurd (omega arith)
-identifier-append (a ∷ w) r h l e = by-test (canStartIdentifierChar a) l
+identifier-append (a ∷ w) r h l e = by-test (can_start_identifier_char a) l
   where
-    by-test : (t : Bool) → pick t (suc (run identifierChar w)) 0 ≡ suc (length w) → pick t (suc (run identifierChar (w ++ r))) 0 ≡ suc (length w)
-    by-test true l = let i : run identifierChar w ≡ length w = omega arith in ap suc (run-append identifierChar w r i e)
+    by-test : (t : Bool) → pick t (suc (run identifier_char w)) 0 ≡ suc (length w) → pick t (suc (run identifier_char (w ++ r))) 0 ≡ suc (length w)
+    by-test true l = let i : run identifier_char w ≡ length w = omega arith in ap suc (run-append identifier_char w r i e)
     by-test false l = absurd (omega arith)
 
-startsWith-take : (n : ℕ) (s : List ℕ) → starts_with (take n s) s ≡ true
+starts_with-take : (n : ℕ) (s : List ℕ) → starts_with (take n s) s ≡ true
 unfolding starts_with
-startsWith-take zero s = refl
-startsWith-take (suc n) [] = refl
-startsWith-take (suc n) (a ∷ s) = rw (eq-eqb a a refl) (startsWith-take n s)
+starts_with-take zero s = refl
+starts_with-take (suc n) [] = refl
+starts_with-take (suc n) (a ∷ s) = rw (eq-eqb a a refl) (starts_with-take n s)
 
 -- of a word that is an identifier, `T` is the keyword
-pub keyword-T : (w s : List ℕ) → 0 < length w → identifierLength w ≡ length w → keyword w s ≡ T w s
+pub keyword-T : (w s : List ℕ) → 0 < length w → identifier_length w ≡ length w → keyword w s ≡ T w s
 unfolding keyword T
-keyword-T w s h l = by-test (sameBytes (take (identifierLength s) s) w) refl
+keyword-T w s h l = by-test (same_bytes (take (identifier_length s) s) w) refl
   where
     clash : (t : Bool) → t ≡ false → t ≡ true → ⊥
     clash t e f = false≢true cc
 
-    whole : starts_with w s ≡ true → identifierChar (get_or s (length w) 0) ≡ false → sameBytes (take (identifierLength s) s) w ≡ true
+    whole : starts_with w s ≡ true → identifier_char (get_or s (length w) 0) ≡ false → same_bytes (take (identifier_length s) s) w ≡ true
     whole p e =
         let r : List ℕ = drop (length w) s in
-        let q : s ≡ w ++ r = startsWith-true w s p in
+        let q : s ≡ w ++ r = starts_with-true w s p in
         let zero-on : length w + 0 ≡ length w = omega arith in
-        let f : identifierChar (get_or r 0 0) ≡ false = ap identifierChar (get_or-drop (length w) s 0 0 ∙ ap (λ i. get_or s i 0) zero-on) ∙ e in
-        let n : identifierLength s ≡ length w = ap identifierLength q ∙ identifier-append w r h l f in
-        ap (λ k. sameBytes (take k s) w) n ∙ ap (λ t. sameBytes t w) (ap (take (length w)) q ∙ take-append_seam w r) ∙ sameBytes-refl w
+        let f : identifier_char (get_or r 0 0) ≡ false = ap identifier_char (get_or-drop (length w) s 0 0 ∙ ap (λ i. get_or s i 0) zero-on) ∙ e in
+        let n : identifier_length s ≡ length w = ap identifier_length q ∙ identifier-append w r h l f in
+        ap (λ k. same_bytes (take k s) w) n ∙ ap (λ t. same_bytes t w) (ap (take (length w)) q ∙ take-append_seam w r) ∙ same_bytes-refl w
 
-    by-test : (t : Bool) → sameBytes (take (identifierLength s) s) w ≡ t
-        → pick t (lexeme 0 (identifierLength s) s) none ≡ pick (starts_with w s && not (identifierChar (get_or s (length w) 0))) (lexeme 0 (length w) s) none
+    by-test : (t : Bool) → same_bytes (take (identifier_length s) s) w ≡ t
+        → pick t (lexeme 0 (identifier_length s) s) none ≡ pick (starts_with w s && not (identifier_char (get_or s (length w) 0))) (lexeme 0 (length w) s) none
     by-test true e =
         let (p, n) = keyword-is w s e in
-        let a : starts_with w s ≡ true = rw p at (startsWith-take (identifierLength s) s) in
-        let b : identifierChar (get_or s (length w) 0) ≡ false = rw n at (identifier-maximal s (omega arith)) in
+        let a : starts_with w s ≡ true = rw p at (starts_with-take (identifier_length s) s) in
+        let b : identifier_char (get_or s (length w) 0) ≡ false = rw n at (identifier-maximal s (omega arith)) in
         rw (a, b, n)
-    by-test false e = ends (starts_with w s) (identifierChar (get_or s (length w) 0)) refl refl
+    by-test false e = ends (starts_with w s) (identifier_char (get_or s (length w) 0)) refl refl
       where
-        ends : (t u : Bool) → starts_with w s ≡ t → identifierChar (get_or s (length w) 0) ≡ u → none ≡ pick (t && not u) (lexeme 0 (length w) s) none
+        ends : (t u : Bool) → starts_with w s ≡ t → identifier_char (get_or s (length w) 0) ≡ u → none ≡ pick (t && not u) (lexeme 0 (length w) s) none
         ends true true p q = refl
         ends true false p q = absurd (clash _ e (whole p q))
         ends false u p q = refl

@@ -1,7 +1,7 @@
 // Blanks: spaces, comments to the line's end and nested long comments.
 ghost use Rattle.std.specs.Prelude.{◌≡◌, ◌-◌, ◌≤◌, length, take, drop};
-ghost use Rattle.lexing.specs.Blanks.{mark, longComment, blank, W};
-ghost use Rattle.lexing.specs.CodeAnswers.{reachOf, mark_of, end_of, Position};
+ghost use Rattle.lexing.specs.Blanks.{mark, long_comment, blank, W};
+ghost use Rattle.lexing.specs.CodeAnswers.{reach_of, mark_of, end_of, Position};
 
 use crate::bytes::{Class, is_space, run_length, starts_with};
 
@@ -50,7 +50,7 @@ pub(crate) fn mark_at(a: u8, b: u8) -> Pair
 
 // The end of a long comment whose opening mark stands before `s`.
 pub(crate) fn long_comment(s: &[u8]) -> End
-    ensures { end_of result ≡ longComment 0 s.now }
+    ensures { end_of result ≡ long_comment 0 s.now }
 {
     let mut depth: usize = 0;
     let mut i: usize = 0;
@@ -88,7 +88,7 @@ pub(crate) fn position_after_end_of_long_comment(input: &[u8], start: usize, end
 
 // The one blank at the start, `Passed(0)` where there is none.
 pub(crate) fn blank_at_start(s: &[u8]) -> Reach
-    ensures { reachOf result ≡ blank s.now }
+    ensures { reach_of result ≡ blank s.now }
 {
     if s.len() == 0 {
         return Reach::Passed(0);
@@ -109,7 +109,7 @@ pub(crate) fn blank_at_start(s: &[u8]) -> Reach
 
 // `W`: all blanks at the start.
 pub fn blanks(s: &[u8]) -> Reach
-    ensures { reachOf result ≡ W s.now }
+    ensures { reach_of result ≡ W s.now }
 {
     let mut at: usize = 0;
     loop {

@@ -1,6 +1,6 @@
 // Byte classes, runs of bytes and comparison with constant byte strings.
 ghost use Rattle.std.specs.Prelude.{◌≡◌};
-ghost use Rattle.lexing.specs.Bytes.{between, one_of, isSpace, isDigit, canStartIdentifierChar, identifierChar, customLiteralChar, run, starts_with, sameBytes};
+ghost use Rattle.lexing.specs.Bytes.{between, one_of, is_space, is_digit, can_start_identifier_char, identifier_char, custom_literal_char, run, starts_with, same_bytes};
 ghost use Rattle.lexing.specs.CodeAnswers.{class_of};
 
 // The classes that runs are made of.
@@ -32,19 +32,19 @@ pub(crate) fn one_of(b: u8, set: &[u8]) -> bool
 }
 
 pub(crate) fn is_space(b: u8) -> bool
-    ensures { result ≡ isSpace b }
+    ensures { result ≡ is_space b }
 {
     one_of(b, b" \t\r\n")
 }
 
 pub(crate) fn is_digit(b: u8) -> bool
-    ensures { result ≡ isDigit b }
+    ensures { result ≡ is_digit b }
 {
     in_range(b, b'0', b'9')
 }
 
 pub(crate) fn can_start_identifier_char(b: u8) -> bool
-    ensures { result ≡ canStartIdentifierChar b }
+    ensures { result ≡ can_start_identifier_char b }
 {
     if in_range(b, b'a', b'z') {
         return true;
@@ -56,7 +56,7 @@ pub(crate) fn can_start_identifier_char(b: u8) -> bool
 }
 
 pub(crate) fn identifier_char(b: u8) -> bool
-    ensures { result ≡ identifierChar b }
+    ensures { result ≡ identifier_char b }
 {
     if can_start_identifier_char(b) {
         return true;
@@ -68,7 +68,7 @@ pub(crate) fn identifier_char(b: u8) -> bool
 }
 
 pub(crate) fn custom_literal_char(b: u8) -> bool
-    ensures { result ≡ customLiteralChar b }
+    ensures { result ≡ custom_literal_char b }
 {
     if identifier_char(b) {
         return true;
@@ -120,7 +120,7 @@ pub(crate) fn starts_with(text: &[u8], w: &[u8]) -> bool
 
 // Whether `a` and `b` are the same bytes.
 pub fn same_bytes(a: &[u8], b: &[u8]) -> bool
-    ensures { result ≡ sameBytes a.now b.now }
+    ensures { result ≡ same_bytes a.now b.now }
 {
     if a.len() == b.len() {
         starts_with(a, b)

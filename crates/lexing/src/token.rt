@@ -44,7 +44,7 @@ pub fn lexeme(text: &[u8], value: u64, n: usize) -> Lexed
 
 // How many bytes the identifier at the start has, 0 where there is none.
 pub fn identifier_length(text: &[u8]) -> usize
-    ensures { result ≡ tokens.identifierLength text.now }
+    ensures { result ≡ tokens.identifier_length text.now }
 {
     if text.len() == 0 {
         return 0;
@@ -57,7 +57,7 @@ pub fn identifier_length(text: &[u8]) -> usize
 }
 
 pub fn parse_id(text: &[u8]) -> Lexed
-    ensures { answer_of result ≡ tokens.parseId text.now }
+    ensures { answer_of result ≡ tokens.parse_id text.now }
 {
     let size = identifier_length(text);
     if size == 0 {
@@ -67,7 +67,7 @@ pub fn parse_id(text: &[u8]) -> Lexed
 }
 
 pub fn parse_custom_literal(text: &[u8]) -> Lexed
-    ensures { answer_of result ≡ tokens.parseCustomLiteral text.now }
+    ensures { answer_of result ≡ tokens.parse_custom_literal text.now }
 {
     let n = run_length(text, Class::CustomLiteralChar);
     if n == 0 {
@@ -98,7 +98,7 @@ pub fn sym(text: &[u8], s: &[u8]) -> Lexed
 
 // `SymNotPrefix(s, [longer])`.
 pub fn sym_not_prefix(text: &[u8], s: &[u8], longer: &[u8]) -> Lexed
-    ensures { answer_of result ≡ tokens.signNotPrefix s.now longer.now text.now }
+    ensures { answer_of result ≡ tokens.sign_not_prefix s.now longer.now text.now }
 {
     if starts_with(text, longer) {
         return Lexed::None;

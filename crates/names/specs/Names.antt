@@ -4,11 +4,11 @@ use Rattle.std.specs.Prelude.{ℕ, suc, Bool, true, false, cond, List, [], ◌�
 use Rattle.tree.specs.Resolve.{part}
 
 -- how many spans are numbered, and how many bytes of a text are read
-abbrev pub mostSpans : ℕ
-mostSpans = 32768
+abbrev pub most_spans : ℕ
+most_spans = 32768
 
-abbrev pub mostBytes : ℕ
-mostBytes = 65535
+abbrev pub most_bytes : ℕ
+most_bytes = 65535
 
 -- the names of the spans; a single last word is no span
 unfoldable pub spelt : List ℕ → List ℕ → List (List ℕ)
@@ -17,7 +17,7 @@ spelt text (start ∷ []) = []
 spelt text (start ∷ len ∷ spans) = part text start len ∷ spelt text spans
 
 unfoldable pub names : List ℕ → List ℕ → List (List ℕ)
-names text spans = take mostSpans (spelt (take mostBytes text) spans)
+names text spans = take most_spans (spelt (take most_bytes text) spans)
 
 -- whether two names are equal
 unfoldable pub same : List ℕ → List ℕ → Bool

@@ -3,7 +3,7 @@
 use Rattle.std.specs.Prelude.{ℕ, zero, suc, ◌+◌, ◌*◌, ◌-◌, ◌/◌, ◌<◌, ◌≤◌, min, ◌≡◌, refl, ◌↔◌, List, [], ◌∷◌, length, get_or, take, drop}
 use Rattle.std.proofs.Common.{arith, sym, ap, ◌∙◌, ⊎_elim, length-take, length-drop, ext_get_or, get_or-take, get_or-drop, take_all, take-take}
 use Rattle.tree.specs.Resolve.{part}
-use Rattle.names.specs.Names.{mostSpans, mostBytes, spelt, names}
+use Rattle.names.specs.Names.{most_spans, most_bytes, spelt, names}
 use Rattle.names.specs.NumberLaws.{lt-or-le}
 
 pub part_length : (text : List ℕ) (s l : ℕ) → length (part text s l) ≡ min l (length text - s)
@@ -59,13 +59,13 @@ module _ (text : List ℕ) where
 abbrev pub start_in : ℕ → ℕ → ℕ
 start_in len s = min s len
 
-abbrev pub lengthIn : ℕ → ℕ → ℕ → ℕ
-lengthIn len s l = min l (len - start_in len s)
+abbrev pub length_in : ℕ → ℕ → ℕ → ℕ
+length_in len s l = min l (len - start_in len s)
 
-pub clipped : (text : List ℕ) (s l : ℕ) → part text s l ≡ part text (start_in (length text) s) (lengthIn (length text) s l)
+pub clipped : (text : List ℕ) (s l : ℕ) → part text s l ≡ part text (start_in (length text) s) (length_in (length text) s l)
 clipped text s l =
     let s' = start_in (length text) s in
-    let l' = lengthIn (length text) s l in
+    let l' = length_in (length text) s l in
     ext_get_or 0 (part text s l) (part text s' l') (omega (arith, part_length text s l, part_length text s' l'))
     (λ i h. let k : i < min l (length text - s) = omega (arith, part_length text s l) in
     let e : s ≡ s' = omega arith in
@@ -94,23 +94,23 @@ module _ (m k : ℕ) (text spans : List ℕ) where
   first-length = simp (length-take, spelt-length)
 
   first-at : (i : ℕ) → length text ≤ k → i < length (take m (spelt (take k text) spans))
-      → get_or (take m (spelt (take k text) spans)) i [] ≡ part text (start_in (length text) (get_or spans (2 * i) 0)) (lengthIn (length text) (get_or spans (2 * i) 0) (get_or spans (2 * i + 1) 0))
+      → get_or (take m (spelt (take k text) spans)) i [] ≡ part text (start_in (length text) (get_or spans (2 * i) 0)) (length_in (length text) (get_or spans (2 * i) 0) (get_or spans (2 * i + 1) 0))
   first-at i few h =
       let within : i < min m (length spans / 2) = rw (← first-length) h in
       rw (take_all k text few)
       (get_or-take m (spelt text spans) i [] (omega arith) ∙ spelt-at text spans i (omega (arith, spelt-length text spans)) ∙ clipped text (get_or spans (2 * i) 0) (get_or spans (2 * i + 1) 0))
 
-pub names-length : (text spans : List ℕ) → length (names text spans) ≡ min mostSpans (length spans / 2)
+pub names-length : (text spans : List ℕ) → length (names text spans) ≡ min most_spans (length spans / 2)
 unfolding names
-names-length = first-length mostSpans mostBytes
+names-length = first-length most_spans most_bytes
 
 -- the name of a span of a text that is read whole
-pub name-at : (text spans : List ℕ) (i : ℕ) → length text ≤ mostBytes → i < length (names text spans)
-    → get_or (names text spans) i [] ≡ part text (start_in (length text) (get_or spans (2 * i) 0)) (lengthIn (length text) (get_or spans (2 * i) 0) (get_or spans (2 * i + 1) 0))
+pub name-at : (text spans : List ℕ) (i : ℕ) → length text ≤ most_bytes → i < length (names text spans)
+    → get_or (names text spans) i [] ≡ part text (start_in (length text) (get_or spans (2 * i) 0)) (length_in (length text) (get_or spans (2 * i) 0) (get_or spans (2 * i + 1) 0))
 unfolding names
-name-at = first-at mostSpans mostBytes
+name-at = first-at most_spans most_bytes
 
 -- a text has the names of what is read of it
-pub names-cut : (text spans : List ℕ) → names (take mostBytes text) spans ≡ names text spans
+pub names-cut : (text spans : List ℕ) → names (take most_bytes text) spans ≡ names text spans
 unfolding names
-names-cut text spans = ap (λ (t : List ℕ). take mostSpans (spelt t spans)) (take-take mostBytes mostBytes text (omega arith))
+names-cut text spans = ap (λ (t : List ℕ). take most_spans (spelt t spans)) (take-take most_bytes most_bytes text (omega arith))

@@ -2,7 +2,7 @@
 use Rattle.std.specs.Prelude.{ℕ, zero, suc, ◌+◌, ◌<◌, ◌≤◌, min, ◌≡◌, refl, Bool, true, false, cond, List, [], ◌∷◌, length, get_or, take, set, eqb}
 use Rattle.std.proofs.Common.{arith, add-one, sym, ap, ◌∙◌, ⊎_elim, length-set, ext_get_or, take_all, get_or-set_same, get_or-set_other, eqb-true}
 use Rattle.std.proofs.lemmas.Bool.{eqb-false}
-use Rattle.names.specs.Names.{mostBytes, names, numbering, distinct}
+use Rattle.names.specs.Names.{most_bytes, names, numbering, distinct}
 use Rattle.tree.specs.Outline.{filled}
 use Rattle.tree.specs.OutlineLaws.{filled-length, filled_at, filled-later}
 use Rattle.names.specs.NumberLaws.{lt-or-le, numbering-length, rank-new, rank-old}
@@ -84,6 +84,6 @@ numbered bs n count ranks before after all r w =
 
 -- the numbers of a text are those of what is read of it
 pub numbered-cut : (text spans : List ℕ) (count : ℕ) (before after : List ℕ)
-    → (count ≡ length (distinct [] (names (take mostBytes text) spans))) × (after ≡ filled (numbering [] (names (take mostBytes text) spans)) before)
+    → (count ≡ length (distinct [] (names (take most_bytes text) spans))) × (after ≡ filled (numbering [] (names (take most_bytes text) spans)) before)
     → (count ≡ length (distinct [] (names text spans))) × (after ≡ filled (numbering [] (names text spans)) before)
 numbered-cut text spans count before after h = (h.0 ∙ ap (λ (bs : List (List ℕ)). length (distinct [] bs)) (names-cut text spans), h.1 ∙ ap (λ (bs : List (List ℕ)). filled (numbering [] bs) before) (names-cut text spans))

@@ -2,7 +2,7 @@
 use Rattle.std.specs.Prelude.{ℕ, suc, ◌+◌, ◌/◌, ◌<◌, ◌≤◌, min, max, ◌≡◌, List, length, take, replicate}
 use Rattle.std.proofs.Common.{arith, sym, length-take, length-take-le}
 use Rattle.std.proofs.lemmas.List.{length-replicate}
-use Rattle.names.specs.Names.{mostSpans, mostBytes, names}
+use Rattle.names.specs.Names.{most_spans, most_bytes, names}
 use Rattle.names.specs.Parts.{names-length}
 use Rattle.names.specs.Spans.{Pairs, PairsIn, Sized, Room, Prepared}
 
@@ -34,7 +34,7 @@ pub room_in : (text spans : List ℕ) (n : ℕ) (classes keys : List ℕ) (place
     → Room text spans n most classes keys
 room_in text spans n classes keys places most p e f =
     let few_bytes = p.few_bytes in
-    let few-spans : n ≤ mostSpans = omega (arith, p.all, names-length text spans) in
+    let few-spans : n ≤ most_spans = omega (arith, p.all, names-length text spans) in
     record {
       sized = record {
         few_bytes = few_bytes;
@@ -50,7 +50,7 @@ room_in text spans n classes keys places most p e f =
     }
 
 -- an array for the places and one for the keys
-pub prepared-in : (places cells : ℕ) (text spans : List ℕ) (n : ℕ) → length text ≤ mostBytes → n ≡ min (length spans / 2) mostSpans → length text ≤ places → n + n ≤ cells
+pub prepared-in : (places cells : ℕ) (text spans : List ℕ) (n : ℕ) → length text ≤ most_bytes → n ≡ min (length spans / 2) most_spans → length text ≤ places → n + n ≤ cells
     → Prepared text spans n (replicate places 0) (replicate cells 0)
 prepared-in places cells text spans n few e p c =
     record {

@@ -4,10 +4,10 @@ use native.Mathlib.Omega.{arith}
 use Rattle.std.proofs.Common.{sym, ap, ap₂, ◌∙◌, inl, inr, ⊎_elim, length-set, get_or-set_same, get_or-set_other}
 use Rattle.std.proofs.lemmas.List.{get_or-replicate}
 use Rattle.tree.specs.Resolve.{part}
-use Rattle.names.specs.Names.{mostBytes, names}
+use Rattle.names.specs.Names.{most_bytes, names}
 use Rattle.names.specs.NumberLaws.{lt-or-le}
 use Rattle.names.specs.Parts.{cover, lengths-equal, name-at}
-use Rattle.names.specs.Spans.{SamePair, Pairs, PairClasses, Blocks, start_of, length_of, Longest, AtWidth, firstKey, lastKey, KeyTaken, KeysTaken}
+use Rattle.names.specs.Spans.{SamePair, Pairs, PairClasses, Blocks, start_of, length_of, Longest, AtWidth, first_key, last_key, KeyTaken, KeysTaken}
 use Rattle.names.specs.Spans.{Keyed, KeyedAll, Lengths, Sized, Sorts, FirstEqual}
 
 -- before the first width only empty spans have keys
@@ -83,7 +83,7 @@ module _ (len : ℕ) (spans classes : List ℕ) (n w : ℕ) where
       (λ h. ⊎_elim (λ k. inl (record { least = h; below = k })) (λ k. inr (λ a. omega (arith, a.below))) (lt-or-le (length_of len spans i) (w + w)))
       (lt-or-le (length_of len spans i) w)
 
-  set-keys : (i x y : ℕ) (keys₀ keys : List ℕ) → i < n → n + n ≤ length keys₀ → x ≡ firstKey len spans classes i → y ≡ lastKey len spans classes w i → AtWidth len spans w i
+  set-keys : (i x y : ℕ) (keys₀ keys : List ℕ) → i < n → n + n ≤ length keys₀ → x ≡ first_key len spans classes i → y ≡ last_key len spans classes w i → AtWidth len spans w i
       → KeysTaken len spans classes n w i keys₀ keys → KeysTaken len spans classes n w (i + 1) keys₀ (set (set keys i x) (i + n) y)
   set-keys i x y keys₀ keys h f p q a r =
       record {
@@ -99,10 +99,10 @@ module _ (len : ℕ) (spans classes : List ℕ) (n w : ℕ) where
       other : (j : ℕ) → (j ≡ i → ⊥) → (j ≡ i + n → ⊥) → get_or (set (set keys i x) (i + n) y) j 0 ≡ get_or keys j 0
       other j d e = get_or-set_other (set keys i x) (i + n) j y 0 e ∙ get_or-set_other keys i j x 0 d
 
-      first : get_or (set (set keys i x) (i + n) y) i 0 ≡ firstKey len spans classes i
+      first : get_or (set (set keys i x) (i + n) y) i 0 ≡ first_key len spans classes i
       first = get_or-set_other (set keys i x) (i + n) i y 0 (omega arith) ∙ get_or-set_same keys i x 0 (omega (arith, r.same_length)) ∙ p
 
-      second : get_or (set (set keys i x) (i + n) y) (i + n) 0 ≡ lastKey len spans classes w i
+      second : get_or (set (set keys i x) (i + n) y) (i + n) 0 ≡ last_key len spans classes w i
       second = get_or-set_same (set keys i x) (i + n) y 0 (omega (arith, r.same_length, length-set keys i x)) ∙ q
 
       clash : (j : ℕ) → j ≡ i → (j < i + 1 → AtWidth len spans w j → ⊥) → ⊥

@@ -1,8 +1,8 @@
 -- What the private functions establish of the classes of blocks and of the keys of spans.
 use Rattle.std.specs.Prelude.{ℕ, suc, ◌+◌, ◌*◌, ◌-◌, ◌<◌, ◌≤◌, ◌≡◌, ◌↔◌, List, [], length, get_or, take, set}
 use Rattle.tree.specs.Resolve.{part}
-use Rattle.names.specs.Names.{mostSpans, mostBytes, names, numbering, distinct}
-use Rattle.names.specs.Parts.{start_in, lengthIn}
+use Rattle.names.specs.Names.{most_spans, most_bytes, names, numbering, distinct}
+use Rattle.names.specs.Parts.{start_in, length_in}
 
 -- the first n numbers of a list are given by a function, and the others kept
 pub record Written (value : ℕ → ℕ) (n : ℕ) (before after : List ℕ) : Type 0 where
@@ -18,8 +18,8 @@ pub record SamePair (keys : List ℕ) (w i j : ℕ) : Type 0 where
 -- what `pair_classes` needs: the keys of n places, below `most`
 pub record Pairs (keys : List ℕ) (w n most : ℕ) : Type 0 where
   pub enough : n + w ≤ length keys
-  pub few : n ≤ mostBytes
-  pub few-keys : most ≤ suc mostBytes
+  pub few : n ≤ most_bytes
+  pub few-keys : most ≤ suc most_bytes
   pub firsts : (i : ℕ) → i < n → get_or keys i 0 < most
   pub seconds : (i : ℕ) → i < n → get_or keys (i + w) 0 < most
 
@@ -46,8 +46,8 @@ pub record Blocks (text classes : List ℕ) (w most : ℕ) : Type 0 where
 
 -- what `widen` needs
 pub record Widens (text : List ℕ) (w longest most : ℕ) (classes : List ℕ) : Type 0 where
-  pub few_bytes : length text ≤ mostBytes
-  pub few-keys : most ≤ suc mostBytes
+  pub few_bytes : length text ≤ most_bytes
+  pub few-keys : most ≤ suc most_bytes
   pub below : length text < most
   pub positive : 1 ≤ w
   pub wide : w ≤ longest
@@ -60,7 +60,7 @@ abbrev pub start_of : ℕ → List ℕ → ℕ → ℕ
 start_of len spans i = start_in len (get_or spans (2 * i) 0)
 
 abbrev pub length_of : ℕ → List ℕ → ℕ → ℕ
-length_of len spans i = lengthIn len (get_or spans (2 * i) 0) (get_or spans (2 * i + 1) 0)
+length_of len spans i = length_in len (get_or spans (2 * i) 0) (get_or spans (2 * i + 1) 0)
 
 -- no length of the first n spans is greater than a number
 pub record Longest (len : ℕ) (spans : List ℕ) (n most : ℕ) : Type 0 where
@@ -73,21 +73,21 @@ pub record AtWidth (len : ℕ) (spans : List ℕ) (w i : ℕ) : Type 0 where
   pub below : length_of len spans i < w + w
 
 -- the keys of such a span: the classes of its first and of its last w bytes
-abbrev pub firstKey : ℕ → List ℕ → List ℕ → ℕ → ℕ
-firstKey len spans classes i = get_or classes (start_of len spans i) 0
+abbrev pub first_key : ℕ → List ℕ → List ℕ → ℕ → ℕ
+first_key len spans classes i = get_or classes (start_of len spans i) 0
 
-abbrev pub lastKey : ℕ → List ℕ → List ℕ → ℕ → ℕ → ℕ
-lastKey len spans classes w i = get_or classes (start_of len spans i + (length_of len spans i - w)) 0
+abbrev pub last_key : ℕ → List ℕ → List ℕ → ℕ → ℕ → ℕ
+last_key len spans classes w i = get_or classes (start_of len spans i + (length_of len spans i - w)) 0
 
 -- the keys of n spans stand at i and at i + n; those of the span i are set if it is of the width w
 pub record KeyTaken (len : ℕ) (spans classes : List ℕ) (n w i : ℕ) (keys keys' : List ℕ) : Type 0 where
-  pub taken : AtWidth len spans w i → keys' ≡ set (set keys i (firstKey len spans classes i)) (i + n) (lastKey len spans classes w i)
+  pub taken : AtWidth len spans w i → keys' ≡ set (set keys i (first_key len spans classes i)) (i + n) (last_key len spans classes w i)
   pub skipped : (AtWidth len spans w i → ⊥) → keys' ≡ keys
 
 -- those of the first m spans are set where the spans are of the width w
 pub record KeysTaken (len : ℕ) (spans classes : List ℕ) (n w m : ℕ) (keys keys' : List ℕ) : Type 0 where
   pub same_length : length keys' ≡ length keys
-  pub taken : (i : ℕ) → i < m → AtWidth len spans w i → (get_or keys' i 0 ≡ firstKey len spans classes i) × (get_or keys' (i + n) 0 ≡ lastKey len spans classes w i)
+  pub taken : (i : ℕ) → i < m → AtWidth len spans w i → (get_or keys' i 0 ≡ first_key len spans classes i) × (get_or keys' (i + n) 0 ≡ last_key len spans classes w i)
   pub kept : (i : ℕ) → i < n → (i < m → AtWidth len spans w i → ⊥) → (get_or keys' i 0 ≡ get_or keys i 0) × (get_or keys' (i + n) 0 ≡ get_or keys (i + n) 0)
 
 -- the keys of n spans are below a bound, and two spans of one length below w have the same keys exactly when their bytes are equal
@@ -106,9 +106,9 @@ pub record Lengths (len : ℕ) (spans : List ℕ) (n m : ℕ) (keys keys' : List
 
 -- the text and its n names; keys are below `most`
 pub record Sized (text spans : List ℕ) (n most : ℕ) : Type 0 where
-  pub few_bytes : length text ≤ mostBytes
-  pub few-spans : n ≤ mostSpans
-  pub few-keys : most ≤ suc mostBytes
+  pub few_bytes : length text ≤ most_bytes
+  pub few-spans : n ≤ most_spans
+  pub few-keys : most ≤ suc most_bytes
   pub all : n ≡ length (names text spans)
   pub bytes_below : 256 ≤ most
   pub places-below : length text < most
@@ -151,7 +151,7 @@ pub record Ranked (bs : List (List ℕ)) (i count : ℕ) (ranks : List ℕ) : Ty
 
 -- what `number_in` needs
 pub record Prepared (text spans : List ℕ) (n : ℕ) (classes keys : List ℕ) : Type 0 where
-  pub few_bytes : length text ≤ mostBytes
+  pub few_bytes : length text ≤ most_bytes
   pub all : n ≡ length (names text spans)
   pub classes-enough : length text ≤ length classes
   pub keys-enough : n + n ≤ length keys

@@ -9,7 +9,7 @@ mod ranks;
 mod spans;
 
 ghost use Rattle.std.specs.Prelude.{◌≡◌, [], ◌≤◌, length};
-ghost use Rattle.names.specs.Names.{mostBytes, names, numbering, distinct};
+ghost use Rattle.names.specs.Names.{most_bytes, names, numbering, distinct};
 ghost use Rattle.tree.specs.Outline.{filled};
 ghost use Rattle.names.specs.Spans.{Prepared};
 
@@ -35,7 +35,7 @@ pub fn number_spans(text: &[u8], spans: &[u32], numbers: &mut [u16]) -> usize
 
 // Small inputs take small arrays.
 fn by_size(text: &[u8], spans: &[u32], numbers: &mut [u16]) -> usize
-    requires { length text.now ≤ mostBytes }
+    requires { length text.now ≤ most_bytes }
     ensures { (result ≡ length (distinct [] (names text.now spans.now))) × (numbers.new ≡ filled (numbering [] (names text.now spans.now)) numbers.old) }
 {
     let n = lesser(spans.len() / 2, MOST_SPANS);

@@ -1,13 +1,13 @@
 // Numbers in the order of first occurrence.
 ghost use Rattle.std.specs.Prelude.{◌≡◌, cond, List, ℕ, ◌+◌, ◌<◌, ◌≤◌, length, get_or, eqb};
-ghost use Rattle.names.specs.Names.{mostSpans};
+ghost use Rattle.names.specs.Names.{most_spans};
 ghost use Rattle.names.specs.Spans.{FirstEqual, Ranked};
 
 use crate::cells::get;
 
 // The number of a span whose first equal span is c.
 fn rank_of(c: usize, i: usize, count: usize, ranks: &[u16]) -> u16
-    requires { count ≤ mostSpans }
+    requires { count ≤ most_spans }
     ensures { result ≡ cond (eqb c i) count (get_or ranks.now c 0) }
 {
     if c == i {
@@ -18,7 +18,7 @@ fn rank_of(c: usize, i: usize, count: usize, ranks: &[u16]) -> u16
 
 // How many distinct names there are with that span.
 fn count_with(c: usize, i: usize, count: usize) -> usize
-    requires { count ≤ mostSpans }
+    requires { count ≤ most_spans }
     ensures { result ≡ cond (eqb c i) (count + 1) count }
 {
     if c == i {
@@ -29,7 +29,7 @@ fn count_with(c: usize, i: usize, count: usize) -> usize
 
 // Puts the number of each of the first n spans in place of the first equal span; the answer is how many are distinct.
 pub(crate) fn rank(classes: &mut [u16], n: usize) -> usize
-    requires { (n ≤ mostSpans) × (n ≤ length classes.old) }
+    requires { (n ≤ most_spans) × (n ≤ length classes.old) }
     ensures { (bs : List (List ℕ)) → FirstEqual bs n classes.old → n ≤ length bs → Ranked bs n result classes.new }
 {
     let mut count: usize = 0;

@@ -1,7 +1,7 @@
 // Keys of spans: two spans of one length have the same two keys exactly when their bytes are equal. The keys are the classes of the first
 // and of the last block of a span, whose width is the greatest power of two that is no greater than the span's length.
 ghost use Rattle.std.specs.Prelude.{◌≡◌, ◌+◌, ◌<◌, ◌≤◌, length};
-ghost use Rattle.names.specs.Names.{mostSpans, mostBytes, names};
+ghost use Rattle.names.specs.Names.{most_spans, most_bytes, names};
 ghost use Rattle.names.specs.Spans.{start_of, length_of, Longest, KeyTaken, KeysTaken, Lengths, Room, KeyedAll, Sorts, FirstEqual};
 
 use crate::blocks::{bytes, widen};
@@ -10,14 +10,14 @@ use crate::pairs::pair_classes;
 
 // Where a span starts in a text of length len, and how long it is there.
 fn start_of(len: usize, spans: &[u32], i: usize) -> usize
-    requires { i < mostSpans }
+    requires { i < most_spans }
     ensures { result ≡ start_of len spans.now i }
 {
     lesser(tree::get(spans, 2 * i) as usize, len)
 }
 
 fn length_of(len: usize, spans: &[u32], i: usize) -> usize
-    requires { i < mostSpans }
+    requires { i < most_spans }
     ensures { result ≡ length_of len spans.now i }
 {
     let rest = len - start_of(len, spans, i);
@@ -26,7 +26,7 @@ fn length_of(len: usize, spans: &[u32], i: usize) -> usize
 
 // The greatest length of the first n spans.
 fn longest(len: usize, spans: &[u32], n: usize) -> usize
-    requires { n ≤ mostSpans }
+    requires { n ≤ most_spans }
     ensures { Longest len spans.now n result }
 {
     let mut most: usize = 0;
@@ -48,7 +48,7 @@ fn take_key(
     classes: &[u16],
     keys: &mut [u16],
 )
-    requires { (n ≤ mostSpans) × (i < n) × (w ≤ mostBytes) × (n + n ≤ length keys.old) }
+    requires { (n ≤ most_spans) × (i < n) × (w ≤ most_bytes) × (n + n ≤ length keys.old) }
     ensures { KeyTaken len spans.now classes.now n w i keys.old keys.new }
 {
     let l = length_of(len, spans, i);
@@ -65,7 +65,7 @@ fn take_key(
 
 // The keys of the n spans of these lengths.
 fn take_keys(len: usize, spans: &[u32], n: usize, w: usize, classes: &[u16], keys: &mut [u16])
-    requires { (n ≤ mostSpans) × (w ≤ mostBytes) × (n + n ≤ length keys.old) }
+    requires { (n ≤ most_spans) × (w ≤ most_bytes) × (n + n ≤ length keys.old) }
     ensures { KeysTaken len spans.now classes.now n w n keys.old keys.new }
 {
     let mut i: usize = 0;
@@ -100,7 +100,7 @@ pub(crate) fn span_keys(
 
 // The lengths of the n spans in place of their second keys.
 fn lengths(len: usize, spans: &[u32], n: usize, keys: &mut [u16])
-    requires { (len ≤ mostBytes) × (n ≤ mostSpans) × (n + n ≤ length keys.old) }
+    requires { (len ≤ most_bytes) × (n ≤ most_spans) × (n + n ≤ length keys.old) }
     ensures { Lengths len spans.now n n keys.old keys.new }
 {
     let mut i: usize = 0;

@@ -9,7 +9,7 @@ use denote.Enum.Declared.{tag_of}
 use Rattle.lexing.specs.Answer.{Answer, ok, refused}
 use Rattle.tree.specs.Ast.{Expr, Span}
 use Rattle.grammar.specs.Steps.{Reader, after, need, ◌or◌}
-use Rattle.grammar.specs.Rules.{afterBar, afterOld, after_call, afterColon, afterLabel, afterName}
+use Rattle.grammar.specs.Rules.{after_bar, after_old, after_call, after_colon, after_label, after_name}
 use Rattle.parsing.specs.Arena.{Run, Agrees, Builds}
 use Rattle.grammar.specs.Proofs.Bridge.Relation.{Ends, refuses, reads, ends-after}
 use Rattle.parsing.specs.declared.arena.Built.{Built}
@@ -100,18 +100,18 @@ pub ends-keeps : {A : Type 0} {P : A → Type 0} {r : Answer A} → Ends P r →
 ends-keeps refuses = record { some = refl }
 ends-keeps (reads p) = record { some = refl }
 
-pub afterBar-keeps : (text : List ℕ) (at : ℕ) → Keeps (afterBar text at)
-unfolding afterBar
-afterBar-keeps text at =
+pub after_bar-keeps : (text : List ℕ) (at : ℕ) → Keeps (after_bar text at)
+unfolding after_bar
+after_bar-keeps text at =
     needed-keeps _ _ _ (λ s at₁. needed-keeps _ _ _ (λ _ at₂. needed-keeps _ _ _ (λ t at₃. needed-keeps _ _ _ (λ _ at₄. record { some = refl }))))
 
-pub afterOld-keeps : (text : List ℕ) (at : ℕ) → Keeps (afterOld text at)
-unfolding afterOld
-afterOld-keeps text at = needed-keeps _ _ _ (λ n at₁. record { some = refl })
+pub after_old-keeps : (text : List ℕ) (at : ℕ) → Keeps (after_old text at)
+unfolding after_old
+after_old-keeps text at = needed-keeps _ _ _ (λ n at₁. record { some = refl })
 
-pub afterName-keeps : (text : List ℕ) (m : ℕ) (c : Reader (Expr Span)) (n : Span) (at : ℕ) → Keeps (afterName text m c n at)
-unfolding afterName afterLabel afterColon after_call
-afterName-keeps text m c n at =
+pub after_name-keeps : (text : List ℕ) (m : ℕ) (c : Reader (Expr Span)) (n : Span) (at : ℕ) → Keeps (after_name text m c n at)
+unfolding after_name after_label after_colon after_call
+after_name-keeps text m c n at =
     ends-keeps {P = λ _. Unit {0}}
     (ends-after _ _ _ (ends-after _ _ _ (reads tt) (λ _ at₁. ends-after _ _ _ refuses (λ e at₂. reads tt)))
     (λ _ at₁. ends-after _ _ _ refuses (λ es at₂. reads tt)))

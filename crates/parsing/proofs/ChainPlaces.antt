@@ -9,9 +9,9 @@ use borrow.Author.Tests.{leb-true}
 use Rattle.lexing.specs.Answer.{Answer, refused, pick}
 use Rattle.tree.specs.Ast.{Span, Expr}
 use Rattle.grammar.specs.Grammar.{Build, straight, swapped, build}
-use Rattle.grammar.specs.Reading.{treeWords}
+use Rattle.grammar.specs.Reading.{tree_words}
 use Rattle.parsing.specs.Arena.{Run, Node, Holds, Noted, Builds}
-use Rattle.parsing.specs.Code.{Took, Stands, word_of, swapOf}
+use Rattle.parsing.specs.Code.{Took, Stands, word_of, swap_of}
 use Rattle.parsing.specs.declared.arena.Built.{Built}
 use Rattle.parsing.specs.declared.arena.Built.TheVariants.{Refused}
 use Rattle.parsing.proofs.Laws.{kept_next, holds_kept, builds-from}
@@ -23,25 +23,25 @@ pub sign-took : {A : Type 0} {word : A → ℕ} {swap : A → Bool} {text : List
 sign-took s = record { says = s.says; past = omega (arith, s.past); inside = s.inside; small = omega arith }
 
 -- an operator over two operands that stand in the arena
-build-holds : {arena : List ℕ} {top op x y : ℕ} {swaps : Bool} (b : Build) (e e₁ : Expr Span) → op ≡ word_of b → swaps ≡ swapOf b
-    → Node arena top 6 op (pick swaps y x) (pick swaps x y) → x + 4 ≤ top → y + 4 ≤ top → Holds arena x (treeWords e) → Holds arena y (treeWords e₁)
-    → Holds arena top (treeWords (build b e e₁))
+build-holds : {arena : List ℕ} {top op x y : ℕ} {swaps : Bool} (b : Build) (e e₁ : Expr Span) → op ≡ word_of b → swaps ≡ swap_of b
+    → Node arena top 6 op (pick swaps y x) (pick swaps x y) → x + 4 ≤ top → y + 4 ≤ top → Holds arena x (tree_words e) → Holds arena y (tree_words e₁)
+    → Holds arena top (tree_words (build b e e₁))
 build-holds (straight op) e e₁ o s n a b h k = Holds.binary (rw (o, s) at n) a b h k
 build-holds (swapped op) e e₁ o s n a b h k = Holds.binary (rw (o, s) at n) b a k h
 
-pub build-standing : {arena later : List ℕ} {top op x y : ℕ} {swaps : Bool} (b : Build) (e e₁ : Expr Span) → op ≡ word_of b → swaps ≡ swapOf b
-    → Noted arena later top 6 op (pick swaps y x) (pick swaps x y) → Standing arena top x (treeWords e) → Standing arena top y (treeWords e₁)
-    → Holds later top (treeWords (build b e e₁))
+pub build-standing : {arena later : List ℕ} {top op x y : ℕ} {swaps : Bool} (b : Build) (e e₁ : Expr Span) → op ≡ word_of b → swaps ≡ swap_of b
+    → Noted arena later top 6 op (pick swaps y x) (pick swaps x y) → Standing arena top x (tree_words e) → Standing arena top y (tree_words e₁)
+    → Holds later top (tree_words (build b e e₁))
 build-standing b e e₁ o s n x y =
     build-holds b e e₁ o s n.node x.below y.below (holds_kept n.kept x.below x.holds) (holds_kept n.kept y.below y.holds)
 
 module _ {A : Type 0} (p : Reached A) where
   -- the node of an operator was written over two operands that stand
   abbrev pub combined : {text later : List ℕ} {at x y op next : ℕ} {swaps : Bool} {answer : Answer Build} (e e₁ : Expr Span)
-      (s : Stands word_of swapOf text at answer op swaps next) → Noted p.arena later p.top 6 op (pick swaps y x) (pick swaps x y)
-      → Standing p.arena p.top x (treeWords e) → Standing p.arena p.top y (treeWords e₁) → leb 4 p.spare ≡ true → Reached A
+      (s : Stands word_of swap_of text at answer op swaps next) → Noted p.arena later p.top 6 op (pick swaps y x) (pick swaps x y)
+      → Standing p.arena p.top x (tree_words e) → Standing p.arena p.top y (tree_words e₁) → leb 4 p.spare ≡ true → Reached A
   combined e e₁ s n x y l =
-      noted p {f = treeWords (build s.value e e₁)} n (build-standing s.value e e₁ s.word-is s.swap_is n x y) l
+      noted p {f = tree_words (build s.value e e₁)} n (build-standing s.value e e₁ s.word-is s.swap_is n x y) l
 
   -- the rule ends with another one
   pub followed : {words : A → Run} {later : List ℕ} {least credit least₁ credit₁ : ℕ} {answer : Answer A} {r : Built} → p.rest ≡ answer

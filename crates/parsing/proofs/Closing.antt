@@ -8,7 +8,7 @@ use lib.ListN.{length}
 use lib.Dec.{leb}
 use borrow.Author.Tests.{leb-true}
 use Rattle.lexing.specs.Answer.{ok}
-use Rattle.grammar.specs.Steps.{need, signAt}
+use Rattle.grammar.specs.Steps.{need, sign_at}
 use Rattle.parsing.specs.Arena.{Run, Kept, Builds}
 use Rattle.parsing.specs.Code.{Shuts, Closes}
 use Rattle.parsing.specs.declared.arena.Built.{Built}
@@ -25,7 +25,7 @@ closes_kept list next (Refused number place) h = absurd h
 -- a rule ends with its sign
 module _ {A : Type 0} (p : Reached A) where
   pub shut-done : {words : A → Run} {credit n : ℕ} {ns : List (ℕ × Run)} (close : List ℕ) (v : A) (r : Built)
-      → p.rest ≡ need p.at (signAt p.text close p.at) (λ _ at₁. ok v at₁) → p.made ≡ (n, words v) ∷ ns
+      → p.rest ≡ need p.at (sign_at p.text close p.at) (λ _ at₁. ok v at₁) → p.made ≡ (n, words v) ∷ ns
       → Shuts p.text close p.at p.top n r → leb 1 (length close) ≡ true → leb p.lent (credit + p.spare + 8) ≡ true
       → Builds words p.text p.first p.arena p.start p.free 1 credit p.answer r
   shut-done {words} {credit} {n} {ns} close v r e m h l w =

@@ -9,18 +9,18 @@ use lib.Dec.{leb}
 use Rattle.lexing.specs.Answer.{Answer, ok, refused}
 use Rattle.lexing.specs.declared.token.Lexed.{Lexed}
 use Rattle.lexing.specs.declared.token.Lexed.TheVariants.{Ok as LexedOk, None as LexedNone, Refused as LexedRefused}
-use Rattle.tree.specs.Ast.{Span, Expr, Exprs, noExprs, ◌then◌, FunctionDefinition, Axiom}
-use Rattle.tree.specs.Words.{optionWords, functionDefinitionWords}
+use Rattle.tree.specs.Ast.{Span, Expr, Exprs, no_exprs, ◌then◌, FunctionDefinition, Axiom}
+use Rattle.tree.specs.Words.{option_words, function_definition_words}
 use Rattle.lexing.specs.Bytes.{bytes}
-use Rattle.grammar.specs.Steps.{Reader, after, need, must, mapped, T, Sym, parseName, parseType}
+use Rattle.grammar.specs.Steps.{Reader, after, need, must, mapped, T, Sym, parse_name, parse_type}
 use Rattle.grammar.specs.StepLaws.{mapped-same}
-use Rattle.grammar.specs.Rules.{exprs, parseListed}
-use Rattle.grammar.specs.Statements.{rep, aexprs, theExpr, parseAExpr, parseAExprSeq}
-use Rattle.grammar.specs.Declarations.{formals, parameters, undefined, afterType, afterTagger, parseFunctionFormal, parseTag, parseWhenClause, parseFunctionDefinition, afterFunction, parseExplains, afterAxiom, parseProcFormal, afterProcedure}
+use Rattle.grammar.specs.Rules.{exprs, parse_listed}
+use Rattle.grammar.specs.Statements.{rep, aexprs, the_expr, parse_a_expr, parse_a_expr_seq}
+use Rattle.grammar.specs.Declarations.{formals, parameters, undefined, after_type, after_tagger, parse_function_formal, parse_tag, parse_when_clause, parse_function_definition, after_function, parse_explains, after_axiom, parse_proc_formal, after_procedure}
 use Rattle.tree.specs.Clash.{impossible}
 use Rattle.parsing.specs.Arena.{Builds}
-use Rattle.parsing.specs.Code.{Tells, ListOf, sequenceOf, itemRule, same, turns, inner, opened}
-use Rattle.parsing.specs.Declarations.{signatureRule, undefinedAt, optionalBlock, declRule}
+use Rattle.parsing.specs.Code.{Tells, ListOf, sequence_of, item_rule, same, turns, inner, opened}
+use Rattle.parsing.specs.Declarations.{signature_rule, undefined_at, optional_block, decl_rule}
 use Rattle.parsing.specs.declared.arena.Built.{Built}
 use Rattle.parsing.specs.declared.arena.Built.TheVariants.{Ok, None, Refused}
 use Rattle.parsing.specs.declared.expr.seq.Kind.{Kind}
@@ -38,46 +38,46 @@ use Rattle.parsing.proofs.StatementBranches.{must-keeps, ok-keeps}
 
 -- after each word
 pub tagger-rule : (text : List ℕ) (at : ℕ)
-    → afterTagger text at
-    ≡ need at (parseName text at)
-    (λ n at₁. need at₁ (T text "for" at₁) (λ _ at₂. need at₂ (parseName text at₂) (λ t at₃. ok (record { name = n; typ = t }) at₃)))
-unfolding afterTagger
+    → after_tagger text at
+    ≡ need at (parse_name text at)
+    (λ n at₁. need at₁ (T text "for" at₁) (λ _ at₂. need at₂ (parse_name text at₂) (λ t at₃. ok (record { name = n; typ = t }) at₃)))
+unfolding after_tagger
 tagger-rule text at = refl
 
 module _ (text : List ℕ) (depth : ℕ) where
   -- after `when`: an expression must follow
-  pub when-body : (at : ℕ) → theExpr text (turns text) (opened text depth) (λ e. e) at ≡ must at (inner text depth at)
+  pub when-body : (at : ℕ) → the_expr text (turns text) (opened text depth) (λ e. e) at ≡ must at (inner text depth at)
   when-body at = ap (must at) (mapped-same ((opened text depth).expr at) ∙ ap (λ c. c at) (opened-expr text depth))
 
   pub when-rule : (at : ℕ)
-      → parseWhenClause text (turns text) (opened text depth) at
-      ≡ after (T text "when" at) Answer.none (λ _ at₁. theExpr text (turns text) (opened text depth) (λ e. e) at₁)
-  unfolding parseWhenClause
+      → parse_when_clause text (turns text) (opened text depth) at
+      ≡ after (T text "when" at) Answer.none (λ _ at₁. the_expr text (turns text) (opened text depth) (λ e. e) at₁)
+  unfolding parse_when_clause
   when-rule at = refl
 
   -- the clauses of a function
   abbrev pub whens : Reader (Exprs Span)
-  whens at = rep exprs (turns text) (parseWhenClause text (turns text) (opened text depth)) at
+  whens at = rep exprs (turns text) (parse_when_clause text (turns text) (opened text depth)) at
 
   pub definition-rule : (at : ℕ)
-      → parseFunctionDefinition text (turns text) (opened text depth) at
+      → parse_function_definition text (turns text) (opened text depth) at
       ≡ need at (whens at)
       (λ when at₁. after (Sym text "{" at₁) (undefined when at₁)
       (λ _ at₂. need at₂ (inner text depth at₂) (λ e at₃. need at₃ (Sym text "}" at₃) (λ _ at₄. ok (some (record { when = when; body = e })) at₄))))
-  unfolding parseFunctionDefinition
+  unfolding parse_function_definition
   definition-rule at = rw (opened-expr text depth) refl
 
   -- a rule that begins with a signature
   signature-first : {A : Type 0} (k : Kind) (at : ℕ) (go : Span × ListOf k → ℕ → Answer A)
-      → need at (parseName text at)
+      → need at (parse_name text at)
       (λ n at₁. need at₁ (Sym text "(" at₁)
-      (λ _ at₂. need at₂ (parseListed text (turns text) (sequenceOf k) (itemRule k text depth) (bytes ")") at₂) (λ l at₃. go (n, l) at₃)))
-      ≡ need at (signatureRule k text depth at) go
+      (λ _ at₂. need at₂ (parse_listed text (turns text) (sequence_of k) (item_rule k text depth) (bytes ")") at₂) (λ l at₃. go (n, l) at₃)))
+      ≡ need at (signature_rule k text depth at) go
   unfolding after
-  signature-first {A} k at go = by_name (parseName text at)
+  signature-first {A} k at go = by_name (parse_name text at)
     where
       listed : ℕ → Answer (ListOf k)
-      listed at₂ = parseListed text (turns text) (sequenceOf k) (itemRule k text depth) (bytes ")") at₂
+      listed at₂ = parse_listed text (turns text) (sequence_of k) (item_rule k text depth) (bytes ")") at₂
 
       by-list : (n : Span) (at₂ : ℕ) (r : Answer (ListOf k)) → need at₂ r (λ l at₃. go (n, l) at₃) ≡ need at (need at₂ r (λ l at₃. ok (n, l) at₃)) go
       by-list n at₂ (ok l at₃) = refl
@@ -97,31 +97,31 @@ module _ (text : List ℕ) (depth : ℕ) where
       by_name (refused number place) = refl
 
   pub function-rule : (at : ℕ)
-      → afterFunction text (turns text) (opened text depth) at
-      ≡ need at (signatureRule Formals text depth at)
+      → after_function text (turns text) (opened text depth) at
+      ≡ need at (signature_rule Formals text depth at)
       (λ s at₁. need at₁ (Sym text ":" at₁)
-      (λ _ at₂. need at₂ (parseName text at₂)
-      (λ t at₃. need at₃ (parseTag text at₃)
-      (λ g at₄. need at₄ (parseFunctionDefinition text (turns text) (opened text depth) at₄)
-      (λ d at₅. ok (record { name = s.0; parameters = s.1; resultType = t; tag = g; definition = d }) at₅)))))
-  unfolding afterFunction
+      (λ _ at₂. need at₂ (parse_name text at₂)
+      (λ t at₃. need at₃ (parse_tag text at₃)
+      (λ g at₄. need at₄ (parse_function_definition text (turns text) (opened text depth) at₄)
+      (λ d at₅. ok (record { name = s.0; parameters = s.1; result_type = t; tag = g; definition = d }) at₅)))))
+  unfolding after_function
   function-rule at = signature-first Formals at _
 
   pub axiom-rule : (at : ℕ)
-      → afterAxiom text (turns text) (opened text depth) at
-      ≡ need at (parseExplains text (turns text) (opened text depth) at)
-      (λ ns at₁. theExpr text (turns text) (opened text depth) (λ e. record { explains = ns; expr = e }) at₁)
-  unfolding afterAxiom
+      → after_axiom text (turns text) (opened text depth) at
+      ≡ need at (parse_explains text (turns text) (opened text depth) at)
+      (λ ns at₁. the_expr text (turns text) (opened text depth) (λ e. record { explains = ns; expr = e }) at₁)
+  unfolding after_axiom
   axiom-rule at = refl
 
   pub procedure-rule : (at : ℕ)
-      → afterProcedure text (turns text) (opened text depth) at
-      ≡ need at (signatureRule Parameters text depth at)
-      (λ s at₁. need at₁ (rep aexprs (turns text) (parseAExpr text (turns text) (opened text depth) (bytes "requires")) at₁)
-      (λ pre at₂. need at₂ (rep aexprs (turns text) (parseAExpr text (turns text) (opened text depth) (bytes "ensures")) at₂)
-      (λ post at₃. need at₃ (optionalBlock text depth at₃)
+      → after_procedure text (turns text) (opened text depth) at
+      ≡ need at (signature_rule Parameters text depth at)
+      (λ s at₁. need at₁ (rep aexprs (turns text) (parse_a_expr text (turns text) (opened text depth) (bytes "requires")) at₁)
+      (λ pre at₂. need at₂ (rep aexprs (turns text) (parse_a_expr text (turns text) (opened text depth) (bytes "ensures")) at₂)
+      (λ post at₃. need at₃ (optional_block text depth at₃)
       (λ b at₄. ok (record { name = s.0; parameters = s.1; pre = pre; post = post; body = b }) at₄))))
-  unfolding afterProcedure parseAExprSeq
+  unfolding after_procedure parse_a_expr_seq
   procedure-rule at = signature-first Parameters at _
 
 -- ---- where no body follows
@@ -129,12 +129,12 @@ module _ (text : List ℕ) (depth : ℕ) where
 -- the clauses that were read, where there are some
 abbrev clauses : Answer (Exprs Span) → Exprs Span
 clauses (ok l next) = l
-clauses Answer.none = noExprs
-clauses (refused number place) = noExprs
+clauses Answer.none = no_exprs
+clauses (refused number place) = no_exprs
 
 -- after `when` there is a clause at least
 clause-some : (n at k : ℕ) (x : Answer (Expr Span)) (more : Expr Span → ℕ → Answer (Exprs Span)) {l : Exprs Span} {next : ℕ}
-    → after (must n x) (ok noExprs at) (λ a at₁. mapped (◌then◌ a) (more a at₁)) ≡ ok l next → undefined l k ≡ refused 2 k
+    → after (must n x) (ok no_exprs at) (λ a at₁. mapped (◌then◌ a) (more a at₁)) ≡ ok l next → undefined l k ≡ refused 2 k
 unfolding after
 clause-some n at k (ok e n₁) more {l} {next} h = by-more (more e n₁) h
   where
@@ -150,17 +150,17 @@ module _ (text : List ℕ) (depth at : ℕ) {l : Exprs Span} {next : ℕ} (h : w
   no-clauses : T text "when" at ≡ Answer.none → undefined l next ≡ ok none next
   unfolding rep
   no-clauses e =
-      let q : whens text depth at ≡ ok noExprs at = after_none _ _ (when-rule text depth at ∙ after_none _ _ e) in
+      let q : whens text depth at ≡ ok no_exprs at = after_none _ _ (when-rule text depth at ∙ after_none _ _ e) in
       sym (ap (λ r. undefined (clauses r) next) (sym q ∙ h))
 
   some-clauses : {v n : ℕ} → T text "when" at ≡ ok v n → undefined l next ≡ refused 2 next
   unfolding rep
   some-clauses {n = n} e =
-      let q : parseWhenClause text (turns text) (opened text depth) at ≡ must n (inner text depth n) =
+      let q : parse_when_clause text (turns text) (opened text depth) at ≡ must n (inner text depth n) =
       when-rule text depth at ∙ after-ok _ _ e ∙ when-body text depth n in
-      let more : Expr Span → ℕ → Answer (Exprs Span) = λ a at₁. rep exprs (length text) (parseWhenClause text (turns text) (opened text depth)) at₁ in
-      let z : after (must n (inner text depth n)) (ok noExprs at) (λ a at₁. mapped (◌then◌ a) (more a at₁)) ≡ ok l next =
-      sym (ap (λ r. after r (ok noExprs at) (λ a at₁. mapped (◌then◌ a) (more a at₁))) q) ∙ h in
+      let more : Expr Span → ℕ → Answer (Exprs Span) = λ a at₁. rep exprs (length text) (parse_when_clause text (turns text) (opened text depth)) at₁ in
+      let z : after (must n (inner text depth n)) (ok no_exprs at) (λ a at₁. mapped (◌then◌ a) (more a at₁)) ≡ ok l next =
+      sym (ap (λ r. after r (ok no_exprs at) (λ a at₁. mapped (◌then◌ a) (more a at₁))) q) ∙ h in
       clause-some n at next (inner text depth n) more z
 
   refused-clauses : {number place : ℕ} {Q : Type 0} → T text "when" at ≡ refused number place → Q
@@ -174,8 +174,8 @@ module _ (text : List ℕ) (depth at : ℕ) {l : Exprs Span} {next : ℕ} (h : w
 pub undefined-builds : (p : Reached (Option (FunctionDefinition Span))) (depth start : ℕ) (l : Exprs Span) (go : ℕ → ℕ → Answer (Option (FunctionDefinition Span)))
     (least : ℕ) {r : Built} (brace when : Lexed) → p.rest ≡ after (Sym p.text "{" p.at) (undefined l p.at) go
     → Absent (λ v. v) p.text p.at 1 (Sym p.text "{" p.at) brace → Tells (λ v. v) p.text start least (T p.text "when" start) when
-    → whens p.text depth start ≡ ok l p.at → r ≡ undefinedAt brace when p.at p.top → leb 0 (p.bytes + 0) ≡ true → leb p.lent (4 + p.spare) ≡ true
-    → Builds (optionWords (functionDefinitionWords same)) p.text p.first p.arena p.start p.free 0 4 p.answer r
+    → whens p.text depth start ≡ ok l p.at → r ≡ undefined_at brace when p.at p.top → leb 0 (p.bytes + 0) ≡ true → leb p.lent (4 + p.spare) ≡ true
+    → Builds (option_words (function_definition_words same)) p.text p.first p.arena p.start p.free 0 4 p.answer r
 undefined-builds p depth start l go least (LexedOk v n) when e a t h o b w = absurd (absent-ok a)
 undefined-builds p depth start l go least LexedNone (LexedOk v n) e a t h o b w =
     rw o (refuses p (e ∙ after_none _ _ a.tells ∙ some-clauses p.text depth start h t.says))
@@ -188,8 +188,8 @@ undefined-builds p depth start l go least (LexedRefused number place) when e a t
 -- ---- what keeps something
 
 -- each declaration after its word
-pub decl-keeps : (s : DeclKind) (text : List ℕ) (depth at : ℕ) → Keeps (declRule s text depth at)
-unfolding afterType afterTagger afterFunction afterAxiom afterProcedure
+pub decl-keeps : (s : DeclKind) (text : List ℕ) (depth at : ℕ) → Keeps (decl_rule s text depth at)
+unfolding after_type after_tagger after_function after_axiom after_procedure
 decl-keeps Types text depth at = must-keeps _ _
 decl-keeps Taggers text depth at = needed-keeps _ _ _ (λ n at₁. needed-keeps _ _ _ (λ _ at₂. needed-keeps _ _ _ (λ t at₃. ok-keeps _ _)))
 decl-keeps Functions text depth at =

@@ -14,7 +14,7 @@ use Rattle.lexing.specs.declared.token.Lexed.TheVariants.{Ok as LexedOk, None as
 use Rattle.lexing.specs.contracts.token.Lexed.{the_type as lexed-type}
 use Rattle.grammar.specs.Steps.{after, need, mapped}
 use Rattle.parsing.specs.Arena.{Run, Node, Holds, Kept, Found, Agrees, Builds, Stopped, needed_at}
-use Rattle.parsing.specs.Code.{Took, Tells, Stands, Signs, missingAt, untakenAt}
+use Rattle.parsing.specs.Code.{Took, Tells, Stands, Signs, missing_at, untaken_at}
 use Rattle.parsing.specs.declared.arena.Built.{Built}
 use Rattle.parsing.specs.declared.arena.Built.TheVariants.{Ok, None, Refused}
 use Rattle.parsing.specs.declared.sign.Sign.{Sign}
@@ -192,12 +192,12 @@ absent-ok a = neither a.not-ok
     neither (inr e) = omega arith
 
 pub token-stopped : {A : Type 0} {f : ℕ → A} {text : List ℕ} {at least : ℕ} {answer : Answer A} (r : Lexed)
-    → Absent f text at least answer r → Stopped answer (untakenAt r)
+    → Absent f text at least answer r → Stopped answer (untaken_at r)
 token-stopped (LexedOk v n) a = absurd (absent-ok a)
 token-stopped LexedNone a = a.tells
 token-stopped (LexedRefused number place) a = a.tells
 
-missing-needed : (place : ℕ) (r : Lexed) → missingAt place r ≡ needed_at place (untakenAt r)
+missing-needed : (place : ℕ) (r : Lexed) → missing_at place r ≡ needed_at place (untaken_at r)
 missing-needed place (LexedOk v n) = refl
 missing-needed place LexedNone = refl
 missing-needed place (LexedRefused number at) = refl
@@ -226,10 +226,10 @@ module _ {A B : Type 0} {words : A → Run} {text arena later : List ℕ} {at to
     rule-needed place b e = rw e (stopped-need place answer r (rule-stopped r k b))
 
   module _ {f : ℕ → B} {text' : List ℕ} {at' least' : ℕ} {answer : Answer B} {q : Built} (r : Lexed) where
-    pub token-untaken : Absent f text' at' least' answer r → q ≡ untakenAt r
+    pub token-untaken : Absent f text' at' least' answer r → q ≡ untaken_at r
         → Builds words text arena later at top least credit (after answer Answer.none go) q
-    token-untaken a e = rw e (stopped_none answer (untakenAt r) (token-stopped r a))
+    token-untaken a e = rw e (stopped_none answer (untaken_at r) (token-stopped r a))
 
-    pub token-missing : (place : ℕ) → Absent f text' at' least' answer r → q ≡ missingAt place r
+    pub token-missing : (place : ℕ) → Absent f text' at' least' answer r → q ≡ missing_at place r
         → Builds words text arena later at top least credit (need place answer go) q
-    token-missing place a e = rw (e, missing-needed place r) (stopped-need place answer (untakenAt r) (token-stopped r a))
+    token-missing place a e = rw (e, missing-needed place r) (stopped-need place answer (untaken_at r) (token-stopped r a))

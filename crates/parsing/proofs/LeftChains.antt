@@ -11,21 +11,21 @@ use Rattle.lexing.specs.Answer.{ok}
 use Rattle.tree.specs.Ast.{Span, Expr}
 use Rattle.grammar.specs.Grammar.{build, Class}
 use Rattle.grammar.specs.Steps.{after, need}
-use Rattle.grammar.specs.Rules.{leftTail, operatorOf}
-use Rattle.grammar.specs.Reading.{treeWords}
+use Rattle.grammar.specs.Rules.{left_tail, operator_of}
+use Rattle.grammar.specs.Reading.{tree_words}
 use Rattle.parsing.specs.Arena.{Run, Holds, Kept, Room}
-use Rattle.parsing.specs.Code.{turns, tighterOf, leftChain, Begun}
+use Rattle.parsing.specs.Code.{turns, tighter_of, left_chain, Begun}
 use Rattle.parsing.proofs.Laws.{kept_refl, after-ok}
 use Rattle.parsing.proofs.Rooms.{room-on}
 use Rattle.parsing.proofs.Reached.{Stand, Reached}
 
--- what stands after some turns of `left`: the chain is what `leftTail` gives from here on, with more turns left than bytes
+-- what stands after some turns of `left`: the chain is what `left_tail` gives from here on, with more turns left than bytes
 pub record Leaning (k : Class) (text : List ℕ) (depth start from free : ℕ) (before arena : List ℕ) (e at top : ℕ) : Type 0 where
   pub tree : Expr Span
   pub turns-left : ℕ
-  pub rest : leftChain k text depth start ≡ leftTail (suc turns-left) (operatorOf text k) (tighterOf k text depth) tree at
+  pub rest : left_chain k text depth start ≡ left_tail (suc turns-left) (operator_of text k) (tighter_of k text depth) tree at
   pub enough : length text ≤ at + turns-left
-  pub holds : Holds arena e (treeWords tree)
+  pub holds : Holds arena e (tree_words tree)
   pub node-below : e + 4 ≤ top
   pub kept : Kept before arena free
   pub grows : free ≤ top
@@ -34,7 +34,7 @@ pub record Leaning (k : Class) (text : List ℕ) (depth start from free : ℕ) (
   pub within : top + 8 * from ≤ free + 8 * at
 
 module _ {k : Class} {text : List ℕ} {depth start from free : ℕ} {before : List ℕ} where
-  pub leaning-start : {first : ℕ} → Begun (tighterOf k text depth) before start from first free → from ≤ length text
+  pub leaning-start : {first : ℕ} → Begun (tighter_of k text depth) before start from first free → from ≤ length text
       → Leaning k text depth start from free before before first from free
   leaning-start b i =
       record {
@@ -55,11 +55,11 @@ module _ {k : Class} {text : List ℕ} {depth start from free : ℕ} {before : L
     pub leaning-room : Room text before from free 0 → Room text arena at top 0
     leaning-room m = room-on m l.kept l.grows l.inside (omega (arith, l))
 
-    pub leaning-rule : leftChain k text depth start
-        ≡ after (operatorOf text k at) (ok l.tree at)
-        (λ b at₁. need at₁ (tighterOf k text depth at₁)
-        (λ e₁ at₂. leftTail l.turns-left (operatorOf text k) (tighterOf k text depth) (build b l.tree e₁) at₂))
-    unfolding leftTail
+    pub leaning-rule : left_chain k text depth start
+        ≡ after (operator_of text k at) (ok l.tree at)
+        (λ b at₁. need at₁ (tighter_of k text depth at₁)
+        (λ e₁ at₂. left_tail l.turns-left (operator_of text k) (tighter_of k text depth) (build b l.tree e₁) at₂))
+    unfolding left_tail
     leaning-rule = l.rest
 
     pub leaning-forward : from + (at - from) ≤ at
@@ -77,17 +77,17 @@ module _ {k : Class} {text : List ℕ} {depth start from free : ℕ} {before : L
           start = from;
           free = free;
           lent = 0;
-          answer = leftChain k text depth start;
+          answer = left_chain k text depth start;
           arena = arena;
           at = at;
           top = top;
           spare = 0;
           bytes = at - from;
           rest =
-              after (operatorOf text k at) (ok l.tree at)
-              (λ b at₁. need at₁ (tighterOf k text depth at₁)
-              (λ e₁ at₂. leftTail l.turns-left (operatorOf text k) (tighterOf k text depth) (build b l.tree e₁) at₂));
-          made = (e, treeWords l.tree) ∷ [];
+              after (operator_of text k at) (ok l.tree at)
+              (λ b at₁. need at₁ (tighter_of k text depth at₁)
+              (λ e₁ at₂. left_tail l.turns-left (operator_of text k) (tighter_of k text depth) (build b l.tree e₁) at₂));
+          made = (e, tree_words l.tree) ∷ [];
           depth = depth;
           rank = rank;
           measure = measure;
@@ -103,13 +103,13 @@ module _ {k : Class} {text : List ℕ} {depth start from free : ℕ} {before : L
 
 -- where a turn ends the next one begins
 pub leaning-again : {k : Class} {depth start e : ℕ} {ns : List (ℕ × Run)} (p : Reached (Expr Span)) (turns-left : ℕ) (tree : Expr Span)
-    → p.answer ≡ leftChain k p.text depth start
-    → p.rest ≡ leftTail turns-left (operatorOf p.text k) (tighterOf k p.text depth) tree p.at → p.made ≡ (e, treeWords tree) ∷ ns
+    → p.answer ≡ left_chain k p.text depth start
+    → p.rest ≡ left_tail turns-left (operator_of p.text k) (tighter_of k p.text depth) tree p.at → p.made ≡ (e, tree_words tree) ∷ ns
     → leb p.lent p.spare ≡ true → length p.text < p.at + turns-left
     → Leaning k p.text depth start p.start p.free p.first p.arena e p.at p.top
 leaning-again p zero tree a r m w h = absurd (omega (arith, p.room.inside))
 leaning-again {e = e} {ns} p (suc turns-left) tree a r m w h =
-    let s : Stand p.arena p.top ((e, treeWords tree) ∷ ns) = subst (Stand p.arena p.top) m p.stands in
+    let s : Stand p.arena p.top ((e, tree_words tree) ∷ ns) = subst (Stand p.arena p.top) m p.stands in
     record {
       tree = tree;
       turns-left = turns-left;

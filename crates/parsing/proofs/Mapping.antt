@@ -5,14 +5,14 @@ use mathlib.Core.List.{List}
 use mathlib.Core.Bool.{Bool}
 use Rattle.lexing.specs.Answer.{Answer, ok, refused}
 use Rattle.tree.specs.Ast.{Span, Binding, binding, Expr, ParameterMode}
-use Rattle.tree.specs.Words.{bindingWords, boolWord, modeWord, fParameterWords}
+use Rattle.tree.specs.Words.{binding_words, bool_word, mode_word, f_parameter_words}
 use Rattle.grammar.specs.Steps.{Reader, after, need, must, mapped}
 use Rattle.grammar.specs.StepLaws.{mapped-same}
-use Rattle.grammar.specs.Rules.{parseExpr}
-use Rattle.grammar.specs.Statements.{gallery, theExpr}
+use Rattle.grammar.specs.Rules.{parse_expr}
+use Rattle.grammar.specs.Statements.{gallery, the_expr}
 use Rattle.grammar.specs.Declarations.{formal, moded}
 use Rattle.parsing.specs.Arena.{Run, Holds, Agrees, Builds, needed_at}
-use Rattle.parsing.specs.Code.{same, turns, inner, opened, betweenWords, modedWords}
+use Rattle.parsing.specs.Code.{same, turns, inner, opened, between_words, moded_words}
 use Rattle.parsing.specs.declared.arena.Built.{Built}
 use Rattle.parsing.specs.declared.arena.Built.TheVariants.{Ok, None, Refused}
 use Rattle.parsing.proofs.Laws.{after-ok, after_none, after-refused}
@@ -110,14 +110,14 @@ pub builds-must-mapped : {A B : Type 0} {words : A → Run} {words₁ : B → Ru
 builds-must-mapped f place answer w b = rw (must-mapped f place answer) (builds-mapped f w b)
 
 -- the words of a formal and of a parameter without its invariant
-pub formal-words : (i : Bool) (b : Binding Span) → betweenWords 3 (boolWord i) b ≡ fParameterWords same (formal i b)
+pub formal-words : (i : Bool) (b : Binding Span) → between_words 3 (bool_word i) b ≡ f_parameter_words same (formal i b)
 formal-words i (binding n t) = refl
 
-pub moded-words : (d : ParameterMode) (b : Binding Span) → betweenWords 3 (modeWord d) b ≡ modedWords (moded d b)
+pub moded-words : (d : ParameterMode) (b : Binding Span) → between_words 3 (mode_word d) b ≡ moded_words (moded d b)
 moded-words d (binding n t) = refl
 
 -- and of a name with its type alone
-pub binding-words : (b : Binding Span) → betweenWords 2 0 b ≡ bindingWords same b
+pub binding-words : (b : Binding Span) → between_words 2 0 b ≡ binding_words same b
 binding-words (binding n t) = refl
 
 -- "expr" of the rules with so many levels left
@@ -128,5 +128,5 @@ opened-expr text (suc depth) = refl
 
 -- an expression that must follow
 pub expr-needed : {A : Type 0} (f : Expr Span → A) (text : List ℕ) (depth at : ℕ)
-    → theExpr text (turns text) (opened text depth) f at ≡ need at (inner text depth at) (λ e at₁. ok (f e) at₁)
+    → the_expr text (turns text) (opened text depth) f at ≡ need at (inner text depth at) (λ e at₁. ok (f e) at₁)
 expr-needed f text depth at = ap (λ c. must at (mapped f (c at))) (opened-expr text depth) ∙ must-need f at (inner text depth at)

@@ -8,9 +8,9 @@ use mathlib.Core.Logic.{inl, inr}
 use lib.ListN.{length}
 use types.Run.{OneOf}
 use denote.Enum.Declared.{tag_of}
-use Rattle.parsing.specs.Arena.{Run, Holds, Kept, Noted, Based, mostArena}
+use Rattle.parsing.specs.Arena.{Run, Holds, Kept, Noted, Based, most_arena}
 use Rattle.parsing.specs.Code.{Four, Closes, Ended}
-use Rattle.parsing.specs.Declarations.{last_of, Endable, Open, joinedRun, Joins}
+use Rattle.parsing.specs.Declarations.{last_of, Endable, Open, joined_run, Joins}
 use Rattle.parsing.specs.declared.arena.Built.{Built}
 use Rattle.parsing.specs.declared.arena.Built.TheVariants.{Ok, None, Refused}
 use Rattle.parsing.specs.declared.program.DeclKind.{DeclKind}
@@ -47,7 +47,7 @@ pub record Ending : Type 0 where
   pub words : ℕ
   pub made : (DeclKind → Run) → List (ℕ × Run)
   pub based : Based arena
-  pub small : length arena ≤ mostArena
+  pub small : length arena ≤ most_arena
   pub room : free + 36 ≤ length arena
   pub kept : Kept first arena free
   pub high : 8 ≤ free
@@ -86,7 +86,7 @@ module _ (p : Ending) where
   pub high-here : 8 ≤ p.top
   high-here = omega (arith, p.high, p.above)
 
-  pub small-on : {later : List ℕ} → Kept p.arena later p.top → length later ≤ mostArena
+  pub small-on : {later : List ℕ} → Kept p.arena later p.top → length later ≤ most_arena
   small-on k = omega (arith, p.small, k.length-kept)
 
   pub room-on : {later : List ℕ} → Kept p.arena later p.top → p.free + 36 ≤ length later
@@ -140,7 +140,7 @@ module _ (p : Ending) where
       → p.made f
       ≡ (e, λ r. f Procedures (0 ∷ r)) ∷ (d, λ r. f Axioms (0 ∷ r)) ∷ (c, λ r. f Functions (0 ∷ r)) ∷ (b, λ r. f Taggers (0 ∷ r)) ∷ (a, λ r. f Types (0 ∷ r)) ∷ ns
       → Noted p.arena one p.top 8 0 a b → Four one later (p.top + 4) p.top c d e → p.words ≡ 20 → r ≡ Ok (p.top + 4 + 8) next (p.top + 4 + 12)
-      → Joins later p.free next (joinedRun f) r
+      → Joins later p.free next (joined_run f) r
   all-joined f {one} {a = a} {b} {c} {d} {e} {ns} o m n w q g =
       let s = subst (Stand p.arena p.top) m (p.stands f o) in
       let k = n.kept in

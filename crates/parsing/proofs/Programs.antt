@@ -10,14 +10,14 @@ use types.Run.{OneOf}
 use denote.Enum.Declared.{tag_of}
 use Rattle.lexing.specs.Answer.{Answer, ok, refused}
 use Rattle.tree.specs.Ast.{Span, Program}
-use Rattle.tree.specs.Words.{programWords}
+use Rattle.tree.specs.Words.{program_words}
 use Rattle.grammar.specs.Steps.{Reader, after, mapped}
 use Rattle.grammar.specs.StepLaws.{mapped-twice}
 use Rattle.grammar.specs.Statements.{rep}
 use Rattle.grammar.specs.Declarations.{TopLevelDecl, TType, TTagger, TFunction, TAxiom, TProc, declarations, declare, SeparateTopLevelDecls, TopLevel}
-use Rattle.parsing.specs.Arena.{Run, Holds, Kept, Noted, Room, Found, Builds, needed_at, mostArena}
+use Rattle.parsing.specs.Arena.{Run, Holds, Kept, Noted, Room, Found, Builds, needed_at, most_arena}
 use Rattle.parsing.specs.Code.{same, turns, opened}
-use Rattle.parsing.specs.Declarations.{DeclOf, declWords, declRule, topLevel, declaration, Begins, Leads, last_of, with_last, partWords, Endable, Open, joinedRun, Joins}
+use Rattle.parsing.specs.Declarations.{DeclOf, decl_words, decl_rule, top_level, declaration, Begins, Leads, last_of, with_last, part_words, Endable, Open, joined_run, Joins}
 use Rattle.parsing.specs.declared.arena.Built.{Built}
 use Rattle.parsing.specs.declared.arena.Built.TheVariants.{Ok, None, Refused}
 use Rattle.parsing.specs.declared.program.DeclKind.{DeclKind}
@@ -75,12 +75,12 @@ gathered-other {rest₁ = rest₁} put g q w k t =
 
 -- the declarations of a kind that were read so far
 abbrev pub Part : List ℕ → Lists → ℕ → Answer (Program Span) → Answer (Program Span) → DeclKind → Type 0
-Part arena lists top whole rest s = Gathered (partWords s) arena (last_of lists s) top whole rest
+Part arena lists top whole rest s = Gathered (part_words s) arena (last_of lists s) top whole rest
 
 -- the five sequences after a declaration of the kind s
 module _ {arena later last : List ℕ} {lists : Lists} {top n e : ℕ} {whole rest rest₁ : Answer (Program Span)} (k : Kept arena later top) (l : top ≤ n)
     (b : e + 4 ≤ n) where
-  gathered-turn : (s : DeclKind) (d : DeclOf s) → ((t : DeclKind) → Part arena lists top whole rest t) → rest ≡ mapped (declare (topLevel s d)) rest₁ → Holds later e (declWords s d)
+  gathered-turn : (s : DeclKind) (d : DeclOf s) → ((t : DeclKind) → Part arena lists top whole rest t) → rest ≡ mapped (declare (top_level s d)) rest₁ → Holds later e (decl_words s d)
       → Noted later last n 7 0 (last_of lists s) e → (t : DeclKind) → Part last (with_last lists s n) (n + 4) whole rest₁ t
   gathered-turn Types d g q h o =
       let up = kept_next l k o.kept in
@@ -187,7 +187,7 @@ module _ (text : List ℕ) (depth start : ℕ) where
   rest-refused k at e = ap (mapped SeparateTopLevelDecls) (after-refused _ _ e) ∙ mapped-refused _ refl
 
   -- no declarations
-  empty-part : (s : DeclKind) (r : List ℕ) → partWords s (SeparateTopLevelDecls []) r ≡ 0 ∷ r
+  empty-part : (s : DeclKind) (r : List ℕ) → part_words s (SeparateTopLevelDecls []) r ≡ 0 ∷ r
   unfolding SeparateTopLevelDecls
   empty-part Types r = refl
   empty-part Taggers r = refl
@@ -211,7 +211,7 @@ module _ (text : List ℕ) (depth start : ℕ) where
       pub decl-room : Room text arena next top 20
       decl-room = room-on g.room kept_refl (le_refl top) begins.inside (omega (arith, begins.past))
 
-      module _ {later : List ℕ} {r : Built} (b : Builds (declWords s) text arena later next top 1 20 (declRule s text depth next) r) where
+      module _ {later : List ℕ} {r : Built} (b : Builds (decl_words s) text arena later next top 1 20 (decl_rule s text depth next) r) where
         -- the arena is as long as it was
         pub decl-length : length later ≡ length first
         decl-length = b.kept.length-kept ∙ g.kept.length-kept
@@ -221,7 +221,7 @@ module _ (text : List ℕ) (depth start : ℕ) where
           pub past : at < next₁
           pub inside : next₁ ≤ length text
           pub fits : n + 4 ≤ length later
-          pub small : n + 4 ≤ mostArena
+          pub small : n + 4 ≤ most_arena
 
         pub decl-read : {e next₁ n : ℕ} → r ≡ Ok e next₁ n → Read next₁ n
         decl-read o =
@@ -242,7 +242,7 @@ module _ (text : List ℕ) (depth start : ℕ) where
             o : Noted later last n 7 0 (last_of lists s) e
             o = rw u at m
 
-            f : Found (declWords s) text later next top 1 20 (declRule s text depth next) e next₁ n
+            f : Found (decl_words s) text later next top 1 20 (decl_rule s text depth next) e next₁ n
             f = found k b
 
             p : at + 4 ≤ next
@@ -258,7 +258,7 @@ module _ (text : List ℕ) (depth start : ℕ) where
                   enough = omega (arith, p, f.progress);
                   gathered =
                       gathered-turn b.kept f.grows f.node-below s f.value h
-                      (rest_more (suc left) at (begins.says depth ∙ mapped-ok (topLevel s) f.says)) f.holds o;
+                      (rest_more (suc left) at (begins.says depth ∙ mapped-ok (top_level s) f.says)) f.holds o;
                   above = omega (arith, g.above, f.grows);
                   forward = omega (arith, g.forward, p, f.progress);
                   within = omega (arith, g.within, p, f.within);
@@ -274,19 +274,19 @@ module _ (text : List ℕ) (depth start : ℕ) where
     value = (g.gathered Types).more (SeparateTopLevelDecls [])
 
     -- the words of each part, and of the whole
-    part-run : declaration text depth at ≡ Answer.none → (s : DeclKind) (r : List ℕ) → (g.gathered s).run (0 ∷ r) ≡ partWords s value r
+    part-run : declaration text depth at ≡ Answer.none → (s : DeclKind) (r : List ℕ) → (g.gathered s).run (0 ∷ r) ≡ part_words s value r
     part-run e s r =
         ap (g.gathered s).run (sym (empty-part s r)) ∙ (g.gathered s).joins (SeparateTopLevelDecls []) r
-        ∙ ap (λ a. partWords s (value_of a) r) (sym (at-end e s) ∙ at-end e Types)
+        ∙ ap (λ a. part_words s (value_of a) r) (sym (at-end e s) ∙ at-end e Types)
 
-    program-run : declaration text depth at ≡ Answer.none → joinedRun (λ s. (g.gathered s).run) ≡ programWords same value
+    program-run : declaration text depth at ≡ Answer.none → joined_run (λ s. (g.gathered s).run) ≡ program_words same value
     program-run e =
         fun_ext
         (λ r. part-run e Types _
-        ∙ ap (partWords Types value)
+        ∙ ap (part_words Types value)
         (part-run e Taggers _
-        ∙ ap (partWords Taggers value)
-        (part-run e Functions _ ∙ ap (partWords Functions value) (part-run e Axioms _ ∙ ap (partWords Axioms value) (part-run e Procedures r)))))
+        ∙ ap (part_words Taggers value)
+        (part-run e Functions _ ∙ ap (part_words Functions value) (part-run e Axioms _ ∙ ap (part_words Axioms value) (part-run e Procedures r)))))
 
     -- a part is a sequence without its end
     open-part : (s : DeclKind) → Open arena top (last_of lists s) (g.gathered s).run
@@ -298,8 +298,8 @@ module _ (text : List ℕ) (depth start : ℕ) where
         record { high = g.room.above; room = omega (arith, g.room.room, g.room.inside); small = g.room.small; based = g.room.based }
 
     end-builds : {last : List ℕ} (r : Built) → declaration text depth at ≡ Answer.none → Kept arena last top
-        → ((f : DeclKind → Run) → ((s : DeclKind) → Open arena top (last_of lists s) (f s)) → Joins last top at (joinedRun f) r)
-        → Builds (programWords same) text first last start free 0 36 whole r
+        → ((f : DeclKind → Run) → ((s : DeclKind) → Open arena top (last_of lists s) (f s)) → Joins last top at (joined_run f) r)
+        → Builds (program_words same) text first last start free 0 36 whole r
     end-builds {last} (Ok node n free₁) e k j =
         let h = j (λ s. (g.gathered s).run) open-part in
         rw (at-end e Types)
@@ -316,13 +316,13 @@ module _ (text : List ℕ) (depth start : ℕ) where
 
     -- what `joined` answers is the program
     pub program-ends : {last : List ℕ} {word : Led} (r : Built) → Leads text at word → word ≡ LedNone → Kept arena last top
-        → ((f : DeclKind → Run) → ((s : DeclKind) → Open arena top (last_of lists s) (f s)) → Joins last top at (joinedRun f) r)
-        → Builds (programWords same) text first last start free 0 36 whole r
+        → ((f : DeclKind → Run) → ((s : DeclKind) → Open arena top (last_of lists s) (f s)) → Joins last top at (joined_run f) r)
+        → Builds (program_words same) text first last start free 0 36 whole r
     program-ends r w e k j = end-builds r (nothing-at text depth at e w) k j
 
     -- a declaration is refused, at its word or after it
     refused-builds : {later : List ℕ} {number place : ℕ} → declaration text depth at ≡ refused number place → Kept arena later top
-        → Builds (programWords same) text first later start free 0 36 whole (Refused number place)
+        → Builds (program_words same) text first later start free 0 36 whole (Refused number place)
     refused-builds e k =
         record {
           kept = kept_next g.above g.kept k;
@@ -330,15 +330,15 @@ module _ (text : List ℕ) (depth start : ℕ) where
         }
 
     pub program-refused : {word : Led} {number place : ℕ} → Leads text at word → word ≡ LedRefused number place
-        → Builds (programWords same) text first arena start free 0 36 whole (Refused number place)
+        → Builds (program_words same) text first arena start free 0 36 whole (Refused number place)
     program-refused w e = refused-builds (refused-at text depth at e w) kept_refl
 
     -- after its word a declaration keeps something, so that it is refused
     pub program-needed : {word : Led} {s : DeclKind} {next : ℕ} {later : List ℕ} {q : Built} (r : Built) → Leads text at word → word ≡ LedOk s next
-        → Builds (declWords s) text arena later next top 1 20 (declRule s text depth next) r → OneOf (1 ∷ 2 ∷ []) (tag_of built-type r)
-        → q ≡ needed_at next r → Builds (programWords same) text first later start free 0 36 whole q
+        → Builds (decl_words s) text arena later next top 1 20 (decl_rule s text depth next) r → OneOf (1 ∷ 2 ∷ []) (tag_of built-type r)
+        → q ≡ needed_at next r → Builds (program_words same) text first later start free 0 36 whole q
     program-needed (Ok node n free₁) w i h (inl e) o = absurd (omega arith)
     program-needed (Ok node n free₁) w i h (inr e) o = absurd (omega arith)
     program-needed {s = s} {next} None w i h e o = absurd (omega (arith, ap kept h.agrees, (decl-keeps s text depth next).some))
     program-needed {s = s} (Refused number place) w i h e o =
-        rw o (refused-builds ((begins-at text at i w).says depth ∙ mapped-refused (topLevel s) h.agrees) h.kept)
+        rw o (refused-builds ((begins-at text at i w).says depth ∙ mapped-refused (top_level s) h.agrees) h.kept)

@@ -15,7 +15,7 @@ use Rattle.lexing.specs.Answer.{Answer, ok, refused}
 use Rattle.lexing.specs.declared.token.Lexed.{Lexed}
 use Rattle.grammar.specs.Steps.{after, need}
 use Rattle.parsing.specs.Arena.{Run, Holds, Kept, Noted, Room, Found, Builds, needed_at}
-use Rattle.parsing.specs.Code.{Took, Four, Choice, missingAt, untakenAt}
+use Rattle.parsing.specs.Code.{Took, Four, Choice, missing_at, untaken_at}
 use Rattle.parsing.specs.declared.arena.Built.{Built}
 use Rattle.parsing.specs.declared.arena.Built.TheVariants.{Ok, Refused}
 use Rattle.parsing.specs.contracts.arena.Built.{the_type as built-type}
@@ -327,11 +327,11 @@ module _ {A : Type 0} (p : Reached A) where
     -- a token that must follow, or may, is not there
     module _ {f : ℕ → B} {least₁ : ℕ} {answer : Answer B} {q : Built} (go : B → ℕ → Answer A) (r : Lexed)
         (a : Absent f p.text p.at least₁ answer r) where
-      pub missing : p.rest ≡ need p.at answer go → q ≡ missingAt p.at r
+      pub missing : p.rest ≡ need p.at answer go → q ≡ missing_at p.at r
           → Builds words p.text p.first p.arena from p.free least credit p.answer q
       missing e o = rw (p.says ∙ e) (token-missing go p.kept r p.at a o)
 
-      pub untaken : p.rest ≡ after answer Answer.none go → q ≡ untakenAt r
+      pub untaken : p.rest ≡ after answer Answer.none go → q ≡ untaken_at r
           → Builds words p.text p.first p.arena from p.free least credit p.answer q
       untaken e o = rw (p.says ∙ e) (token-untaken go p.kept r a o)
 

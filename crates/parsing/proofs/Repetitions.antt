@@ -9,9 +9,9 @@ use Rattle.lexing.specs.Answer.{Answer, ok, refused}
 use Rattle.grammar.specs.Steps.{Reader, after, need, mapped}
 use Rattle.grammar.specs.Rules.{Sequence}
 use Rattle.grammar.specs.Statements.{rep}
-use Rattle.parsing.specs.Arena.{Run, Kept, Noted, Room, Builds, mostArena}
+use Rattle.parsing.specs.Arena.{Run, Kept, Noted, Room, Builds, most_arena}
 use Rattle.parsing.specs.Code.{Closes, turns}
-use Rattle.parsing.specs.Statements.{Leaves, RepeatedOf, RepetitionOf, repeated, repeatedWords, repetitionWords, repeatedRule}
+use Rattle.parsing.specs.Statements.{Leaves, RepeatedOf, RepetitionOf, repeated, repeated_words, repetition_words, repeated_rule}
 use Rattle.parsing.specs.declared.arena.Built.{Built}
 use Rattle.parsing.specs.declared.arena.Built.TheVariants.{Ok, None, Refused}
 use Rattle.parsing.specs.declared.stmt.Repeated.{Repeated}
@@ -26,7 +26,7 @@ abbrev ahead : {A : Type 0} → Reader A → Reader ℕ
 ahead item at = after (item at) Answer.none (λ _ _. ok 0 at)
 
 -- the words of no items, and of an item before others
-nil-words : (k : Repeated) (r : List ℕ) → repetitionWords k (repeated k).nil r ≡ 0 ∷ r
+nil-words : (k : Repeated) (r : List ℕ) → repetition_words k (repeated k).nil r ≡ 0 ∷ r
 nil-words Statements r = refl
 nil-words Nested r = refl
 nil-words Branches r = refl
@@ -37,7 +37,7 @@ nil-words Invariants r = refl
 nil-words Whens r = refl
 
 cons-words : (k : Repeated) (a : RepeatedOf k) (l : RepetitionOf k) (r : List ℕ)
-    → repetitionWords k ((repeated k).cons a l) r ≡ 1 ∷ repeatedWords k a (repetitionWords k l r)
+    → repetition_words k ((repeated k).cons a l) r ≡ 1 ∷ repeated_words k a (repetition_words k l r)
 cons-words Statements a l r = refl
 cons-words Nested a l r = refl
 cons-words Branches a l r = refl
@@ -73,7 +73,7 @@ ahead_step {A = A} q item k at = by-item (item at) refl
 
 -- each repetition, with the words of its kind
 repetition : (k : Repeated) (item : Reader (RepeatedOf k))
-    → Repetition (ahead item) item (repeated k).cons (repeated k).nil (λ n. rep (repeated k) n item) (repeatedWords k) (repetitionWords k)
+    → Repetition (ahead item) item (repeated k).cons (repeated k).nil (λ n. rep (repeated k) n item) (repeated_words k) (repetition_words k)
 repetition k item = record { step = ahead_step (repeated k) item; put-words = cons-words k; end-words = nil-words k }
 
 -- words above the list have changed
@@ -99,8 +99,8 @@ gathering-kept g k =
 
 -- a turn of `many`: items of the kind k were read from `start` on, to `at`
 pub record Turn (text : List ℕ) (k : Repeated) (depth start : ℕ) (first : List ℕ) (free : ℕ) (arena : List ℕ) (list at top : ℕ) : Type 0 where
-  pub gathering : Gathering (repetitionWords k) text (rep (repeated k) (turns text) (repeatedRule k text depth) start)
-      (λ n. rep (repeated k) n (repeatedRule k text depth)) first free arena list at top
+  pub gathering : Gathering (repetition_words k) text (rep (repeated k) (turns text) (repeated_rule k text depth) start)
+      (λ n. rep (repeated k) n (repeated_rule k text depth)) first free arena list at top
   pub forward : start ≤ at
   pub within : top + 8 * start ≤ free + 8 * at
   pub room : Room text arena at top 4
@@ -110,7 +110,7 @@ pub turn-begins : {text arena : List ℕ} {start free : ℕ} (k : Repeated) (dep
     → Turn text k depth start arena free arena 0 start free
 turn-begins {text} k depth m =
     record {
-      gathering = gathering-none (repetition k (repeatedRule k text depth)) _ m.based m.above (omega arith) m.inside;
+      gathering = gathering-none (repetition k (repeated_rule k text depth)) _ m.based m.above (omega arith) m.inside;
       forward = le_refl _;
       within = le_refl _;
       room = m;
@@ -122,7 +122,7 @@ module _ {text : List ℕ} {k : Repeated} {depth start : ℕ} {first : List ℕ}
   pub item_room : Room text arena at top 0
   item_room = room-on g.room kept_refl (le_refl _) g.room.inside (omega arith)
 
-  module _ {later : List ℕ} {r : Built} (b : Leaves (repeatedWords k) text arena later at top (repeatedRule k text depth at) r) where
+  module _ {later : List ℕ} {r : Built} (b : Leaves (repeated_words k) text arena later at top (repeated_rule k text depth at) r) where
     -- the arena is as long as it was
     pub turn-length : length later ≡ length first
     turn-length = b.kept.length-kept ∙ g.gathering.kept.length-kept
@@ -132,7 +132,7 @@ module _ {text : List ℕ} {k : Repeated} {depth start : ℕ} {first : List ℕ}
       pub past : at < next
       pub inside : next ≤ length text
       pub fits : top₁ + 4 ≤ length later
-      pub small : top₁ + 4 ≤ mostArena
+      pub small : top₁ + 4 ≤ most_arena
 
     pub item-read : {e next top₁ : ℕ} → r ≡ Ok e next top₁ → Read next top₁
     item-read o =
@@ -151,7 +151,7 @@ module _ {text : List ℕ} {k : Repeated} {depth start : ℕ} {first : List ℕ}
         let f = found o b in
         record {
           gathering =
-              gathering-next (repetition k (repeatedRule k text depth)) g.gathering (ahead-ok (repeatedRule k text depth) at f.says)
+              gathering-next (repetition k (repeated_rule k text depth)) g.gathering (ahead-ok (repeated_rule k text depth) at f.says)
               (omega (arith, f.progress)) b.kept (found o (leaves-builds b)) n;
           forward = omega (arith, g.forward, f.progress);
           within = omega (arith, g.within, f.within);
@@ -163,19 +163,19 @@ module _ {text : List ℕ} {k : Repeated} {depth start : ℕ} {first : List ℕ}
     pub end_fits : top + 4 ≤ length later
     end_fits = omega (arith, g.room.room, g.room.inside, b.kept.length-kept)
 
-    pub end-small : length later ≤ mostArena
+    pub end-small : length later ≤ most_arena
     end-small = omega (arith, g.room.small, b.kept.length-kept)
 
     -- the list ends, or its next item is refused
     pub turn-ends : {last : List ℕ} (q : Built) → r ≡ None → Closes later last top list at q
-        → Builds (repetitionWords k) text first last start free 0 4 (rep (repeated k) (turns text) (repeatedRule k text depth) start) q
+        → Builds (repetition_words k) text first last start free 0 4 (rep (repeated k) (turns text) (repeated_rule k text depth) start) q
     turn-ends q o h =
-        gathering-end (repetition k (repeatedRule k text depth)) (gathering-kept g.gathering b.kept) q
-        (ahead_none (repeatedRule k text depth) at (none_of o b)) kept_refl (based-kept b.kept g.room.above g.room.based) g.room.above h
+        gathering-end (repetition k (repeated_rule k text depth)) (gathering-kept g.gathering b.kept) q
+        (ahead_none (repeated_rule k text depth) at (none_of o b)) kept_refl (based-kept b.kept g.room.above g.room.based) g.room.above h
         (omega (arith, g.forward)) (λ _. omega (arith, g.within)) (λ _. omega (arith, g.within))
 
     pub turn-refused : {number place : ℕ} → r ≡ Refused number place
-        → Builds (repetitionWords k) text first later start free 0 4 (rep (repeated k) (turns text) (repeatedRule k text depth) start) (Refused number place)
+        → Builds (repetition_words k) text first later start free 0 4 (rep (repeated k) (turns text) (repeated_rule k text depth) start) (Refused number place)
     turn-refused o =
-        gathering-refused (repetition k (repeatedRule k text depth)) (gathering-kept g.gathering b.kept)
-        (ahead-refused (repeatedRule k text depth) at (rw o at b.agrees)) kept_refl
+        gathering-refused (repetition k (repeated_rule k text depth)) (gathering-kept g.gathering b.kept)
+        (ahead-refused (repeated_rule k text depth) at (rw o at b.agrees)) kept_refl

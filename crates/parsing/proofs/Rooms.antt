@@ -9,7 +9,7 @@ use Rattle.tree.specs.Ast.{Expr, Span}
 use Rattle.grammar.specs.Steps.{Reader}
 use Rattle.parsing.specs.Arena.{Run, Based, Room, Kept, Found, Holds}
 use Rattle.parsing.specs.Code.{Begun, Choice, Four}
-use Rattle.grammar.specs.Reading.{treeWords}
+use Rattle.grammar.specs.Reading.{tree_words}
 use Rattle.parsing.proofs.Laws.{node_kept, holds_kept}
 
 -- the first nodes stay
@@ -29,7 +29,7 @@ room-on m k g i w =
     }
 
 pub begun : {rule : Reader (Expr Span)} {text arena : List ℕ} {at top least credit node next free : ℕ}
-    → Found treeWords text arena at top least credit (rule at) node next free → Begun rule arena at next node free
+    → Found tree_words text arena at top least credit (rule at) node next free → Begun rule arena at next node free
 begun f = record { tree = f.value; said = f.says; holds = f.holds; below = f.node-below }
 
 -- the runs of `choice` and of `four`

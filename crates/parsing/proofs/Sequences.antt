@@ -8,12 +8,12 @@ use lib.ListN.{length}
 use types.Run.{OneOf}
 use denote.Enum.Declared.{tag_of}
 use Rattle.lexing.specs.Answer.{Answer, ok, refused}
-use Rattle.tree.specs.Ast.{Span, Expr, noPatterns, pattern}
-use Rattle.tree.specs.Words.{exprsWords, patternsWords}
-use Rattle.grammar.specs.Steps.{Reader, after, need, mapped, Sym, signAt, keywordAt}
-use Rattle.grammar.specs.Rules.{Sequence, exprs, commaTail, parseNonemptyCommaDelimitedSeq, parseCommaDelimitedSeq, parseListed, parseMarked}
+use Rattle.tree.specs.Ast.{Span, Expr, no_patterns, pattern}
+use Rattle.tree.specs.Words.{exprs_words, patterns_words}
+use Rattle.grammar.specs.Steps.{Reader, after, need, mapped, Sym, sign_at, keyword_at}
+use Rattle.grammar.specs.Rules.{Sequence, exprs, comma_tail, parse_nonempty_comma_delimited_seq, parse_comma_delimited_seq, parse_listed, parse_marked}
 use Rattle.parsing.specs.Arena.{Run, Node, Holds, Kept, Noted, Based, Found, Builds, needed_at}
-use Rattle.parsing.specs.Code.{ItemOf, ListOf, sequenceOf, Shuts, Ended, Closes, listWords, itemWords, same, turns}
+use Rattle.parsing.specs.Code.{ItemOf, ListOf, sequence_of, Shuts, Ended, Closes, list_words, item_words, same, turns}
 use Rattle.parsing.specs.declared.arena.Built.{Built}
 use Rattle.parsing.specs.declared.expr.seq.Kind.{Kind}
 use Rattle.parsing.specs.declared.expr.seq.Kind.TheVariants.{Exprs as ExprItems, Bindings as BindingItems, Closures as ClosureItems, Properties as PropertyItems}
@@ -25,25 +25,25 @@ use Rattle.parsing.proofs.Laws.{kept_refl, kept_trans, kept_next, node_kept, hol
 
 -- ---- a list and the sign that closes it
 
--- `parseListed`, by the answer of the list without its end
+-- `parse_listed`, by the answer of the list without its end
 module _ {A L : Type 0} (text : List ℕ) (m : ℕ) (q : Sequence A L) (item : Reader A) (close : List ℕ) (at : ℕ) where
-  pub listed-some : {l : L} {next : ℕ} → parseNonemptyCommaDelimitedSeq text m q item at ≡ ok l next
-      → parseListed text m q item close at ≡ need next (signAt text close next) (λ _ at₁. ok l at₁)
-  unfolding parseListed parseCommaDelimitedSeq after
+  pub listed-some : {l : L} {next : ℕ} → parse_nonempty_comma_delimited_seq text m q item at ≡ ok l next
+      → parse_listed text m q item close at ≡ need next (sign_at text close next) (λ _ at₁. ok l at₁)
+  unfolding parse_listed parse_comma_delimited_seq after
   listed-some e = rw e refl
 
-  pub listed-none : parseNonemptyCommaDelimitedSeq text m q item at ≡ Answer.none
-      → parseListed text m q item close at ≡ need at (signAt text close at) (λ _ at₁. ok q.nil at₁)
-  unfolding parseListed parseCommaDelimitedSeq after
+  pub listed-none : parse_nonempty_comma_delimited_seq text m q item at ≡ Answer.none
+      → parse_listed text m q item close at ≡ need at (sign_at text close at) (λ _ at₁. ok q.nil at₁)
+  unfolding parse_listed parse_comma_delimited_seq after
   listed-none e = rw e refl
 
-  pub listed-refused : {number place : ℕ} → parseNonemptyCommaDelimitedSeq text m q item at ≡ refused number place
-      → parseListed text m q item close at ≡ refused number place
-  unfolding parseListed parseCommaDelimitedSeq after
+  pub listed-refused : {number place : ℕ} → parse_nonempty_comma_delimited_seq text m q item at ≡ refused number place
+      → parse_listed text m q item close at ≡ refused number place
+  unfolding parse_listed parse_comma_delimited_seq after
   listed-refused e = rw e refl
 
 -- the words of no items
-nil-words : (k : Kind) (r : List ℕ) → listWords k (sequenceOf k).nil r ≡ 0 ∷ r
+nil-words : (k : Kind) (r : List ℕ) → list_words k (sequence_of k).nil r ≡ 0 ∷ r
 nil-words ExprItems r = refl
 nil-words BindingItems r = refl
 nil-words ClosureItems r = refl
@@ -53,7 +53,7 @@ nil-words FormalItems r = refl
 nil-words ParameterItems r = refl
 nil-words ArgumentItems r = refl
 
-pub nil-holds : (k : Kind) {arena : List ℕ} → Based arena → Holds arena 4 (listWords k (sequenceOf k).nil)
+pub nil-holds : (k : Kind) {arena : List ℕ} → Based arena → Holds arena 4 (list_words k (sequence_of k).nil)
 nil-holds k {arena} b = subst (Holds arena 4) (sym (fun_ext (nil-words k))) (Holds.one b.end-run)
 
 -- a needed step that is refused, whatever follows it
@@ -68,7 +68,7 @@ need-refused at v (refused number place) e = cc
 pub shut-builds : {A : Type 0} {words : A → Run} {text arena later : List ℕ} {at top credit : ℕ} (v : A) (close : List ℕ) (at₁ top₁ es : ℕ) (r : Built)
     → Shuts text close at₁ top₁ es r → 1 ≤ length close → Kept arena later top → Holds later es (words v) → es + 4 ≤ top₁ → at ≤ at₁ → top ≤ top₁
     → top₁ + 8 * at ≤ top + 8 * at₁ + credit + 8
-    → Builds words text arena later at top 1 credit (need at₁ (signAt text close at₁) (λ _ at₂. ok v at₂)) r
+    → Builds words text arena later at top 1 credit (need at₁ (sign_at text close at₁) (λ _ at₂. ok v at₂)) r
 shut-builds v close at₁ top₁ es (Ok node next free) (n, f, (x, e), p, i) l k h b a t w =
     record {
       kept = k;
@@ -84,7 +84,7 @@ shut-builds v close at₁ top₁ es (Ok node next free) (n, f, (x, e), p, i) l k
       };
     }
 shut-builds v close at₁ top₁ es None s l k h b a t w = absurd s
-shut-builds {text} v close at₁ top₁ es (Refused number place) s l k h b a t w = record { kept = k; agrees = need-refused at₁ v (signAt text close at₁) s }
+shut-builds {text} v close at₁ top₁ es (Refused number place) s l k h b a t w = record { kept = k; agrees = need-refused at₁ v (sign_at text close at₁) s }
 
 -- ---- the loops that gather items
 
@@ -97,7 +97,7 @@ pub record Repetition {A L : Type 0} (mark : Reader ℕ) (item : Reader A) (put 
   pub end-words : (r : List ℕ) → words end r ≡ 0 ∷ r
 
 -- the words of an item before others
-cons-words : (k : Kind) (a : ItemOf k) (l : ListOf k) (r : List ℕ) → listWords k ((sequenceOf k).cons a l) r ≡ 1 ∷ itemWords k a (listWords k l r)
+cons-words : (k : Kind) (a : ItemOf k) (l : ListOf k) (r : List ℕ) → list_words k ((sequence_of k).cons a l) r ≡ 1 ∷ item_words k a (list_words k l r)
 cons-words ExprItems a l r = refl
 cons-words BindingItems a l r = refl
 cons-words ClosureItems a l r = refl
@@ -108,14 +108,14 @@ cons-words ParameterItems a l r = refl
 cons-words ArgumentItems a l r = refl
 
 pub comma-repetition : (text : List ℕ) (k : Kind) (item : Reader (ItemOf k))
-    → Repetition (Sym text ",") item (sequenceOf k).cons (sequenceOf k).nil (λ n. commaTail text (sequenceOf k) n item) (itemWords k) (listWords k)
-unfolding commaTail
+    → Repetition (Sym text ",") item (sequence_of k).cons (sequence_of k).nil (λ n. comma_tail text (sequence_of k) n item) (item_words k) (list_words k)
+unfolding comma_tail
 comma-repetition text k item = record { step = λ n at. refl; put-words = cons-words k; end-words = nil-words k }
 
 pub marked-repetition : (text : List ℕ) (m : ℕ) (c : Reader (Expr Span)) (w : List ℕ)
-    → Repetition (keywordAt text w) (parseNonemptyCommaDelimitedSeq text m exprs c) pattern noPatterns (λ k. parseMarked text m c k w) (exprsWords same)
-    (patternsWords same)
-unfolding parseMarked
+    → Repetition (keyword_at text w) (parse_nonempty_comma_delimited_seq text m exprs c) pattern no_patterns (λ k. parse_marked text m c k w) (exprs_words same)
+    (patterns_words same)
+unfolding parse_marked
 marked-repetition text m c w = record { step = λ k at. refl; put-words = λ es ps r. refl; end-words = λ r. refl }
 
 -- the items read so far: the list's node stands for their words, before those of what the rest gives
@@ -286,15 +286,15 @@ module _ {A L : Type 0} {mark : Reader ℕ} {item : Reader A} {put : A → L →
 -- a turn of `items`: one item at least was read from `start` on
 pub record Listing (text : List ℕ) (k : Kind) (item : Reader (ItemOf k)) (start : ℕ) (first : List ℕ) (free : ℕ) (arena : List ℕ) (list at top : ℕ)
     : Type 0 where
-  pub gathering : Gathering (listWords k) text (parseNonemptyCommaDelimitedSeq text (turns text) (sequenceOf k) item start) (λ n. commaTail text (sequenceOf k) n item) first
+  pub gathering : Gathering (list_words k) text (parse_nonempty_comma_delimited_seq text (turns text) (sequence_of k) item start) (λ n. comma_tail text (sequence_of k) n item) first
       free arena list at top
   pub forward : start + 1 ≤ at
   pub within : top + 8 * start ≤ free + 8 * at + 8
 
 -- after the first item
 pub nonempty-some : {A L : Type 0} (text : List ℕ) (m : ℕ) (q : Sequence A L) (item : Reader A) (at : ℕ) {a : A} {next : ℕ} → item at ≡ ok a next
-    → parseNonemptyCommaDelimitedSeq text m q item at ≡ mapped (q.cons a) (commaTail text q m item next)
-unfolding parseNonemptyCommaDelimitedSeq
+    → parse_nonempty_comma_delimited_seq text m q item at ≡ mapped (q.cons a) (comma_tail text q m item next)
+unfolding parse_nonempty_comma_delimited_seq
 nonempty-some text m q item at e = after-ok _ _ e
 
 -- a turn of a loop that repeats a mark and an item: nothing was read from `start` on, or items, which leave room for their end
@@ -308,5 +308,5 @@ pub record Repeating {L : Type 0} (words : L → Run) (text : List ℕ) (whole :
 -- a turn of `marks`
 abbrev pub Marking : List ℕ → Reader (Expr Span) → List ℕ → ℕ → List ℕ → ℕ → List ℕ → ℕ → ℕ → ℕ → Type 0
 Marking text c w start first free arena list at top =
-    Repeating (patternsWords same) text (parseMarked text (turns text) c (turns text) w start) (λ k. parseMarked text (turns text) c k w) start first free arena
+    Repeating (patterns_words same) text (parse_marked text (turns text) c (turns text) w start) (λ k. parse_marked text (turns text) c k w) start first free arena
     list at top

@@ -10,16 +10,16 @@ use Rattle.lexing.specs.Answer.{Answer, ok, refused}
 use Rattle.lexing.specs.CodeAnswers.{answer_of}
 use Rattle.lexing.specs.declared.token.Lexed.{Lexed}
 use Rattle.lexing.specs.declared.token.Lexed.TheVariants.{Ok as LexedOk, None as LexedNone, Refused as LexedRefused}
-use Rattle.tree.specs.Ast.{Span, Binding, binding, Expr, Variable, Stmt, VarDecl, Assign, Block, Call, Choose, If, IfCase, LabeledStmt, noStmts, stmts, case, aExpr, AAssertion}
-use Rattle.tree.specs.Words.{boolWord, nameWords, bindingWords, optionWords, exprWords, stmtWords}
+use Rattle.tree.specs.Ast.{Span, Binding, binding, Expr, Variable, Stmt, VarDecl, Assign, Block, Call, Choose, If, IfCase, LabeledStmt, no_stmts, stmts, case, a_expr, AAssertion}
+use Rattle.tree.specs.Words.{bool_word, name_words, binding_words, option_words, expr_words, stmt_words}
 use Rattle.lexing.specs.Bytes.{bytes}
-use Rattle.grammar.specs.Steps.{Reader, after, need, must, mapped, ◌or◌, T, Sym, keywordAt, parseName}
+use Rattle.grammar.specs.Steps.{Reader, after, need, must, mapped, ◌or◌, T, Sym, keyword_at, parse_name}
 use Rattle.grammar.specs.StepLaws.{mapped-same}
-use Rattle.grammar.specs.Rules.{parseIdType, parseOptionalType, parseListed}
-use Rattle.grammar.specs.Statements.{rep, statements, cases, overType, parseOptionalAutoInvariant, parseInit, parseVariableDeclaration, afterForall, parseOr, afterChoose, parseCase, parseElse, parseIfCont, parseAExpr, parseCallArgument, arguments, afterAssign, afterLabel, after_call}
+use Rattle.grammar.specs.Rules.{parse_id_type, parse_optional_type, parse_listed}
+use Rattle.grammar.specs.Statements.{rep, statements, cases, over_type, parse_optional_auto_invariant, parse_init, parse_variable_declaration, after_forall, parse_or, after_choose, parse_case, parse_else, parse_if_cont, parse_a_expr, parse_call_argument, arguments, after_assign, after_label, after_call}
 use Rattle.parsing.specs.Arena.{Run, Builds}
-use Rattle.parsing.specs.Code.{Tells, same, turns, inner, opened, boolOf}
-use Rattle.parsing.specs.Statements.{Marked, declaration, declarationWords, optionalExpr, condStmt}
+use Rattle.parsing.specs.Code.{Tells, same, turns, inner, opened, bool_of}
+use Rattle.parsing.specs.Statements.{Marked, declaration, declaration_words, optional_expr, cond_stmt}
 use Rattle.parsing.specs.declared.arena.Built.{Built}
 use Rattle.parsing.specs.declared.arena.Built.TheVariants.{Ok}
 use Rattle.parsing.proofs.Laws.{after-ok}
@@ -87,137 +87,137 @@ tells-marked text at least answer (LexedRefused number place) l t = tt
 -- each rule with so many levels left, by its steps
 module _ (text : List ℕ) (depth : ℕ) where
   -- an optional expression, by the answer in the place of its mark
-  abbrev optionalBy : Answer ℕ → ℕ → Answer (Option (Expr Span))
-  optionalBy mark at = after mark (ok none at) (λ _ at₁. must at₁ (mapped some (inner text depth at₁)))
+  abbrev optional_by : Answer ℕ → ℕ → Answer (Option (Expr Span))
+  optional_by mark at = after mark (ok none at) (λ _ at₁. must at₁ (mapped some (inner text depth at₁)))
 
   -- an optional expression, by what was read in the place of its mark
   pub optional-said : {A : Type 0} (at least : ℕ) (answer : Answer ℕ) (go : Option (Expr Span) → ℕ → Answer A) (r : Lexed)
-      → Tells (λ v. v) text at least answer r → need at (optionalBy answer at) go ≡ need at (optionalExpr text depth at r) go
+      → Tells (λ v. v) text at least answer r → need at (optional_by answer at) go ≡ need at (optional_expr text depth at r) go
   optional-said at least answer go r t = rw (tells-answer text at least r t) refl
 
-  pub declaration-rule : (isMutable : Bool) (at : ℕ)
-      → declaration text depth isMutable at
-      ≡ need at (parseName text at)
-      (λ n at₁. need at₁ (parseOptionalType text at₁)
-      (λ t at₂. need at₂ (optionalBy (T text "autoinv" at₂) at₂)
-      (λ i at₃. need at₃ (optionalBy (Sym text ":=" at₃) at₃)
-      (λ init at₄. ok (record { name = n; isMutable = isMutable; optionalType = t; optionalAutoInv = i }, init) at₄))))
-  unfolding parseOptionalAutoInvariant parseInit
-  declaration-rule isMutable at = rw (opened-expr text depth) refl
+  pub declaration-rule : (is_mutable : Bool) (at : ℕ)
+      → declaration text depth is_mutable at
+      ≡ need at (parse_name text at)
+      (λ n at₁. need at₁ (parse_optional_type text at₁)
+      (λ t at₂. need at₂ (optional_by (T text "autoinv" at₂) at₂)
+      (λ i at₃. need at₃ (optional_by (Sym text ":=" at₃) at₃)
+      (λ init at₄. ok (record { name = n; is_mutable = is_mutable; optional_type = t; optional_auto_inv = i }, init) at₄))))
+  unfolding parse_optional_auto_invariant parse_init
+  declaration-rule is_mutable at = rw (opened-expr text depth) refl
 
-  pub var-rule : (isMutable : Bool) (at : ℕ)
-      → parseVariableDeclaration text (turns text) (opened text depth) isMutable at
-      ≡ need at (declaration text depth isMutable at)
+  pub var-rule : (is_mutable : Bool) (at : ℕ)
+      → parse_variable_declaration text (turns text) (opened text depth) is_mutable at
+      ≡ need at (declaration text depth is_mutable at)
       (λ d at₁. need at₁ (rep statements (turns text) (opened text depth).stmt at₁) (λ ss at₂. ok (VarDecl d.0 d.1 (Block ss)) at₂))
-  unfolding parseVariableDeclaration
-  var-rule isMutable at =
-      sym (need-need at at (parseName text at) _ _
-      (λ n at₁. need-need at at₁ (parseOptionalType text at₁) _ _
-      (λ t at₂. need-need at at₂ (parseOptionalAutoInvariant text (turns text) (opened text depth) at₂) _ _
-      (λ i at₃. need-need at at₃ (parseInit text (turns text) (opened text depth) at₃) _ _ (λ init at₄. after-ok _ _ refl)))))
+  unfolding parse_variable_declaration
+  var-rule is_mutable at =
+      sym (need-need at at (parse_name text at) _ _
+      (λ n at₁. need-need at at₁ (parse_optional_type text at₁) _ _
+      (λ t at₂. need-need at at₂ (parse_optional_auto_invariant text (turns text) (opened text depth) at₂) _ _
+      (λ i at₃. need-need at at₃ (parse_init text (turns text) (opened text depth) at₃) _ _ (λ init at₄. after-ok _ _ refl)))))
 
   pub forall-rule : (at : ℕ)
-      → afterForall text (turns text) (opened text depth) at
-      ≡ need at (parseIdType text at) (λ b at₁. must at₁ (mapped (overType b) ((opened text depth).block at₁)))
-  unfolding afterForall
+      → after_forall text (turns text) (opened text depth) at
+      ≡ need at (parse_id_type text at) (λ b at₁. must at₁ (mapped (over_type b) ((opened text depth).block at₁)))
+  unfolding after_forall
   forall-rule at = refl
 
   pub choose-rule : (at : ℕ)
-      → afterChoose text (turns text) (opened text depth) at
+      → after_choose text (turns text) (opened text depth) at
       ≡ need at ((opened text depth).block at)
-      (λ s at₁. need at₁ (rep statements (turns text) (parseOr text (turns text) (opened text depth)) at₁) (λ ss at₂. ok (Choose (stmts s ss)) at₂))
-  unfolding afterChoose
+      (λ s at₁. need at₁ (rep statements (turns text) (parse_or text (turns text) (opened text depth)) at₁) (λ ss at₂. ok (Choose (stmts s ss)) at₂))
+  unfolding after_choose
   choose-rule at = refl
 
   pub or-rule : (at : ℕ)
-      → parseOr text (turns text) (opened text depth) at
+      → parse_or text (turns text) (opened text depth) at
       ≡ after (T text "or" at) Answer.none (λ _ at₁. must at₁ (mapped (λ s. s) ((opened text depth).block at₁)))
-  unfolding parseOr
+  unfolding parse_or
   or-rule at = refl
 
   pub case-rule : (at : ℕ)
-      → parseCase text (turns text) (opened text depth) at
+      → parse_case text (turns text) (opened text depth) at
       ≡ after (T text "case" at) Answer.none
       (λ _ at₁. need at₁ (inner text depth at₁) (λ e at₂. must at₂ (mapped (λ s. (e, s)) ((opened text depth).block at₂))))
-  unfolding parseCase
+  unfolding parse_case
   case-rule at = rw (opened-expr text depth) refl
 
   pub else-rule : (at : ℕ)
-      → parseElse text (turns text) (opened text depth) at
-      ≡ after (T text "else" at) (ok (Block noStmts) at)
-      (λ _ at₁. after (T text "if" at₁) (must at₁ ((opened text depth).block at₁)) (λ _ at₂. must at₂ ((opened text depth).ifCont at₂)))
-  unfolding parseElse
-  else-rule at = ap (after (T text "else" at) (ok (Block noStmts) at)) (fun_ext (λ _. fun_ext (λ at₁. needed-or at₁ (T text "if" at₁) (λ _ at₂. (opened text depth).ifCont at₂) _)))
+      → parse_else text (turns text) (opened text depth) at
+      ≡ after (T text "else" at) (ok (Block no_stmts) at)
+      (λ _ at₁. after (T text "if" at₁) (must at₁ ((opened text depth).block at₁)) (λ _ at₂. must at₂ ((opened text depth).if_cont at₂)))
+  unfolding parse_else
+  else-rule at = ap (after (T text "else" at) (ok (Block no_stmts) at)) (fun_ext (λ _. fun_ext (λ at₁. needed-or at₁ (T text "if" at₁) (λ _ at₂. (opened text depth).if_cont at₂) _)))
 
   -- after the first case, and where no `case` stands
-  abbrev afterCase : Expr Span × Stmt Span → ℕ → Answer (Stmt Span)
-  afterCase k at =
-      need at (rep cases (turns text) (parseCase text (turns text) (opened text depth)) at) (λ ks at₁. ok (IfCase (case k.0 k.1 ks)) at₁)
+  abbrev after_case : Expr Span × Stmt Span → ℕ → Answer (Stmt Span)
+  after_case k at =
+      need at (rep cases (turns text) (parse_case text (turns text) (opened text depth)) at) (λ ks at₁. ok (IfCase (case k.0 k.1 ks)) at₁)
 
-  abbrev condBy : Reader (Expr Span) → Reader (Stmt Span)
-  condBy expr at =
+  abbrev cond_by : Reader (Expr Span) → Reader (Stmt Span)
+  cond_by expr at =
       after (expr at) Answer.none
       (λ e at₁. need at₁ ((opened text depth).block at₁)
-      (λ thn at₂. need at₂ (parseElse text (turns text) (opened text depth) at₂) (λ els at₃. ok (If e thn els) at₃)))
+      (λ thn at₂. need at₂ (parse_else text (turns text) (opened text depth) at₂) (λ els at₃. ok (If e thn els) at₃)))
 
   pub cont-rule : (at : ℕ)
-      → parseIfCont text (turns text) (opened text depth) at
-      ≡ after (parseCase text (turns text) (opened text depth) at) (condStmt text depth at) afterCase
-  unfolding parseIfCont
+      → parse_if_cont text (turns text) (opened text depth) at
+      ≡ after (parse_case text (turns text) (opened text depth) at) (cond_stmt text depth at) after_case
+  unfolding parse_if_cont
   cont-rule at =
-      ap (λ expr. after (parseCase text (turns text) (opened text depth) at) Answer.none afterCase or condBy expr at) (opened-expr text depth)
-      ∙ kept-or (parseCase text (turns text) (opened text depth) at) afterCase (condStmt text depth at)
+      ap (λ expr. after (parse_case text (turns text) (opened text depth) at) Answer.none after_case or cond_by expr at) (opened-expr text depth)
+      ∙ kept-or (parse_case text (turns text) (opened text depth) at) after_case (cond_stmt text depth at)
       (λ k at₁. needed-keeps _ _ _ (λ ks at₂. record { some = refl }))
 
   pub aexpr-rule : (w : List ℕ) (at : ℕ)
-      → parseAExpr text (turns text) (opened text depth) w at
-      ≡ after (keywordAt text w at) Answer.none
-      (λ _ at₁. after ((opened text depth).block at₁) (mapped aExpr (must at₁ (inner text depth at₁))) (λ s at₂. ok (AAssertion s) at₂))
-  unfolding parseAExpr
+      → parse_a_expr text (turns text) (opened text depth) w at
+      ≡ after (keyword_at text w at) Answer.none
+      (λ _ at₁. after ((opened text depth).block at₁) (mapped a_expr (must at₁ (inner text depth at₁))) (λ s at₂. ok (AAssertion s) at₂))
+  unfolding parse_a_expr
   aexpr-rule w at =
       rw (opened-expr text depth)
-      (ap (after (keywordAt text w at) Answer.none) (fun_ext (λ _. fun_ext (λ at₁. needed-either at₁ AAssertion aExpr ((opened text depth).block at₁) (inner text depth at₁)))))
+      (ap (after (keyword_at text w at) Answer.none) (fun_ext (λ _. fun_ext (λ at₁. needed-either at₁ AAssertion a_expr ((opened text depth).block at₁) (inner text depth at₁)))))
 
   pub label-rule : (n : Span) (at : ℕ)
-      → afterLabel text (turns text) (opened text depth) n at
+      → after_label text (turns text) (opened text depth) n at
       ≡ need at ((opened text depth).block at or (opened text depth).loop at) (λ s at₁. ok (LabeledStmt n s) at₁)
-  unfolding afterLabel
+  unfolding after_label
   label-rule n at = must-need (LabeledStmt n) at _
 
   pub assign-rule : (n : Span) (at : ℕ)
-      → afterAssign text (turns text) (opened text depth) n at ≡ need at (inner text depth at) (λ e at₁. ok (Assign n e) at₁)
-  unfolding afterAssign
+      → after_assign text (turns text) (opened text depth) n at ≡ need at (inner text depth at) (λ e at₁. ok (Assign n e) at₁)
+  unfolding after_assign
   assign-rule n at = rw (opened-expr text depth) (must-need (Assign n) at (inner text depth at))
 
   pub call-rule : (n : Span) (at : ℕ)
       → after_call text (turns text) (opened text depth) n at
-      ≡ need at (parseListed text (turns text) arguments (parseCallArgument text (turns text) (opened text depth)) (bytes ")") at) (λ es at₁. ok (Call n es) at₁)
+      ≡ need at (parse_listed text (turns text) arguments (parse_call_argument text (turns text) (opened text depth)) (bytes ")") at) (λ es at₁. ok (Call n es) at₁)
   unfolding after_call
   call-rule n at = must-need (Call n) at _
 
 -- ---- words
 
 -- the number of a Bool is its word
-bool_word : (u : ℕ) → u ≤ 1 → u ≡ boolWord (boolOf u)
-bool_word zero l = refl
-bool_word (suc zero) l = refl
-bool_word (suc (suc u)) l = absurd (omega arith)
+bool_word_lem : (u : ℕ) → u ≤ 1 → u ≡ bool_word (bool_of u)
+bool_word_lem zero l = refl
+bool_word_lem (suc zero) l = refl
+bool_word_lem (suc (suc u)) l = absurd (omega arith)
 
 -- the words of a declaration, with the word of `var` or `val`
 abbrev pub declared : Span → ℕ → Option Span → Option (Expr Span) → Option (Expr Span) → Run
-declared n u t i init r = 21 ∷ n.start ∷ n.len ∷ u ∷ optionWords (nameWords same) t (optionWords (exprWords same) i (optionWords (exprWords same) init r))
+declared n u t i init r = 21 ∷ n.start ∷ n.len ∷ u ∷ option_words (name_words same) t (option_words (expr_words same) i (option_words (expr_words same) init r))
 
 declared-words : (n : Span) (u : ℕ) (t : Option Span) (i init : Option (Expr Span)) → u ≤ 1
-    → declared n u t i init ≡ declarationWords (record { name = n; isMutable = boolOf u; optionalType = t; optionalAutoInv = i }, init)
-declared-words n u t i init l = ap (λ x. declared n x t i init) (bool_word u l)
+    → declared n u t i init ≡ declaration_words (record { name = n; is_mutable = bool_of u; optional_type = t; optional_auto_inv = i }, init)
+declared-words n u t i init l = ap (λ x. declared n x t i init) (bool_word_lem u l)
 
 -- how a rule ends whose last node stands for a declaration
 pub declared-done : (p : Reached (Variable Span × Option (Expr Span))) (n : Span) (u : ℕ) {t : Option Span} {i init : Option (Expr Span)} {node least credit : ℕ}
-    {ns : List (ℕ × Run)} {r : Built} → p.rest ≡ ok (record { name = n; isMutable = boolOf u; optionalType = t; optionalAutoInv = i }, init) p.at
+    {ns : List (ℕ × Run)} {r : Built} → p.rest ≡ ok (record { name = n; is_mutable = bool_of u; optional_type = t; optional_auto_inv = i }, init) p.at
     → p.made ≡ (node, declared n u t i init) ∷ ns → u ≤ 1 → r ≡ Ok node p.at p.top → leb least p.bytes ≡ true
-    → leb p.lent (credit + p.spare) ≡ true → Builds declarationWords p.text p.first p.arena p.start p.free least credit p.answer r
+    → leb p.lent (credit + p.spare) ≡ true → Builds declaration_words p.text p.first p.arena p.start p.free least credit p.answer r
 declared-done p n u {t} {i} {init} e m l o x y = done (respelt p m (declared-words n u t i init l)) e refl o x y
 
 -- the words of a statement for all values of a type
-pub forall-words : (b : Binding Span) (s : Stmt Span) → (λ r. 30 ∷ bindingWords same b (stmtWords same s r)) ≡ stmtWords same (overType b s)
+pub forall-words : (b : Binding Span) (s : Stmt Span) → (λ r. 30 ∷ binding_words same b (stmt_words same s r)) ≡ stmt_words same (over_type b s)
 forall-words (binding n t) s = refl

@@ -8,17 +8,17 @@ use mathlib.Core.List.{List, [], ◌∷◌}
 use mathlib.Core.Option.{Option, none, some}
 use lib.ListN.{take, drop}
 use Rattle.lexing.specs.Answer.{Answer, ok, refused, pick}
-use Rattle.lexing.specs.Bytes.{starts_with, sameBytes, canStartIdentifierChar, bytes}
-use Rattle.lexing.specs.Tokens.{identifierLength, sign}
-use Rattle.lexing.specs.TokenLaws.{startsWith-true}
+use Rattle.lexing.specs.Bytes.{starts_with, same_bytes, can_start_identifier_char, bytes}
+use Rattle.lexing.specs.Tokens.{identifier_length, sign}
+use Rattle.lexing.specs.TokenLaws.{starts_with-true}
 use Rattle.tree.specs.Ast.{Span, Expr, Stmt, Block, Loop}
-use Rattle.grammar.specs.Steps.{Reader, after, need, must, mapped, ◌or◌, T, Sym, signAt, parseName}
-use Rattle.grammar.specs.Rules.{parseExpr, opensExpr}
-use Rattle.grammar.specs.Statements.{Gallery, gallery, statements, aexprs, rep, repTill, atomic, parseStmt, parseBlock, parseLoop, parseIfCont, parseAExpr, parseAExprSeq, afterAssign, afterLabel, after_call}
+use Rattle.grammar.specs.Steps.{Reader, after, need, must, mapped, ◌or◌, T, Sym, sign_at, parse_name}
+use Rattle.grammar.specs.Rules.{parse_expr, opens_expr}
+use Rattle.grammar.specs.Statements.{Gallery, gallery, statements, aexprs, rep, rep_till, atomic, parse_stmt, parse_block, parse_loop, parse_if_cont, parse_a_expr, parse_a_expr_seq, after_assign, after_label, after_call}
 use Rattle.parsing.specs.Arena.{Stopped}
 use Rattle.parsing.specs.Code.{Worded, turns, inner, opened}
-use Rattle.parsing.specs.Leads.{loopBody, classed, leadsBefore, leadsAfter, leads, leadOf, leadRule}
-use Rattle.parsing.specs.Statements.{namedStmt}
+use Rattle.parsing.specs.Leads.{loop_body, classed, leads_before, leads_after, leads, lead_of, lead_rule}
+use Rattle.parsing.specs.Statements.{named_stmt}
 use Rattle.parsing.specs.declared.lead.Lead.{Lead}
 use Rattle.parsing.specs.declared.lead.Lead.TheVariants.{Choose, If, Name}
 use Rattle.parsing.specs.declared.step.Word.{Word}
@@ -28,32 +28,32 @@ use Rattle.parsing.proofs.Laws.{after-ok, after_none, after-refused}
 use Rattle.parsing.proofs.Branches.{no-branch}
 use Rattle.parsing.proofs.Identifiers.{no_name, refused-some, blanks-refused, identifier-some}
 use Rattle.parsing.proofs.WordTables.{found, or_else, classed-found, listed, here, branches, chosen, branches-chosen, here-is, blanks-passed}
-use Rattle.parsing.proofs.StatementBranches.{leadLeast, lead-keeps}
+use Rattle.parsing.proofs.StatementBranches.{lead_least, lead-keeps}
 
 -- ---- levels
 
 -- after `{`
-abbrev pub blockBody : List ℕ → ℕ → ℕ → ℕ → Answer (Stmt Span)
-blockBody text zero at at₁ = refused 3 at
-blockBody text (suc d) at at₁ =
-    must at₁ (mapped Block (repTill statements (turns text) (parseStmt text (turns text) (opened text d)) (Sym text "}") at₁))
+abbrev pub block_body : List ℕ → ℕ → ℕ → ℕ → Answer (Stmt Span)
+block_body text zero at at₁ = refused 3 at
+block_body text (suc d) at at₁ =
+    must at₁ (mapped Block (rep_till statements (turns text) (parse_stmt text (turns text) (opened text d)) (Sym text "}") at₁))
 
 -- a block and a loop begin with their token
-pub block-rule : (text : List ℕ) (depth at : ℕ) → (opened text depth).block at ≡ after (Sym text "{" at) Answer.none (λ _ at₁. blockBody text depth at at₁)
-unfolding gallery parseBlock
+pub block-rule : (text : List ℕ) (depth at : ℕ) → (opened text depth).block at ≡ after (Sym text "{" at) Answer.none (λ _ at₁. block_body text depth at at₁)
+unfolding gallery parse_block
 block-rule text zero at = refl
 block-rule text (suc d) at = refl
 
-pub loop_rule : (text : List ℕ) (depth at : ℕ) → (opened text depth).loop at ≡ after (T text "loop" at) Answer.none (λ _ at₁. loopBody text depth at at₁)
-unfolding gallery parseLoop
+pub loop_rule : (text : List ℕ) (depth at : ℕ) → (opened text depth).loop at ≡ after (T text "loop" at) Answer.none (λ _ at₁. loop_body text depth at at₁)
+unfolding gallery parse_loop
 loop_rule text zero at = refl
 loop_rule text (suc d) at = refl
 
 -- with no level left they are refused after it
-pub block-deep : (text : List ℕ) {depth : ℕ} (at at₁ : ℕ) → depth ≡ 0 → blockBody text depth at at₁ ≡ refused 3 at
+pub block-deep : (text : List ℕ) {depth : ℕ} (at at₁ : ℕ) → depth ≡ 0 → block_body text depth at at₁ ≡ refused 3 at
 block-deep text at at₁ e = rw e refl
 
-pub loop-deep : (text : List ℕ) {depth : ℕ} (at at₁ : ℕ) → depth ≡ 0 → loopBody text depth at at₁ ≡ refused 3 at
+pub loop-deep : (text : List ℕ) {depth : ℕ} (at at₁ : ℕ) → depth ≡ 0 → loop_body text depth at at₁ ≡ refused 3 at
 loop-deep text at at₁ e = rw e refl
 
 -- a sequence and what must follow it, made into something that must follow
@@ -72,35 +72,35 @@ list-made f at (refused number place) y = refl
 
 -- with a level left, what each rule opens
 pub block-opens : (text : List ℕ) (depth at at₁ : ℕ) → (depth ≡ 0 → ⊥)
-    → blockBody text depth at at₁
-    ≡ need at₁ (rep statements (turns text) (parseStmt text (turns text) (opened text (depth - 1))) at₁)
+    → block_body text depth at at₁
+    ≡ need at₁ (rep statements (turns text) (parse_stmt text (turns text) (opened text (depth - 1))) at₁)
     (λ l at₂. need at₂ (Sym text "}" at₂) (λ _ at₃. ok (Block l) at₃))
-unfolding repTill
+unfolding rep_till
 block-opens text zero at at₁ h = absurd (h refl)
 block-opens text (suc d) at at₁ h = let e : suc d - 1 ≡ d = omega arith in rw e (list-made Block at₁ _ (Sym text "}"))
 
 pub loop-opens : (text : List ℕ) (depth at at₁ : ℕ) → (depth ≡ 0 → ⊥)
-    → loopBody text depth at at₁
-    ≡ need at₁ (rep aexprs (turns text) (parseAExpr text (turns text) (opened text (depth - 1)) (bytes "invariant")) at₁)
+    → loop_body text depth at at₁
+    ≡ need at₁ (rep aexprs (turns text) (parse_a_expr text (turns text) (opened text (depth - 1)) (bytes "invariant")) at₁)
     (λ is at₂. must at₂ (mapped (Loop is) ((opened text (depth - 1)).block at₂)))
-unfolding parseAExprSeq
+unfolding parse_a_expr_seq
 loop-opens text zero at at₁ h = absurd (h refl)
 loop-opens text (suc d) at at₁ h = let e : suc d - 1 ≡ d = omega arith in rw e refl
 
-pub stmt-opens : (text : List ℕ) (depth at : ℕ) → (depth ≡ 0 → ⊥) → (opened text depth).stmt at ≡ parseStmt text (turns text) (opened text (depth - 1)) at
+pub stmt-opens : (text : List ℕ) (depth at : ℕ) → (depth ≡ 0 → ⊥) → (opened text depth).stmt at ≡ parse_stmt text (turns text) (opened text (depth - 1)) at
 unfolding gallery
 stmt-opens text zero at h = absurd (h refl)
 stmt-opens text (suc d) at h = let e : suc d - 1 ≡ d = omega arith in rw e refl
 
-pub cont-opens : (text : List ℕ) (depth at : ℕ) → (depth ≡ 0 → ⊥) → (opened text depth).ifCont at ≡ parseIfCont text (turns text) (opened text (depth - 1)) at
+pub cont-opens : (text : List ℕ) (depth at : ℕ) → (depth ≡ 0 → ⊥) → (opened text depth).if_cont at ≡ parse_if_cont text (turns text) (opened text (depth - 1)) at
 unfolding gallery
 cont-opens text zero at h = absurd (h refl)
 cont-opens text (suc d) at h = let e : suc d - 1 ≡ d = omega arith in rw e refl
 
 -- "if-cont" where no level is left, by what `leaf::too_deep` answers
-pub cont-deep : (text : List ℕ) (at : ℕ) (r : Built) → Stopped (inner text 0 at) r → Stopped ((opened text 0).ifCont at) r
-unfolding gallery parseExpr
-cont-deep text at r s = by-test (opensExpr (drop at text)) r s
+pub cont-deep : (text : List ℕ) (at : ℕ) (r : Built) → Stopped (inner text 0 at) r → Stopped ((opened text 0).if_cont at) r
+unfolding gallery parse_expr
+cont-deep text at r s = by-test (opens_expr (drop at text)) r s
   where
     by-test : (b : Bool) (r : Built) → Stopped {A = Expr Span} (pick b (refused 3 at) Answer.none) r → Stopped {A = Stmt Span} (pick b (refused 3 at) Answer.none) r
     by-test b (Ok node next later) s = absurd s
@@ -112,19 +112,19 @@ cont-deep text at r s = by-test (opensExpr (drop at text)) r s
 -- ---- signs and words that can't stand
 
 -- no sign of one byte where an identifier stands
-pub no_sign : (text : List ℕ) (at b : ℕ) → canStartIdentifierChar b ≡ false → 0 < identifierLength (drop at text) → signAt text (b ∷ []) at ≡ Answer.none
-unfolding sign identifierLength
+pub no_sign : (text : List ℕ) (at b : ℕ) → can_start_identifier_char b ≡ false → 0 < identifier_length (drop at text) → sign_at text (b ∷ []) at ≡ Answer.none
+unfolding sign identifier_length
 no_sign text at b n filled = by-test (starts_with (b ∷ []) (drop at text)) refl
   where
-    by-test : (x : Bool) → starts_with (b ∷ []) (drop at text) ≡ x → signAt text (b ∷ []) at ≡ Answer.none
+    by-test : (x : Bool) → starts_with (b ∷ []) (drop at text) ≡ x → sign_at text (b ∷ []) at ≡ Answer.none
     by-test true p =
-        let s : drop at text ≡ b ∷ drop 1 (drop at text) = startsWith-true (b ∷ []) (drop at text) p in
+        let s : drop at text ≡ b ∷ drop 1 (drop at text) = starts_with-true (b ∷ []) (drop at text) p in
         let z : 0 < 0 = rw (s, n) at filled in absurd (omega arith)
     by-test false p = rw p refl
 
 -- and so no block
-pub no_block : (text : List ℕ) (depth at : ℕ) → 0 < identifierLength (drop at text) → (opened text depth).block at ≡ Answer.none
-unfolding canStartIdentifierChar
+pub no_block : (text : List ℕ) (depth at : ℕ) → 0 < identifier_length (drop at text) → (opened text depth).block at ≡ Answer.none
+unfolding can_start_identifier_char
 no_block text depth at filled = block-rule text depth at ∙ after_none _ _ (no_sign text at 123 refl filled)
 
 -- ---- choices
@@ -143,7 +143,7 @@ none_or Answer.none e = e
 none_or (refused number place) e = refl
 
 -- a name that was read, and its mark
-pub atomic-named : {A : Type 0} (text : List ℕ) (sign : Reader ℕ) (at : ℕ) {n : Span} {next : ℕ} (go : Span → ℕ → Answer A) → parseName text at ≡ ok n next
+pub atomic-named : {A : Type 0} (text : List ℕ) (sign : Reader ℕ) (at : ℕ) {n : Span} {next : ℕ} (go : Span → ℕ → Answer A) → parse_name text at ≡ ok n next
     → after (atomic text sign at) Answer.none go ≡ after (sign next) Answer.none (λ _ at₁. go n at₁)
 unfolding atomic after
 atomic-named {A} text sign at {n} {next} go e = rw e (marked (sign next))
@@ -154,16 +154,16 @@ atomic-named {A} text sign at {n} {next} go e = rw e (marked (sign next))
     marked (refused number place) = refl
 
 -- no name, and one whose blanks are refused
-pub atomic-none : (text : List ℕ) (sign : Reader ℕ) (at : ℕ) → parseName text at ≡ Answer.none → atomic text sign at ≡ Answer.none
+pub atomic-none : (text : List ℕ) (sign : Reader ℕ) (at : ℕ) → parse_name text at ≡ Answer.none → atomic text sign at ≡ Answer.none
 unfolding atomic
 atomic-none text sign at e = after_none _ _ e
 
-pub atomic-refused : (text : List ℕ) (sign : Reader ℕ) (at : ℕ) {number place : ℕ} → parseName text at ≡ refused number place
+pub atomic-refused : (text : List ℕ) (sign : Reader ℕ) (at : ℕ) {number place : ℕ} → parse_name text at ≡ refused number place
     → atomic text sign at ≡ refused number place
 unfolding atomic
 atomic-refused text sign at e = after-refused _ _ e
 
--- ---- parseStmt
+-- ---- parse_stmt
 
 module _ (text : List ℕ) (depth : ℕ) where
   abbrev c : Gallery
@@ -171,12 +171,12 @@ module _ (text : List ℕ) (depth : ℕ) where
 
   -- after the word of `len` bytes at `at`
   abbrev rule : ℕ → ℕ → Lead → ℕ → Answer (Stmt Span)
-  rule at len k next = leadRule k text depth (record { at = at; len = len; next = next })
+  rule at len k next = lead_rule k text depth (record { at = at; len = len; next = next })
 
   abbrev marked : ℕ → Answer (Stmt Span)
   marked at =
-      after (atomic text (Sym text ":=") at) Answer.none (λ n at₁. afterAssign text (turns text) c n at₁)
-      or after (atomic text (Sym text ":") at) Answer.none (λ n at₁. afterLabel text (turns text) c n at₁)
+      after (atomic text (Sym text ":=") at) Answer.none (λ n at₁. after_assign text (turns text) c n at₁)
+      or after (atomic text (Sym text ":") at) Answer.none (λ n at₁. after_label text (turns text) c n at₁)
       or after (atomic text (Sym text "(") at) Answer.none (λ n at₁. after_call text (turns text) c n at₁)
 
   -- the rule is the branches of the leads, with a block between them, and those of a name with its mark
@@ -187,53 +187,53 @@ module _ (text : List ℕ) (depth : ℕ) where
     abbrev by-entry : Option Lead → Answer (Stmt Span) → Answer (Stmt Span)
     by-entry o q = chosen text at (rule at len) o q
 
-    stmt-branches : parseStmt text (turns text) c at ≡ led leadsBefore (c.block at or led leadsAfter (marked at))
-    unfolding parseStmt
-    stmt-branches = ap (λ r. led leadsBefore (c.block at or (led (("choose", Choose) ∷ ("if", If) ∷ []) (r or marked at)))) (loop_rule text depth at)
+    stmt-branches : parse_stmt text (turns text) c at ≡ led leads_before (c.block at or led leads_after (marked at))
+    unfolding parse_stmt
+    stmt-branches = ap (λ r. led leads_before (c.block at or (led (("choose", Choose) ∷ ("if", If) ∷ []) (r or marked at)))) (loop_rule text depth at)
 
-    by-lead : (ls : List (String × Lead)) → listed leadLeast ls ≡ true → (q : Answer (Stmt Span)) → led ls q ≡ by-entry (found ls (here text at)) q
-    by-lead ls f q = branches-chosen text at (rule at len) leadLeast (λ k l next. lead-keeps k l text depth _) ls f q
+    by-lead : (ls : List (String × Lead)) → listed lead_least ls ≡ true → (q : Answer (Stmt Span)) → led ls q ≡ by-entry (found ls (here text at)) q
+    by-lead ls f q = branches-chosen text at (rule at len) lead_least (λ k l next. lead-keeps k l text depth _) ls f q
 
     -- where an identifier stands no block does
-    word-branches : 0 < identifierLength (drop at text) → parseStmt text (turns text) c at ≡ by-entry (found leads (here text at)) (marked at)
-    word-branches filled = stmt-branches ∙ ap (led leadsBefore) (or-none _ (no_block text depth at filled)) ∙ by-lead leads refl (marked at)
+    word-branches : 0 < identifier_length (drop at text) → parse_stmt text (turns text) c at ≡ by-entry (found leads (here text at)) (marked at)
+    word-branches filled = stmt-branches ∙ ap (led leads_before) (or-none _ (no_block text depth at filled)) ∙ by-lead leads refl (marked at)
 
   -- where a word stands, the name of each marked branch is read
-  pub word-stmt : {w : Word} → Worded text w → {k : Lead} → k ≡ leadOf (take w.len (drop w.at text)) → parseStmt text (turns text) c w.at ≡ leadRule k text depth w
-  unfolding leadOf
+  pub word-stmt : {w : Word} → Worded text w → {k : Lead} → k ≡ lead_of (take w.len (drop w.at text)) → parse_stmt text (turns text) c w.at ≡ lead_rule k text depth w
+  unfolding lead_of
   word-stmt {w} d {k} e =
       let at = w.at in
-      let n : marked at ≡ namedStmt text depth w =
+      let n : marked at ≡ named_stmt text depth w =
       or_same (atomic-named text (Sym text ":=") at _ d.said)
       (or_same (atomic-named text (Sym text ":") at _ d.said) (atomic-named text (Sym text "(") at _ d.said)) in
       let said : k ≡ or_else Name (found leads (here text at)) = e ∙ ap (classed leads Name) (sym (here-is d)) ∙ classed-found leads Name (here text at) in
       word-branches at w.len (identifier-some d)
       ∙ ap (by-entry at w.len (found leads (here text at))) n
       ∙ by-found (found leads (here text at))
-      ∙ ap (λ k. leadRule k text depth w) (sym said)
+      ∙ ap (λ k. lead_rule k text depth w) (sym said)
     where
-      by-found : (o : Option Lead) → by-entry w.at w.len o (namedStmt text depth w) ≡ leadRule (or_else Name o) text depth w
+      by-found : (o : Option Lead) → by-entry w.at w.len o (named_stmt text depth w) ≡ lead_rule (or_else Name o) text depth w
       by-found none = refl
       by-found (some k) = after-ok _ _ (blanks-passed d)
 
   -- one that begins with no word is a block
-  pub wordless-stmt : (at : ℕ) → identifierLength (drop at text) ≡ 0 → parseStmt text (turns text) c at ≡ c.block at
-  unfolding sameBytes
+  pub wordless-stmt : (at : ℕ) → identifier_length (drop at text) ≡ 0 → parse_stmt text (turns text) c at ≡ c.block at
+  unfolding same_bytes
   wordless-stmt at e =
       let h : here text at ≡ [] = rw e refl in
-      let n : parseName text at ≡ Answer.none = no_name text at e in
-      let no_lead : (ls : List (String × Lead)) → listed leadLeast ls ≡ true → found ls [] ≡ none → (q : Answer (Stmt Span)) → led at 0 ls q ≡ q =
+      let n : parse_name text at ≡ Answer.none = no_name text at e in
+      let no_lead : (ls : List (String × Lead)) → listed lead_least ls ≡ true → found ls [] ≡ none → (q : Answer (Stmt Span)) → led at 0 ls q ≡ q =
       λ ls f g q. by-lead at 0 ls f q ∙ ap (λ b. by-entry at 0 (found ls b) q) h ∙ ap (λ o. by-entry at 0 o q) g in
       stmt-branches at 0
-      ∙ no_lead leadsBefore refl refl _
+      ∙ no_lead leads_before refl refl _
       ∙ none_or (c.block at)
-      (no_lead leadsAfter refl refl _
+      (no_lead leads_after refl refl _
       ∙ no-branch _ _ (atomic-none text _ at n)
       ∙ no-branch _ _ (atomic-none text _ at n)
       ∙ after_none _ _ (atomic-none text _ at n))
 
   -- one whose word's blanks are refused is refused alike
-  pub stmt-refused : (at : ℕ) {number place : ℕ} → parseName text at ≡ refused number place → parseStmt text (turns text) c at ≡ refused number place
+  pub stmt-refused : (at : ℕ) {number place : ℕ} → parse_name text at ≡ refused number place → parse_stmt text (turns text) c at ≡ refused number place
   stmt-refused at {number} {place} e = word-branches at 0 (refused-some text at e) ∙ by-found (found leads (here text at))
     where
       by-found : (o : Option Lead) → by-entry at 0 o (marked at) ≡ refused number place

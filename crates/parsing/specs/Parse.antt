@@ -1,13 +1,13 @@
 -- What `parse` answers: the tree of a whole text, as a node of the arena.
 use Rattle.std.specs.Prelude.{ℕ, ◌+◌, ◌*◌, ◌≤◌, ◌≡◌, Bool, ◌&&◌, List, length, leb, eqb}
-use Rattle.lexing.specs.Answer.{Answer, ok, refused, pick, treeTooLarge, unusableToken}
-use Rattle.tree.specs.Limits.{mostText}
-use Rattle.tree.specs.Words.{programWords}
-use Rattle.grammar.specs.OperatorTrees.{mostDepth}
+use Rattle.lexing.specs.Answer.{Answer, ok, refused, pick, tree_too_large, unusable_token}
+use Rattle.tree.specs.Limits.{most_text}
+use Rattle.tree.specs.Words.{program_words}
+use Rattle.grammar.specs.OperatorTrees.{most_depth}
 use Rattle.grammar.specs.Steps.{Reader, mapped}
 use Rattle.grammar.specs.Declarations.{TopLevel}
-use Rattle.grammar.specs.Reading.{treeWords, parseText, parseProgram}
-use Rattle.parsing.specs.Arena.{Run, Holds, mostArena}
+use Rattle.grammar.specs.Reading.{tree_words, parse_text, parse_program}
+use Rattle.parsing.specs.Arena.{Run, Holds, most_arena}
 use Rattle.parsing.specs.Code.{same, turns, inner, opened}
 use Rattle.parsing.specs.declared.arena.Built.{Built}
 use Rattle.parsing.specs.declared.arena.Built.TheVariants.{Ok, None, Refused as BuiltRefused}
@@ -17,24 +17,24 @@ use Rattle.parsing.specs.declared.entry.Parsed.{Parsed}
 use Rattle.parsing.specs.declared.entry.Parsed.TheVariants.{Tree, Refused}
 
 -- the words of an arena for a text of so many bytes, and whether an arena of n words has them
-abbrev pub arenaWords : ℕ → ℕ
-arenaWords bytes = 44 + 8 * bytes
+abbrev pub arena_words : ℕ → ℕ
+arena_words bytes = 44 + 8 * bytes
 
 abbrev pub roomy : ℕ → ℕ → Bool
-roomy bytes n = leb bytes mostText && (leb (arenaWords bytes) n && leb n mostArena)
+roomy bytes n = leb bytes most_text && (leb (arena_words bytes) n && leb n most_arena)
 
 -- the rule of a whole text, and what is read of it, by the runs of the trees' words
-abbrev pub wholeRule : Whole → List ℕ → Reader Run
-wholeRule Expression text at = mapped treeWords (inner text mostDepth at)
-wholeRule Program text at = mapped (programWords same) (TopLevel text (turns text) (opened text mostDepth) at)
+abbrev pub whole_rule : Whole → List ℕ → Reader Run
+whole_rule Expression text at = mapped tree_words (inner text most_depth at)
+whole_rule Program text at = mapped (program_words same) (TopLevel text (turns text) (opened text most_depth) at)
 
-abbrev pub wholeRun : Whole → List ℕ → Answer Run
-wholeRun Expression text = mapped treeWords (parseText text)
-wholeRun Program text = mapped (programWords same) (parseProgram text)
+abbrev pub whole_run : Whole → List ℕ → Answer Run
+whole_run Expression text = mapped tree_words (parse_text text)
+whole_run Program text = mapped (program_words same) (parse_program text)
 
 -- what an arena of n words can take of it
 abbrev pub parsed : Whole → List ℕ → ℕ → Answer Run
-parsed whole text n = pick (roomy (length text) n) (wholeRun whole text) (refused treeTooLarge 0)
+parsed whole text n = pick (roomy (length text) n) (whole_run whole text) (refused tree_too_large 0)
 
 -- the tree of an answer stands at the node `root`
 pub record Planted (text arena : List ℕ) (answer : Answer Run) (root : ℕ) : Type 0 where
@@ -42,7 +42,7 @@ pub record Planted (text arena : List ℕ) (answer : Answer Run) (root : ℕ) : 
   pub next : ℕ
   pub says : answer ≡ ok run next
   pub holds : Holds arena root run
-  pub inside : root + 4 ≤ arenaWords (length text)
+  pub inside : root + 4 ≤ arena_words (length text)
 
 -- the code's answer against the definition's, with the arena afterwards
 abbrev pub Gives : List ℕ → List ℕ → Answer Run → Parsed → Type 0
@@ -56,6 +56,6 @@ pub record Parses (whole : Whole) (text arena later : List ℕ) (r : Parsed) : T
 
 -- what a rule built from `at` on, in a text of so many bytes that must end there
 abbrev pub ended_as : ℕ → ℕ → Built → Parsed
-ended_as bytes at (Ok root next top) = pick (eqb next bytes) (Tree root) (Refused unusableToken next)
-ended_as bytes at None = Refused unusableToken at
+ended_as bytes at (Ok root next top) = pick (eqb next bytes) (Tree root) (Refused unusable_token next)
+ended_as bytes at None = Refused unusable_token at
 ended_as bytes at (BuiltRefused number place) = Refused number place

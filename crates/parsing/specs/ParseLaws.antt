@@ -1,11 +1,11 @@
 -- What `parse` answers by the definition's tree, in an arena that has room and in one that has not.
 use Rattle.std.specs.Prelude.{ℕ, ◌≡◌, refl, Bool, true, false, List, length}
 use Rattle.std.proofs.Common.{sym, ap, subst, ◌∙◌}
-use Rattle.lexing.specs.Answer.{Answer, ok, refused, pick, treeTooLarge}
+use Rattle.lexing.specs.Answer.{Answer, ok, refused, pick, tree_too_large}
 use Rattle.tree.specs.Clash.{impossible}
 use Rattle.grammar.specs.Steps.{after, mapped}
 use Rattle.parsing.specs.Arena.{Run, Holds}
-use Rattle.parsing.specs.Parse.{roomy, wholeRun, parsed, Gives, Parses}
+use Rattle.parsing.specs.Parse.{roomy, whole_run, parsed, Gives, Parses}
 use Rattle.parsing.specs.declared.entry.Whole.{Whole}
 use Rattle.parsing.specs.declared.entry.Parsed.{Parsed}
 use Rattle.parsing.specs.declared.entry.Parsed.TheVariants.{Tree, Refused}
@@ -38,19 +38,19 @@ gives-defined words text later (refused n p) (Refused number place) g =
 
 module _ {whole : Whole} {text arena later : List ℕ} {r : Parsed} (p : Parses whole text arena later r) where
   -- with room
-  pub with-room : {A : Type 0} (words : A → Run) (answer : Answer A) → wholeRun whole text ≡ mapped words answer → roomy (length text) (length arena) ≡ true
+  pub with-room : {A : Type 0} (words : A → Run) (answer : Answer A) → whole_run whole text ≡ mapped words answer → roomy (length text) (length arena) ≡ true
       → Defined words answer later r
   with-room words answer e h =
       gives-defined words text later answer r
-      (subst (λ a. Gives text later a r) (ap (λ t. pick t (wholeRun whole text) (refused treeTooLarge 0)) h ∙ e) p.gives)
+      (subst (λ a. Gives text later a r) (ap (λ t. pick t (whole_run whole text) (refused tree_too_large 0)) h ∙ e) p.gives)
 
   -- and without
-  pub without-room : roomy (length text) (length arena) ≡ false → r ≡ Refused treeTooLarge 0
-  without-room h = by_answer r (subst (λ a. Gives text later a r) (ap (λ t. pick t (wholeRun whole text) (refused treeTooLarge 0)) h) p.gives)
+  pub without-room : roomy (length text) (length arena) ≡ false → r ≡ Refused tree_too_large 0
+  without-room h = by_answer r (subst (λ a. Gives text later a r) (ap (λ t. pick t (whole_run whole text) (refused tree_too_large 0)) h) p.gives)
     where
-      by_answer : (r : Parsed) → Gives text later (refused treeTooLarge 0) r → r ≡ Refused treeTooLarge 0
+      by_answer : (r : Parsed) → Gives text later (refused tree_too_large 0) r → r ≡ Refused tree_too_large 0
       by_answer (Tree root) g = impossible (cc)
       by_answer (Refused number place) g =
-          let h : treeTooLarge ≡ number = cc in
+          let h : tree_too_large ≡ number = cc in
           let l : 0 ≡ place = cc in
           rw (← h, ← l) refl

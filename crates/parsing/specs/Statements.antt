@@ -1,18 +1,18 @@
 -- What the code of the statement rules promises, in terms of the rules.
 use Rattle.std.specs.Prelude.{ℕ, ◌+◌, ◌≤◌, Bool, List, [], ◌∷◌, length}
 use Rattle.std.proofs.Math.Option.{Option, none, some}
-use Rattle.tree.specs.Tags.{varDeclTag}
-use Rattle.lexing.specs.Answer.{Answer, ok, levelTooDeep}
+use Rattle.tree.specs.Tags.{var_decl_tag}
+use Rattle.lexing.specs.Answer.{Answer, ok, level_too_deep}
 use Rattle.lexing.specs.Bytes.{bytes}
 use Rattle.lexing.specs.CodeAnswers.{answer_of}
 use Rattle.lexing.specs.declared.token.Lexed.{Lexed}
 use Rattle.lexing.specs.declared.token.Lexed.TheVariants.{Ok as LexedOk, None as LexedNone, Refused as LexedRefused}
 use Rattle.tree.specs.Ast.{Span, Expr, Exprs, Variable, Stmt, Reinit, Exit, If, Stmts, Cases, AExpr, AExprs}
-use Rattle.tree.specs.Words.{optionWords, variableWords, exprWords, exprsWords, stmtWords, stmtsWords, casesWords, aExprWords, aExprsWords}
-use Rattle.grammar.specs.Steps.{Reader, after, need, must, mapped, ◌or◌, Sym, parseName}
-use Rattle.grammar.specs.Rules.{Sequence, exprs, parseOptionalType, parseNonemptyCommaDelimitedSeq}
-use Rattle.grammar.specs.Statements.{names, statements, cases, aexprs, parseOptionalAutoInvariant, parseInit, parseOptionalExitArgument, parseAExpr, parseOr, parseCase, parseElse, parseStmt, afterAssign, afterLabel, after_call}
-use Rattle.grammar.specs.Declarations.{parseWhenClause}
+use Rattle.tree.specs.Words.{option_words, variable_words, expr_words, exprs_words, stmt_words, stmts_words, cases_words, a_expr_words, a_exprs_words}
+use Rattle.grammar.specs.Steps.{Reader, after, need, must, mapped, ◌or◌, Sym, parse_name}
+use Rattle.grammar.specs.Rules.{Sequence, exprs, parse_optional_type, parse_nonempty_comma_delimited_seq}
+use Rattle.grammar.specs.Statements.{names, statements, cases, aexprs, parse_optional_auto_invariant, parse_init, parse_optional_exit_argument, parse_a_expr, parse_or, parse_case, parse_else, parse_stmt, after_assign, after_label, after_call}
+use Rattle.grammar.specs.Declarations.{parse_when_clause}
 use Rattle.parsing.specs.Arena.{Run, Builds}
 use Rattle.parsing.specs.Code.{same, turns, inner, opened, span}
 use Rattle.parsing.specs.declared.arena.Built.{Built}
@@ -24,10 +24,10 @@ use Rattle.parsing.specs.declared.stmt.Repeated.TheVariants.{Stmts as Statements
 -- ---- tokens
 
 -- refusal 3 at a place where a token was read
-abbrev pub deepAt : ℕ → Lexed → Built
-deepAt at (LexedOk v next) = Refused levelTooDeep at
-deepAt at LexedNone = None
-deepAt at (LexedRefused number place) = Refused number place
+abbrev pub deep_at : ℕ → Lexed → Built
+deep_at at (LexedOk v next) = Refused level_too_deep at
+deep_at at LexedNone = None
+deep_at at (LexedRefused number place) = Refused number place
 
 -- a token that was read at a place lies inside the text
 abbrev pub Marked : List ℕ → ℕ → Lexed → Type 0
@@ -46,60 +46,60 @@ abbrev pub headed : {A : Type 0} → ℕ → (A → Run) → A → Run
 headed tag words a r = tag ∷ words a r
 
 -- a condition and a body
-abbrev pub caseWords : (Expr Span × Stmt Span) → Run
-caseWords k r = exprWords same k.0 (stmtWords same k.1 r)
+abbrev pub case_words : (Expr Span × Stmt Span) → Run
+case_words k r = expr_words same k.0 (stmt_words same k.1 r)
 
 -- an expression after a token that may have been read
-abbrev pub optionalExpr : List ℕ → ℕ → ℕ → Lexed → Answer (Option (Expr Span))
-optionalExpr text depth at mark = after (answer_of mark) (ok none at) (λ _ at₁. must at₁ (mapped some (inner text depth at₁)))
+abbrev pub optional_expr : List ℕ → ℕ → ℕ → Lexed → Answer (Option (Expr Span))
+optional_expr text depth at mark = after (answer_of mark) (ok none at) (λ _ at₁. must at₁ (mapped some (inner text depth at₁)))
 
 -- after `var` or `val`: what is declared, and its first value
 abbrev pub declaration : List ℕ → ℕ → Bool → Reader (Variable Span × Option (Expr Span))
-declaration text depth isMutable at =
-    need at (parseName text at)
-    (λ n at₁. need at₁ (parseOptionalType text at₁)
-    (λ t at₂. need at₂ (parseOptionalAutoInvariant text (turns text) (opened text depth) at₂)
-    (λ i at₃. need at₃ (parseInit text (turns text) (opened text depth) at₃)
-    (λ init at₄. ok (record { name = n; isMutable = isMutable; optionalType = t; optionalAutoInv = i }, init) at₄))))
+declaration text depth is_mutable at =
+    need at (parse_name text at)
+    (λ n at₁. need at₁ (parse_optional_type text at₁)
+    (λ t at₂. need at₂ (parse_optional_auto_invariant text (turns text) (opened text depth) at₂)
+    (λ i at₃. need at₃ (parse_init text (turns text) (opened text depth) at₃)
+    (λ init at₄. ok (record { name = n; is_mutable = is_mutable; optional_type = t; optional_auto_inv = i }, init) at₄))))
 
-abbrev pub declarationWords : Variable Span × Option (Expr Span) → Run
-declarationWords d r = varDeclTag ∷ variableWords same d.0 (optionWords (exprWords same) d.1 r)
+abbrev pub declaration_words : Variable Span × Option (Expr Span) → Run
+declaration_words d r = var_decl_tag ∷ variable_words same d.0 (option_words (expr_words same) d.1 r)
 
 -- after `exit`
-abbrev pub exitStmt : List ℕ → Reader (Stmt Span)
-exitStmt text at = must at (mapped Exit (parseOptionalExitArgument text at))
+abbrev pub exit_stmt : List ℕ → Reader (Stmt Span)
+exit_stmt text at = must at (mapped Exit (parse_optional_exit_argument text at))
 
 -- after `reinit`
-abbrev pub reinitStmt : List ℕ → Reader (Stmt Span)
-reinitStmt text at = must at (mapped Reinit (parseNonemptyCommaDelimitedSeq text (turns text) names (parseName text) at))
+abbrev pub reinit_stmt : List ℕ → Reader (Stmt Span)
+reinit_stmt text at = must at (mapped Reinit (parse_nonempty_comma_delimited_seq text (turns text) names (parse_name text) at))
 
 module _ (text : List ℕ) (depth : ℕ) where
   -- after the name w: `:=`, `:` or `(`
-  abbrev pub assignStmt : Word → Answer (Stmt Span)
-  assignStmt w =
-      after (Sym text ":=" w.next) Answer.none (λ _ at₁. afterAssign text (turns text) (opened text depth) (span w.at w.len) at₁)
+  abbrev pub assign_stmt : Word → Answer (Stmt Span)
+  assign_stmt w =
+      after (Sym text ":=" w.next) Answer.none (λ _ at₁. after_assign text (turns text) (opened text depth) (span w.at w.len) at₁)
 
-  abbrev pub labelStmt : Word → Answer (Stmt Span)
-  labelStmt w =
-      after (Sym text ":" w.next) Answer.none (λ _ at₁. afterLabel text (turns text) (opened text depth) (span w.at w.len) at₁)
+  abbrev pub label_stmt : Word → Answer (Stmt Span)
+  label_stmt w =
+      after (Sym text ":" w.next) Answer.none (λ _ at₁. after_label text (turns text) (opened text depth) (span w.at w.len) at₁)
 
-  abbrev pub callStmt : Word → Answer (Stmt Span)
-  callStmt w =
+  abbrev pub call_stmt : Word → Answer (Stmt Span)
+  call_stmt w =
       after (Sym text "(" w.next) Answer.none (λ _ at₁. after_call text (turns text) (opened text depth) (span w.at w.len) at₁)
 
-  abbrev pub namedStmt : Word → Answer (Stmt Span)
-  namedStmt w = assignStmt w or labelStmt w or callStmt w
+  abbrev pub named_stmt : Word → Answer (Stmt Span)
+  named_stmt w = assign_stmt w or label_stmt w or call_stmt w
 
   -- a block or a loop
-  abbrev pub scopeStmt : Reader (Stmt Span)
-  scopeStmt at = (opened text depth).block at or (opened text depth).loop at
+  abbrev pub scope_stmt : Reader (Stmt Span)
+  scope_stmt at = (opened text depth).block at or (opened text depth).loop at
 
   -- after `if`, where no `case` stands
-  abbrev pub condStmt : Reader (Stmt Span)
-  condStmt at =
+  abbrev pub cond_stmt : Reader (Stmt Span)
+  cond_stmt at =
       after (inner text depth at) Answer.none
       (λ e at₁. need at₁ ((opened text depth).block at₁)
-      (λ thn at₂. need at₂ (parseElse text (turns text) (opened text depth) at₂) (λ els at₃. ok (If e thn els) at₃)))
+      (λ thn at₂. need at₂ (parse_else text (turns text) (opened text depth) at₂) (λ els at₃. ok (If e thn els) at₃)))
 
 -- ---- repetitions
 
@@ -134,32 +134,32 @@ repeated Ensures = aexprs
 repeated Invariants = aexprs
 repeated Whens = exprs
 
-abbrev pub repeatedWords : (k : Repeated) → RepeatedOf k → Run
-repeatedWords Statements = stmtWords same
-repeatedWords Nested = stmtWords same
-repeatedWords Branches = stmtWords same
-repeatedWords CaseItems = caseWords
-repeatedWords Requires = aExprWords same
-repeatedWords Ensures = aExprWords same
-repeatedWords Invariants = aExprWords same
-repeatedWords Whens = exprWords same
+abbrev pub repeated_words : (k : Repeated) → RepeatedOf k → Run
+repeated_words Statements = stmt_words same
+repeated_words Nested = stmt_words same
+repeated_words Branches = stmt_words same
+repeated_words CaseItems = case_words
+repeated_words Requires = a_expr_words same
+repeated_words Ensures = a_expr_words same
+repeated_words Invariants = a_expr_words same
+repeated_words Whens = expr_words same
 
-abbrev pub repetitionWords : (k : Repeated) → RepetitionOf k → Run
-repetitionWords Statements = stmtsWords same
-repetitionWords Nested = stmtsWords same
-repetitionWords Branches = stmtsWords same
-repetitionWords CaseItems = casesWords same
-repetitionWords Requires = aExprsWords same
-repetitionWords Ensures = aExprsWords same
-repetitionWords Invariants = aExprsWords same
-repetitionWords Whens = exprsWords same
+abbrev pub repetition_words : (k : Repeated) → RepetitionOf k → Run
+repetition_words Statements = stmts_words same
+repetition_words Nested = stmts_words same
+repetition_words Branches = stmts_words same
+repetition_words CaseItems = cases_words same
+repetition_words Requires = a_exprs_words same
+repetition_words Ensures = a_exprs_words same
+repetition_words Invariants = a_exprs_words same
+repetition_words Whens = exprs_words same
 
-abbrev pub repeatedRule : (k : Repeated) → List ℕ → ℕ → Reader (RepeatedOf k)
-repeatedRule Statements text depth = parseStmt text (turns text) (opened text depth)
-repeatedRule Nested text depth = (opened text depth).stmt
-repeatedRule Branches text depth = parseOr text (turns text) (opened text depth)
-repeatedRule CaseItems text depth = parseCase text (turns text) (opened text depth)
-repeatedRule Requires text depth = parseAExpr text (turns text) (opened text depth) (bytes "requires")
-repeatedRule Ensures text depth = parseAExpr text (turns text) (opened text depth) (bytes "ensures")
-repeatedRule Invariants text depth = parseAExpr text (turns text) (opened text depth) (bytes "invariant")
-repeatedRule Whens text depth = parseWhenClause text (turns text) (opened text depth)
+abbrev pub repeated_rule : (k : Repeated) → List ℕ → ℕ → Reader (RepeatedOf k)
+repeated_rule Statements text depth = parse_stmt text (turns text) (opened text depth)
+repeated_rule Nested text depth = (opened text depth).stmt
+repeated_rule Branches text depth = parse_or text (turns text) (opened text depth)
+repeated_rule CaseItems text depth = parse_case text (turns text) (opened text depth)
+repeated_rule Requires text depth = parse_a_expr text (turns text) (opened text depth) (bytes "requires")
+repeated_rule Ensures text depth = parse_a_expr text (turns text) (opened text depth) (bytes "ensures")
+repeated_rule Invariants text depth = parse_a_expr text (turns text) (opened text depth) (bytes "invariant")
+repeated_rule Whens text depth = parse_when_clause text (turns text) (opened text depth)

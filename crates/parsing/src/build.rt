@@ -2,7 +2,7 @@
 ghost use Rattle.std.specs.Prelude.{◌≡◌, ◌+◌, ◌≤◌, List, length};
 ghost use Rattle.lexing.specs.Answer.{pick};
 ghost use Rattle.tree.specs.Ast.{Expr, Span};
-ghost use Rattle.parsing.specs.Arena.{Noted, Kept, mostArena, binaryNode};
+ghost use Rattle.parsing.specs.Arena.{Noted, Kept, most_arena, binary_node};
 ghost use Rattle.parsing.specs.Code.{Foldable, Folds, FoldedAt, Layer, Four, Choice, LayerNoted, Closes};
 ghost use Rattle.parsing.specs.declared.arena.Built.TheVariants.{Ok};
 
@@ -19,7 +19,7 @@ pub(crate) fn over(
     z: u32,
     next: usize,
 ) -> Built
-    requires { (top + 4 ≤ length arena.old) × (length arena.old ≤ mostArena) }
+    requires { (top + 4 ≤ length arena.old) × (length arena.old ≤ most_arena) }
     ensures { (result ≡ Ok top next (top + 4)) × Noted arena.old arena.new top tag x y z }
 {
     node(arena, top, tag, x, y, z);
@@ -29,7 +29,7 @@ pub(crate) fn over(
 // An operator over two operands, which may swap.
 pub(crate) fn combine(arena: &mut [u32], top: usize, op: u32, swap: bool, a: u32, b: u32)
     requires { top + 4 ≤ length arena.old }
-    ensures { Noted arena.old arena.new top binaryNode op (pick swap b a) (pick swap a b) }
+    ensures { Noted arena.old arena.new top binary_node op (pick swap b a) (pick swap a b) }
 {
     if swap {
         node(arena, top, BINARY, op, b, a);
@@ -40,7 +40,7 @@ pub(crate) fn combine(arena: &mut [u32], top: usize, op: u32, swap: bool, a: u32
 
 // A sequence with its end: `END` where it has no items.
 pub(crate) fn close(arena: &mut [u32], top: usize, list: u32, next: usize) -> Built
-    requires { (((list ≡ 0) → ⊥) → top + 4 ≤ length arena.old) × (length arena.old ≤ mostArena) }
+    requires { (((list ≡ 0) → ⊥) → top + 4 ≤ length arena.old) × (length arena.old ≤ most_arena) }
     ensures { Closes arena.old arena.new top list next result }
 {
     if list == 0 {
@@ -59,7 +59,7 @@ pub(crate) fn four(
     d: u32,
     next: usize,
 ) -> Built
-    requires { (top + 12 ≤ length arena.old) × (length arena.old ≤ mostArena) }
+    requires { (top + 12 ≤ length arena.old) × (length arena.old ≤ most_arena) }
     ensures { (result ≡ Ok (top + 8) next (top + 12)) × Four arena.old arena.new top a b c d }
 {
     node(arena, top, PAIR, 0, a, b);
@@ -77,7 +77,7 @@ pub(crate) fn choice(
     els: u32,
     next: usize,
 ) -> Built
-    requires { (top + 20 ≤ length arena.old) × (length arena.old ≤ mostArena) }
+    requires { (top + 20 ≤ length arena.old) × (length arena.old ≤ most_arena) }
     ensures { (result ≡ Ok (top + 16) next (top + 20)) × Choice arena.old arena.new top guard thn els }
 {
     node(arena, top, TWO, OPERATOR_EXPR, IF_THEN_ELSE, 0);

@@ -1,10 +1,10 @@
 // The reading rules of declarations. `depth` is how many levels may be opened.
 ghost use Rattle.std.specs.Prelude.{◌≡◌};
-ghost use Rattle.tree.specs.Words.{optionWords, seqWords, nameWords, taggerWords, functionDefinitionWords, functionWords, axiomWords, procedureWords, stmtWords};
-ghost use Rattle.grammar.specs.Declarations.{afterType, afterTagger, parseTag, parseFunctionDefinition, afterFunction, parseExplains, afterAxiom, afterProcedure};
+ghost use Rattle.tree.specs.Words.{option_words, seq_words, name_words, tagger_words, function_definition_words, function_words, axiom_words, procedure_words, stmt_words};
+ghost use Rattle.grammar.specs.Declarations.{after_type, after_tagger, parse_tag, parse_function_definition, after_function, parse_explains, after_axiom, after_procedure};
 ghost use Rattle.parsing.specs.Arena.{Room, Builds};
 ghost use Rattle.parsing.specs.Code.{same, turns, opened};
-ghost use Rattle.parsing.specs.Declarations.{signatureRule, signatureWords, undefinedAt, optionalBlock};
+ghost use Rattle.parsing.specs.Declarations.{signature_rule, signature_words, undefined_at, optional_block};
 
 use crate::arena::{Built, END, HEADED, PAIR, node};
 use crate::build::{four, over};
@@ -20,7 +20,7 @@ use tree::word::MORE;
 // After `type`.
 pub(crate) fn type_decl(text: &[u8], at: usize, arena: &mut [u32], top: usize) -> Built
     requires { Room text.now arena.old at top 0 }
-    ensures { Builds (nameWords same) text.now arena.old arena.new at top 1 0 (afterType text.now at) result }
+    ensures { Builds (name_words same) text.now arena.old arena.new at top 1 0 (after_type text.now at) result }
 {
     needed(identifier(text, at, arena, top), at)
 }
@@ -28,7 +28,7 @@ pub(crate) fn type_decl(text: &[u8], at: usize, arena: &mut [u32], top: usize) -
 // After `tagger`.
 pub(crate) fn tagger_decl(text: &[u8], at: usize, arena: &mut [u32], top: usize) -> Built
     requires { Room text.now arena.old at top 0 }
-    ensures { Builds (taggerWords same) text.now arena.old arena.new at top 1 0 (afterTagger text.now at) result }
+    ensures { Builds (tagger_words same) text.now arena.old arena.new at top 1 0 (after_tagger text.now at) result }
 {
     let named = identifier(text, at, arena, top);
     let Built::Ok(n, at1, top1) = named else {
@@ -48,7 +48,7 @@ pub(crate) fn tagger_decl(text: &[u8], at: usize, arena: &mut [u32], top: usize)
 // The tag of a function, or none.
 fn tag(text: &[u8], at: usize, arena: &mut [u32], top: usize) -> Built
     requires { Room text.now arena.old at top 0 }
-    ensures { Builds (optionWords (nameWords same)) text.now arena.old arena.new at top 0 0 (parseTag text.now at) result }
+    ensures { Builds (option_words (name_words same)) text.now arena.old arena.new at top 0 0 (parse_tag text.now at) result }
 {
     match keyword(text, at, b"tag") {
         Lexed::Ok(_, at1) => typed(text, at1, arena, top),
@@ -59,7 +59,7 @@ fn tag(text: &[u8], at: usize, arena: &mut [u32], top: usize) -> Built
 
 // Where no body follows: no definition, unless `when` stood before it.
 fn undefined(brace: Lexed, when: Lexed, at: usize, top: usize) -> Built
-    ensures { result ≡ undefinedAt brace when at top }
+    ensures { result ≡ undefined_at brace when at top }
 {
     match brace {
         Lexed::Ok(_, _) => Built::None,
@@ -75,7 +75,7 @@ fn undefined(brace: Lexed, when: Lexed, at: usize, top: usize) -> Built
 // `parseFunctionDefinition`, or none.
 fn definition(text: &[u8], at: usize, arena: &mut [u32], top: usize, depth: usize) -> Built
     requires { Room text.now arena.old at top 4 }
-    ensures { Builds (optionWords (functionDefinitionWords same)) text.now arena.old arena.new at top 0 4 (parseFunctionDefinition text.now (turns text.now) (opened text.now depth) at) result }
+    ensures { Builds (option_words (function_definition_words same)) text.now arena.old arena.new at top 0 4 (parse_function_definition text.now (turns text.now) (opened text.now depth) at) result }
 {
     let when = keyword(text, at, b"when");
     let clauses = many(text, at, arena, top, depth, Repeated::Whens);
@@ -108,7 +108,7 @@ fn signature(
     kind: Kind,
 ) -> Built
     requires { Room text.now arena.old at top 4 }
-    ensures { Builds (signatureWords kind) text.now arena.old arena.new at top 3 0 (signatureRule kind text.now depth at) result }
+    ensures { Builds (signature_words kind) text.now arena.old arena.new at top 3 0 (signature_rule kind text.now depth at) result }
 {
     let named = identifier(text, at, arena, top);
     let Built::Ok(n, at1, top1) = named else {
@@ -134,7 +134,7 @@ pub(crate) fn function_decl(
     depth: usize,
 ) -> Built
     requires { Room text.now arena.old at top 8 }
-    ensures { Builds (functionWords same) text.now arena.old arena.new at top 1 8 (afterFunction text.now (turns text.now) (opened text.now depth) at) result }
+    ensures { Builds (function_words same) text.now arena.old arena.new at top 1 8 (after_function text.now (turns text.now) (opened text.now depth) at) result }
 {
     let signed = signature(text, at, arena, top, depth, Kind::Formals);
     let Built::Ok(head, at1, top1) = signed else {
@@ -162,7 +162,7 @@ pub(crate) fn function_decl(
 // The names that an axiom explains, or none.
 fn explains(text: &[u8], at: usize, arena: &mut [u32], top: usize, depth: usize) -> Built
     requires { Room text.now arena.old at top 0 }
-    ensures { Builds (seqWords (nameWords same)) text.now arena.old arena.new at top 0 0 (parseExplains text.now (turns text.now) (opened text.now depth) at) result }
+    ensures { Builds (seq_words (name_words same)) text.now arena.old arena.new at top 0 0 (parse_explains text.now (turns text.now) (opened text.now depth) at) result }
 {
     match keyword(text, at, b"explains") {
         Lexed::Ok(_, at1) => needed(items(text, at1, arena, top, depth, Kind::Names), at1),
@@ -180,7 +180,7 @@ pub(crate) fn axiom_decl(
     depth: usize,
 ) -> Built
     requires { Room text.now arena.old at top 4 }
-    ensures { Builds (axiomWords same) text.now arena.old arena.new at top 1 4 (afterAxiom text.now (turns text.now) (opened text.now depth) at) result }
+    ensures { Builds (axiom_words same) text.now arena.old arena.new at top 1 4 (after_axiom text.now (turns text.now) (opened text.now depth) at) result }
 {
     let listed = explains(text, at, arena, top, depth);
     let Built::Ok(names, at1, top1) = listed else {
@@ -196,7 +196,7 @@ pub(crate) fn axiom_decl(
 // The body of a procedure, or none.
 fn body(text: &[u8], at: usize, arena: &mut [u32], top: usize, depth: usize) -> Built
     requires { Room text.now arena.old at top 0 }
-    ensures { Builds (optionWords (stmtWords same)) text.now arena.old arena.new at top 0 0 (optionalBlock text.now depth at) result }
+    ensures { Builds (option_words (stmt_words same)) text.now arena.old arena.new at top 0 0 (optional_block text.now depth at) result }
 {
     match block(text, at, arena, top, depth) {
         Built::Ok(s, at1, top1) => over(arena, top1, HEADED, MORE, s, 0, at1),
@@ -214,7 +214,7 @@ pub(crate) fn proc_decl(
     depth: usize,
 ) -> Built
     requires { Room text.now arena.old at top 20 }
-    ensures { Builds (procedureWords same) text.now arena.old arena.new at top 1 20 (afterProcedure text.now (turns text.now) (opened text.now depth) at) result }
+    ensures { Builds (procedure_words same) text.now arena.old arena.new at top 1 20 (after_procedure text.now (turns text.now) (opened text.now depth) at) result }
 {
     let signed = signature(text, at, arena, top, depth, Kind::Parameters);
     let Built::Ok(head, at1, top1) = signed else {

@@ -1,7 +1,7 @@
 // The tree of a whole text, as a node of the arena.
 ghost use Rattle.std.specs.Prelude.{◌≡◌, length};
 ghost use Rattle.parsing.specs.Arena.{Room, Builds};
-ghost use Rattle.parsing.specs.Parse.{roomy, wholeRule, ended_as, Parses};
+ghost use Rattle.parsing.specs.Parse.{roomy, whole_rule, ended_as, Parses};
 
 use crate::arena::{Built, EMPTY, END, ONE, node};
 use crate::expr::expr;
@@ -48,7 +48,7 @@ fn has_room(len: usize, n: usize) -> bool
 // The rule of a whole text.
 fn rule(text: &[u8], at: usize, arena: &mut [u32], whole: Whole) -> Built
     requires { Room text.now arena.old at 8 36 }
-    ensures { Builds (λ f. f) text.now arena.old arena.new at 8 0 36 (wholeRule whole text.now at) result }
+    ensures { Builds (λ f. f) text.now arena.old arena.new at 8 0 36 (whole_rule whole text.now at) result }
 {
     match whole {
         Whole::Expression => expr(text, at, arena, 8, MOST_DEPTH),

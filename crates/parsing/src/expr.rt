@@ -5,9 +5,9 @@ pub(crate) mod seq;
 ghost use Rattle.std.specs.Prelude.{◌≤◌};
 ghost use Rattle.parsing.specs.Arena.{Room, Builds};
 ghost use Rattle.grammar.specs.Grammar.{implication};
-ghost use Rattle.parsing.specs.Code.{Follows, Begun, turns, inner, class_of, tighterOf, leftChain, rightChain, span, Worded, parenExpr};
-ghost use Rattle.grammar.specs.Reading.{treeWords};
-ghost use Rattle.grammar.specs.Rules.{parseImpExpExpr, parseLogicalExpr, parseJuctExpr, parseUnaryExpr, parsePrimaryExpr, afterLabel, after_call, afterIf, afterVal};
+ghost use Rattle.parsing.specs.Code.{Follows, Begun, turns, inner, class_of, tighter_of, left_chain, right_chain, span, Worded, paren_expr};
+ghost use Rattle.grammar.specs.Reading.{tree_words};
+ghost use Rattle.grammar.specs.Rules.{parse_imp_exp_expr, parse_logical_expr, parse_juct_expr, parse_unary_expr, parse_primary_expr, after_label, after_call, after_if, after_val};
 
 use crate::arena::{BINARY, Built, PAIR, THREE, UNARY, node};
 use crate::build::{choice, combine, fold, four, over};
@@ -23,7 +23,7 @@ use tree::word::{FALSE, FUNCTION_CALL_EXPR, LABELED_EXPR, LET_EXPR, TRUE};
 #[cycle(call_chain_cond_expr_imp_juct_label_left_logic_paren_primary_right_arg_bind_item_items_lift_list_marks_param_params_prop_quant_tight_unary_val_word)]
 pub(crate) fn expr(text: &[u8], at: usize, arena: &mut [u32], top: usize, depth: usize) -> Built
     requires { Room text.now arena.old at top 0 }
-    ensures { Builds treeWords text.now arena.old arena.new at top 1 0 (inner text.now depth at) result }
+    ensures { Builds tree_words text.now arena.old arena.new at top 1 0 (inner text.now depth at) result }
 {
     if depth == 0 {
         return leaf::too_deep(text, at);
@@ -35,7 +35,7 @@ pub(crate) fn expr(text: &[u8], at: usize, arena: &mut [u32], top: usize, depth:
 #[cycle(call_chain_cond_expr_imp_juct_label_left_logic_paren_primary_right_arg_bind_item_items_lift_list_marks_param_params_prop_quant_tight_unary_val_word)]
 fn chain(text: &[u8], at: usize, arena: &mut [u32], top: usize, depth: usize, kind: Level) -> Built
     requires { Room text.now arena.old at top 0 }
-    ensures { Builds treeWords text.now arena.old arena.new at top 1 0 (leftChain (class_of kind) text.now depth at) result }
+    ensures { Builds tree_words text.now arena.old arena.new at top 1 0 (left_chain (class_of kind) text.now depth at) result }
 {
     let r = tight(text, at, arena, top, depth, kind);
     let Built::Ok(e, next, top1) = r else {
@@ -47,7 +47,7 @@ fn chain(text: &[u8], at: usize, arena: &mut [u32], top: usize, depth: usize, ki
 #[cycle(call_chain_cond_expr_imp_juct_label_left_logic_paren_primary_right_arg_bind_item_items_lift_list_marks_param_params_prop_quant_tight_unary_val_word)]
 fn imp(text: &[u8], at: usize, arena: &mut [u32], top: usize, depth: usize) -> Built
     requires { Room text.now arena.old at top 0 }
-    ensures { Follows parseImpExpExpr 0 text.now arena.old arena.new at top depth result }
+    ensures { Follows parse_imp_exp_expr 0 text.now arena.old arena.new at top depth result }
 {
     let r = logic(text, at, arena, top, depth);
     let Built::Ok(e, next, top1) = r else {
@@ -63,7 +63,7 @@ fn imp(text: &[u8], at: usize, arena: &mut [u32], top: usize, depth: usize) -> B
 #[cycle(call_chain_cond_expr_imp_juct_label_left_logic_paren_primary_right_arg_bind_item_items_lift_list_marks_param_params_prop_quant_tight_unary_val_word)]
 fn logic(text: &[u8], at: usize, arena: &mut [u32], top: usize, depth: usize) -> Built
     requires { Room text.now arena.old at top 0 }
-    ensures { Follows parseLogicalExpr 0 text.now arena.old arena.new at top depth result }
+    ensures { Follows parse_logical_expr 0 text.now arena.old arena.new at top depth result }
 {
     let r = juct(text, at, arena, top, depth);
     let Built::Ok(e, next, top1) = r else {
@@ -79,7 +79,7 @@ fn logic(text: &[u8], at: usize, arena: &mut [u32], top: usize, depth: usize) ->
 #[cycle(call_chain_cond_expr_imp_juct_label_left_logic_paren_primary_right_arg_bind_item_items_lift_list_marks_param_params_prop_quant_tight_unary_val_word)]
 fn juct(text: &[u8], at: usize, arena: &mut [u32], top: usize, depth: usize) -> Built
     requires { Room text.now arena.old at top 0 }
-    ensures { Follows parseJuctExpr 0 text.now arena.old arena.new at top depth result }
+    ensures { Follows parse_juct_expr 0 text.now arena.old arena.new at top depth result }
 {
     let r = chain(text, at, arena, top, depth, Level::Sum);
     let Built::Ok(e, next, top1) = r else {
@@ -103,7 +103,7 @@ fn juct(text: &[u8], at: usize, arena: &mut [u32], top: usize, depth: usize) -> 
 #[cycle(call_chain_cond_expr_imp_juct_label_left_logic_paren_primary_right_arg_bind_item_items_lift_list_marks_param_params_prop_quant_tight_unary_val_word)]
 fn tight(text: &[u8], at: usize, arena: &mut [u32], top: usize, depth: usize, kind: Level) -> Built
     requires { Room text.now arena.old at top 0 }
-    ensures { Builds treeWords text.now arena.old arena.new at top 1 0 (tighterOf (class_of kind) text.now depth at) result }
+    ensures { Builds tree_words text.now arena.old arena.new at top 1 0 (tighter_of (class_of kind) text.now depth at) result }
 {
     match kind {
         Level::Product => unary(text, at, arena, top, depth),
@@ -130,8 +130,8 @@ fn left(
     level: Level,
 ) -> Built
     requires room { Room text.now arena.old from free 0 }
-    requires begun { Begun (tighterOf (class_of level) text.now depth) arena.old start from first free }
-    ensures { Builds treeWords text.now arena.old arena.new from free 0 0 (leftChain (class_of level) text.now depth start) result }
+    requires begun { Begun (tighter_of (class_of level) text.now depth) arena.old start from first free }
+    ensures { Builds tree_words text.now arena.old arena.new from free 0 0 (left_chain (class_of level) text.now depth start) result }
 {
     let mut e = first;
     let mut at = from;
@@ -170,8 +170,8 @@ fn right(
     depth: usize,
 ) -> Built
     requires room { Room text.now arena.old from free 0 }
-    requires begun { Begun (tighterOf implication text.now depth) arena.old start from first free }
-    ensures { Builds treeWords text.now arena.old arena.new from free 0 0 (rightChain text.now depth start) result }
+    requires begun { Begun (tighter_of implication text.now depth) arena.old start from first free }
+    ensures { Builds tree_words text.now arena.old arena.new from free 0 0 (right_chain text.now depth start) result }
 {
     let mut e = first;
     let mut at = from;
@@ -203,7 +203,7 @@ fn right(
 #[cycle(call_chain_cond_expr_imp_juct_label_left_logic_paren_primary_right_arg_bind_item_items_lift_list_marks_param_params_prop_quant_tight_unary_val_word)]
 fn unary(text: &[u8], start: usize, arena: &mut [u32], free: usize, depth: usize) -> Built
     requires { Room text.now arena.old start free 0 }
-    ensures { Follows parseUnaryExpr 0 text.now arena.old arena.new start free depth result }
+    ensures { Follows parse_unary_expr 0 text.now arena.old arena.new start free depth result }
 {
     let mut at = start;
     let mut top = free;
@@ -237,7 +237,7 @@ fn unary(text: &[u8], start: usize, arena: &mut [u32], free: usize, depth: usize
 #[cycle(call_chain_cond_expr_imp_juct_label_left_logic_paren_primary_right_arg_bind_item_items_lift_list_marks_param_params_prop_quant_tight_unary_val_word)]
 fn primary(text: &[u8], at: usize, arena: &mut [u32], top: usize, depth: usize) -> Built
     requires { Room text.now arena.old at top 0 }
-    ensures { Follows parsePrimaryExpr 0 text.now arena.old arena.new at top depth result }
+    ensures { Follows parse_primary_expr 0 text.now arena.old arena.new at top depth result }
 {
     match step::name(text, at) {
         Lexed::Ok(n, next) => {
@@ -264,7 +264,7 @@ fn primary(text: &[u8], at: usize, arena: &mut [u32], top: usize, depth: usize) 
 fn word(text: &[u8], w: Word, arena: &mut [u32], top: usize, depth: usize) -> Built
     requires room { Room text.now arena.old w.at top 0 }
     requires worded { Worded text.now w }
-    ensures { Follows parsePrimaryExpr 0 text.now arena.old arena.new w.at top depth result }
+    ensures { Follows parse_primary_expr 0 text.now arena.old arena.new w.at top depth result }
 {
     if is_word(text, w, b"if") {
         return cond(text, w.next, arena, top, depth);
@@ -297,7 +297,7 @@ fn word(text: &[u8], w: Word, arena: &mut [u32], top: usize, depth: usize) -> Bu
 fn call(text: &[u8], f: Word, at: usize, arena: &mut [u32], top: usize, depth: usize) -> Built
     requires room { Room text.now arena.old at top 16 }
     requires worded { Worded text.now f }
-    ensures { Builds treeWords text.now arena.old arena.new at top 1 12 (after_call text.now (turns text.now) (inner text.now depth) (span f.at f.len) at) result }
+    ensures { Builds tree_words text.now arena.old arena.new at top 1 12 (after_call text.now (turns text.now) (inner text.now depth) (span f.at f.len) at) result }
 {
     node(
         arena,
@@ -319,7 +319,7 @@ fn call(text: &[u8], f: Word, at: usize, arena: &mut [u32], top: usize, depth: u
 fn label(text: &[u8], l: Word, arena: &mut [u32], top: usize, depth: usize) -> Built
     requires room { Room text.now arena.old l.next top 4 }
     requires worded { Worded text.now l }
-    ensures { Builds treeWords text.now arena.old arena.new l.next top 0 4 (afterLabel text.now (inner text.now depth) (span l.at l.len) l.next) result }
+    ensures { Builds tree_words text.now arena.old arena.new l.next top 0 4 (after_label text.now (inner text.now depth) (span l.at l.len) l.next) result }
 {
     let colon = sym(text, l.next, b":");
     let Lexed::Ok(_, at1) = colon else {
@@ -337,7 +337,7 @@ fn label(text: &[u8], l: Word, arena: &mut [u32], top: usize, depth: usize) -> B
 #[cycle(call_chain_cond_expr_imp_juct_label_left_logic_paren_primary_right_arg_bind_item_items_lift_list_marks_param_params_prop_quant_tight_unary_val_word)]
 fn paren(text: &[u8], at: usize, arena: &mut [u32], top: usize, depth: usize) -> Built
     requires { Room text.now arena.old at top 0 }
-    ensures { Builds treeWords text.now arena.old arena.new at top 1 0 (parenExpr text.now (inner text.now depth) at) result }
+    ensures { Builds tree_words text.now arena.old arena.new at top 1 0 (paren_expr text.now (inner text.now depth) at) result }
 {
     let bracket = sym(text, at, b"(");
     let Lexed::Ok(_, at1) = bracket else {
@@ -354,7 +354,7 @@ fn paren(text: &[u8], at: usize, arena: &mut [u32], top: usize, depth: usize) ->
 #[cycle(call_chain_cond_expr_imp_juct_label_left_logic_paren_primary_right_arg_bind_item_items_lift_list_marks_param_params_prop_quant_tight_unary_val_word)]
 fn cond(text: &[u8], at: usize, arena: &mut [u32], top: usize, depth: usize) -> Built
     requires { Room text.now arena.old at top 0 }
-    ensures { Builds treeWords text.now arena.old arena.new at top 1 0 (afterIf text.now (inner text.now depth) at) result }
+    ensures { Builds tree_words text.now arena.old arena.new at top 1 0 (after_if text.now (inner text.now depth) at) result }
 {
     let condition = expr(text, at, arena, top, depth);
     let Built::Ok(guard, at1, top1) = condition else {
@@ -379,7 +379,7 @@ fn cond(text: &[u8], at: usize, arena: &mut [u32], top: usize, depth: usize) -> 
 #[cycle(call_chain_cond_expr_imp_juct_label_left_logic_paren_primary_right_arg_bind_item_items_lift_list_marks_param_params_prop_quant_tight_unary_val_word)]
 fn val(text: &[u8], at: usize, arena: &mut [u32], top: usize, depth: usize) -> Built
     requires { Room text.now arena.old at top 0 }
-    ensures { Builds treeWords text.now arena.old arena.new at top 1 0 (afterVal text.now (inner text.now depth) at) result }
+    ensures { Builds tree_words text.now arena.old arena.new at top 1 0 (after_val text.now (inner text.now depth) at) result }
 {
     let bound = step::name(text, at);
     let Lexed::Ok(len, at1) = bound else {

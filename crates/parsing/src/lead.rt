@@ -1,8 +1,8 @@
 // The words that begin a statement, told by their bytes.
 ghost use Rattle.std.specs.Prelude.{◌≡◌, ◌+◌, ◌≤◌, length, take, drop};
 ghost use Rattle.lexing.specs.Answer.{pick};
-ghost use Rattle.lexing.specs.Bytes.{sameBytes};
-ghost use Rattle.parsing.specs.Leads.{classed, ofLength, leads, leadOf};
+ghost use Rattle.lexing.specs.Bytes.{same_bytes};
+ghost use Rattle.parsing.specs.Leads.{classed, of_length, leads, lead_of};
 
 use lexing::same_bytes;
 
@@ -34,7 +34,7 @@ pub(crate) enum Simple {
 
 // The lead of a word's bytes, compared with the words of their length.
 fn lead_of(word: &[u8]) -> Lead
-    ensures { result ≡ leadOf word.now }
+    ensures { result ≡ lead_of word.now }
 {
     match word.len() {
         2 => known(word, b"if", Lead::If, Lead::Name),
@@ -54,7 +54,7 @@ fn lead_of(word: &[u8]) -> Lead
 
 // The lead of five bytes, and of six.
 fn five(word: &[u8]) -> Lead
-    ensures { result ≡ classed (ofLength 5 leads) Lead.Name word.now }
+    ensures { result ≡ classed (of_length 5 leads) Lead.Name word.now }
 {
     let lead = known(word, b"probe", Lead::Simple(Simple::Probe), Lead::Name);
     let lead = known(word, b"reach", Lead::Simple(Simple::Reach), lead);
@@ -62,7 +62,7 @@ fn five(word: &[u8]) -> Lead
 }
 
 fn six(word: &[u8]) -> Lead
-    ensures { result ≡ classed (ofLength 6 leads) Lead.Name word.now }
+    ensures { result ≡ classed (of_length 6 leads) Lead.Name word.now }
 {
     let lead = known(word, b"choose", Lead::Choose, Lead::Name);
     let lead = known(word, b"forall", Lead::Forall, lead);
@@ -74,7 +74,7 @@ fn six(word: &[u8]) -> Lead
 
 // `lead` where the bytes are the word `w`, or else `other`.
 fn known(word: &[u8], w: &[u8], lead: Lead, other: Lead) -> Lead
-    ensures { result ≡ pick (sameBytes word.now w.now) lead other }
+    ensures { result ≡ pick (same_bytes word.now w.now) lead other }
 {
     if same_bytes(word, w) { lead } else { other }
 }
@@ -82,7 +82,7 @@ fn known(word: &[u8], w: &[u8], lead: Lead, other: Lead) -> Lead
 // The lead of the word of `len` bytes at `at`.
 pub(crate) fn lead_at(text: &[u8], at: usize, len: usize) -> Lead
     requires { at + len ≤ length text.now }
-    ensures { result ≡ leadOf (take len (drop at text.now)) }
+    ensures { result ≡ lead_of (take len (drop at text.now)) }
 {
     let end = at + len;
     lead_of(&text[at..end])

@@ -2,14 +2,14 @@
 ghost use Rattle.std.specs.Prelude.{◌≡◌, [], ◌∷◌, ◌+◌, ◌≤◌, length, get_or};
 ghost use types.Run.{OneOf};
 ghost use Rattle.tree.specs.Ast.{ILiteral};
-ghost use Rattle.tree.specs.Limits.{mostText};
-ghost use Rattle.tree.specs.Words.{bindingWords, optionWords, nameWords, fParameterWords, callArgumentWords};
-ghost use Rattle.parsing.specs.Arena.{Room, Builds, Stopped, needed_at, mostArena};
-ghost use Rattle.parsing.specs.Code.{missingAt, untakenAt, neededIf, same, inner, betweenWords, modedWords, referenceWords, referenceArgument, Shuts, Alone, Worded, literalExpr, customExpr, constantExpr};
-ghost use Rattle.grammar.specs.Reading.{treeWords};
-ghost use Rattle.grammar.specs.Steps.{must, mapped, parseName, parseNat};
-ghost use Rattle.grammar.specs.Rules.{opensExpr, opens_at, parseIdType, parseOptionalType, someType, afterOld};
-ghost use Rattle.grammar.specs.Declarations.{parseFunctionFormal, parseModed};
+ghost use Rattle.tree.specs.Limits.{most_text};
+ghost use Rattle.tree.specs.Words.{binding_words, option_words, name_words, f_parameter_words, call_argument_words};
+ghost use Rattle.parsing.specs.Arena.{Room, Builds, Stopped, needed_at, most_arena};
+ghost use Rattle.parsing.specs.Code.{missing_at, untaken_at, needed_if, same, inner, between_words, moded_words, reference_words, reference_argument, Shuts, Alone, Worded, literal_expr, custom_expr, constant_expr};
+ghost use Rattle.grammar.specs.Reading.{tree_words};
+ghost use Rattle.grammar.specs.Steps.{must, mapped, parse_name, parse_nat};
+ghost use Rattle.grammar.specs.Rules.{opens_expr, opens_at, parse_id_type, parse_optional_type, some_type, after_old};
+ghost use Rattle.grammar.specs.Declarations.{parse_function_formal, parse_moded};
 
 use crate::arena::{Built, END, HEADED, IDENT, PAIR, THREE, TWO, node};
 use crate::build::over;
@@ -31,7 +31,7 @@ pub(crate) fn needed(r: Built, at: usize) -> Built
 
 // A token that must follow at `at`: the refusal where it does not.
 pub(crate) fn missing(r: Lexed, at: usize) -> Built
-    ensures { result ≡ missingAt at r }
+    ensures { result ≡ missing_at at r }
 {
     match r {
         Lexed::Ok(_, _) => Built::Refused(UNUSABLE_TOKEN, at),
@@ -42,7 +42,7 @@ pub(crate) fn missing(r: Lexed, at: usize) -> Built
 
 // A token at a rule's start that is not there.
 pub(crate) fn untaken(r: Lexed) -> Built
-    ensures { result ≡ untakenAt r }
+    ensures { result ≡ untaken_at r }
 {
     match r {
         Lexed::Ok(_, _) => Built::None,
@@ -53,7 +53,7 @@ pub(crate) fn untaken(r: Lexed) -> Built
 
 // A rule that must follow at `at` where the token `mark` stands.
 pub(crate) fn needed_if(mark: Lexed, r: Built, at: usize) -> Built
-    ensures { result ≡ neededIf mark at r }
+    ensures { result ≡ needed_if mark at r }
 {
     match mark {
         Lexed::Ok(_, _) => needed(r, at),
@@ -65,7 +65,7 @@ pub(crate) fn needed_if(mark: Lexed, r: Built, at: usize) -> Built
 // `parseIdType`.
 pub(crate) fn id_type(text: &[u8], at: usize, arena: &mut [u32], top: usize) -> Built
     requires { Room text.now arena.old at top 0 }
-    ensures { Builds (bindingWords same) text.now arena.old arena.new at top 1 0 (parseIdType text.now at) result }
+    ensures { Builds (binding_words same) text.now arena.old arena.new at top 1 0 (parse_id_type text.now at) result }
 {
     between(text, at, arena, top, TWO, 0)
 }
@@ -73,7 +73,7 @@ pub(crate) fn id_type(text: &[u8], at: usize, arena: &mut [u32], top: usize) -> 
 // The type of `parseIdOptionalType`.
 pub(crate) fn optional_type(text: &[u8], at: usize, arena: &mut [u32], top: usize) -> Built
     requires { Room text.now arena.old at top 0 }
-    ensures { Builds (optionWords (nameWords same)) text.now arena.old arena.new at top 0 0 (parseOptionalType text.now at) result }
+    ensures { Builds (option_words (name_words same)) text.now arena.old arena.new at top 0 0 (parse_optional_type text.now at) result }
 {
     match sym_not_prefix(text, at, b":", b":=") {
         Lexed::Ok(_, at1) => typed(text, at1, arena, top),
@@ -85,7 +85,7 @@ pub(crate) fn optional_type(text: &[u8], at: usize, arena: &mut [u32], top: usiz
 // A type that must follow.
 pub(crate) fn typed(text: &[u8], at: usize, arena: &mut [u32], top: usize) -> Built
     requires { Room text.now arena.old at top 0 }
-    ensures { Builds (optionWords (nameWords same)) text.now arena.old arena.new at top 1 0 (someType text.now at) result }
+    ensures { Builds (option_words (name_words same)) text.now arena.old arena.new at top 1 0 (some_type text.now at) result }
 {
     let r = name(text, at);
     let Lexed::Ok(len, at1) = r else {
@@ -97,7 +97,7 @@ pub(crate) fn typed(text: &[u8], at: usize, arena: &mut [u32], top: usize) -> Bu
 // A name.
 pub(crate) fn identifier(text: &[u8], at: usize, arena: &mut [u32], top: usize) -> Built
     requires { Room text.now arena.old at top 0 }
-    ensures { Builds (nameWords same) text.now arena.old arena.new at top 1 0 (parseName text.now at) result }
+    ensures { Builds (name_words same) text.now arena.old arena.new at top 1 0 (parse_name text.now at) result }
 {
     let r = name(text, at);
     let Lexed::Ok(len, at1) = r else {
@@ -109,7 +109,7 @@ pub(crate) fn identifier(text: &[u8], at: usize, arena: &mut [u32], top: usize) 
 // `parseIdType`, with the word `word` between name and type where the name's node is of three words.
 fn between(text: &[u8], at: usize, arena: &mut [u32], top: usize, tag: u32, word: u32) -> Built
     requires { Room text.now arena.old at top 0 × OneOf (2 ∷ 3 ∷ []) tag }
-    ensures { Builds (betweenWords tag word) text.now arena.old arena.new at top 1 0 (parseIdType text.now at) result }
+    ensures { Builds (between_words tag word) text.now arena.old arena.new at top 1 0 (parse_id_type text.now at) result }
 {
     let bound = name(text, at);
     let Lexed::Ok(len, at1) = bound else {
@@ -131,7 +131,7 @@ fn between(text: &[u8], at: usize, arena: &mut [u32], top: usize, tag: u32, word
 // `parseFunctionFormal`.
 pub(crate) fn formal(text: &[u8], at: usize, arena: &mut [u32], top: usize) -> Built
     requires { Room text.now arena.old at top 0 }
-    ensures { Builds (fParameterWords same) text.now arena.old arena.new at top 1 0 (parseFunctionFormal text.now at) result }
+    ensures { Builds (f_parameter_words same) text.now arena.old arena.new at top 1 0 (parse_function_formal text.now at) result }
 {
     match keyword(text, at, b"injective") {
         Lexed::Ok(_, at1) => needed(between(text, at1, arena, top, THREE, TRUE), at1),
@@ -143,7 +143,7 @@ pub(crate) fn formal(text: &[u8], at: usize, arena: &mut [u32], top: usize) -> B
 // `parseParameterMode`, and the name and the type of a parameter.
 pub(crate) fn moded(text: &[u8], at: usize, arena: &mut [u32], top: usize) -> Built
     requires { Room text.now arena.old at top 0 }
-    ensures { Builds modedWords text.now arena.old arena.new at top 1 0 (parseModed text.now at) result }
+    ensures { Builds moded_words text.now arena.old arena.new at top 1 0 (parse_moded text.now at) result }
 {
     match keyword(text, at, b"inout") {
         Lexed::Ok(_, at1) => needed(between(text, at1, arena, top, THREE, IN_OUT), at1),
@@ -159,7 +159,7 @@ pub(crate) fn moded(text: &[u8], at: usize, arena: &mut [u32], top: usize) -> Bu
 // `out` or `inout` and a name.
 pub(crate) fn by_name(text: &[u8], at: usize, arena: &mut [u32], top: usize) -> Built
     requires { Room text.now arena.old at top 0 }
-    ensures { Builds (callArgumentWords same) text.now arena.old arena.new at top 1 0 (referenceArgument text.now at) result }
+    ensures { Builds (call_argument_words same) text.now arena.old arena.new at top 1 0 (reference_argument text.now at) result }
 {
     match keyword(text, at, b"out") {
         Lexed::Ok(_, at1) => named(text, at1, arena, top, OUT),
@@ -175,7 +175,7 @@ pub(crate) fn by_name(text: &[u8], at: usize, arena: &mut [u32], top: usize) -> 
 // The name that must follow `out` or `inout`, after the word of its mode.
 fn named(text: &[u8], at: usize, arena: &mut [u32], top: usize, mode: u32) -> Built
     requires { Room text.now arena.old at top 0 }
-    ensures { Builds (referenceWords mode) text.now arena.old arena.new at top 1 0 (must at (parseName text.now at)) result }
+    ensures { Builds (reference_words mode) text.now arena.old arena.new at top 1 0 (must at (parse_name text.now at)) result }
 {
     let r = name(text, at);
     let Lexed::Ok(len, at1) = r else {
@@ -188,7 +188,7 @@ fn named(text: &[u8], at: usize, arena: &mut [u32], top: usize, mode: u32) -> Bu
 // A natural or a custom literal.
 pub(crate) fn literal(text: &[u8], at: usize, arena: &mut [u32], top: usize) -> Built
     requires { Room text.now arena.old at top 0 }
-    ensures { Builds treeWords text.now arena.old arena.new at top 1 0 (literalExpr text.now at) result }
+    ensures { Builds tree_words text.now arena.old arena.new at top 1 0 (literal_expr text.now at) result }
 {
     let r = number(text, at, arena, top);
     let Built::None = r else {
@@ -200,7 +200,7 @@ pub(crate) fn literal(text: &[u8], at: usize, arena: &mut [u32], top: usize) -> 
 // A custom literal.
 fn custom(text: &[u8], at: usize, arena: &mut [u32], top: usize) -> Built
     requires { Room text.now arena.old at top 0 }
-    ensures { Builds treeWords text.now arena.old arena.new at top 1 0 (customExpr text.now at) result }
+    ensures { Builds tree_words text.now arena.old arena.new at top 1 0 (custom_expr text.now at) result }
 {
     let r = sym(text, at, b"|");
     let Lexed::Ok(_, at1) = r else {
@@ -231,7 +231,7 @@ fn custom(text: &[u8], at: usize, arena: &mut [u32], top: usize) -> Built
 pub(crate) fn constant(text: &[u8], w: Word, arena: &mut [u32], top: usize) -> Built
     requires room { Room text.now arena.old w.at top 0 }
     requires worded { Worded text.now w }
-    ensures { Builds treeWords text.now arena.old arena.new w.at top 1 0 (constantExpr text.now w.at) result }
+    ensures { Builds tree_words text.now arena.old arena.new w.at top 1 0 (constant_expr text.now w.at) result }
 {
     if is_word(text, w, b"false") {
         return over(arena, top, TWO, B_LITERAL, FALSE, 0, w.next);
@@ -247,7 +247,7 @@ pub(crate) fn constant(text: &[u8], w: Word, arena: &mut [u32], top: usize) -> B
 
 // The name `n` alone, where `:` does not follow it.
 pub(crate) fn alone(colon: Lexed, n: Word, arena: &mut [u32], top: usize) -> Built
-    requires { (top + 4 ≤ length arena.old) × (length arena.old ≤ mostArena) × (n.at ≤ mostText) × (n.len ≤ mostText) }
+    requires { (top + 4 ≤ length arena.old) × (length arena.old ≤ most_arena) × (n.at ≤ most_text) × (n.len ≤ most_text) }
     ensures { Alone arena.old arena.new top n colon result }
 {
     match colon {
@@ -260,7 +260,7 @@ pub(crate) fn alone(colon: Lexed, n: Word, arena: &mut [u32], top: usize) -> Bui
 // After `old`.
 fn old(text: &[u8], at: usize, arena: &mut [u32], top: usize) -> Built
     requires { Room text.now arena.old at top 0 }
-    ensures { Builds treeWords text.now arena.old arena.new at top 1 0 (afterOld text.now at) result }
+    ensures { Builds tree_words text.now arena.old arena.new at top 1 0 (after_old text.now at) result }
 {
     let r = name(text, at);
     let Lexed::Ok(len, at1) = r else {
@@ -284,7 +284,7 @@ pub(crate) fn shut(text: &[u8], at: usize, top: usize, es: u32, close: &[u8]) ->
 // A natural.
 fn number(text: &[u8], at: usize, arena: &mut [u32], top: usize) -> Built
     requires { Room text.now arena.old at top 0 }
-    ensures { Builds treeWords text.now arena.old arena.new at top 1 0 (mapped ILiteral (parseNat text.now at)) result }
+    ensures { Builds tree_words text.now arena.old arena.new at top 1 0 (mapped ILiteral (parse_nat text.now at)) result }
 {
     match natural(&text[at..]) {
         Lexed::Ok(v, n) => over(
@@ -314,7 +314,7 @@ pub(crate) fn too_deep(text: &[u8], at: usize) -> Built
 
 // Whether an expression's first token stands at the start.
 fn opens(s: &[u8]) -> bool
-    ensures { result ≡ opensExpr s.now }
+    ensures { result ≡ opens_expr s.now }
 {
     if 0 < identifier_length(s) {
         return true;

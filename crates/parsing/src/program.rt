@@ -1,12 +1,12 @@
 // The declarations of a program, in five sequences.
 ghost use Rattle.std.specs.Prelude.{◌≡◌, ◌≤◌, length};
 ghost use Rattle.lexing.specs.Answer.{pick};
-ghost use Rattle.lexing.specs.Bytes.{sameBytes};
-ghost use Rattle.tree.specs.Words.{programWords};
+ghost use Rattle.lexing.specs.Bytes.{same_bytes};
+ghost use Rattle.tree.specs.Words.{program_words};
 ghost use Rattle.grammar.specs.Declarations.{TopLevel};
 ghost use Rattle.parsing.specs.Arena.{Run, Kept, Room, Builds};
 ghost use Rattle.parsing.specs.Code.{same, turns, opened};
-ghost use Rattle.parsing.specs.Declarations.{declWords, declRule, head_of, ledBy, Leads, last_of, with_last, Endable, Open, joinedRun, Joins};
+ghost use Rattle.parsing.specs.Declarations.{decl_words, decl_rule, head_of, led_by, Leads, last_of, with_last, Endable, Open, joined_run, Joins};
 
 use crate::arena::{Built, ITEM, PAIR, node};
 use crate::build::{close, four};
@@ -81,7 +81,7 @@ fn head_of(word: &[u8]) -> Head
 
 // `kind` where the bytes are the word `w`, or else `other`.
 fn known(word: &[u8], w: &[u8], kind: DeclKind, other: Head) -> Head
-    ensures { result ≡ pick (sameBytes word.now w.now) (Head.Of kind) other }
+    ensures { result ≡ pick (same_bytes word.now w.now) (Head.Of kind) other }
 {
     if same_bytes(word, w) {
         Head::Of(kind)
@@ -92,7 +92,7 @@ fn known(word: &[u8], w: &[u8], kind: DeclKind, other: Head) -> Head
 
 // A declaration of the kind `kind`, if its word was read.
 fn begun(kind: DeclKind, word: Lexed) -> Led
-    ensures { result ≡ ledBy kind word }
+    ensures { result ≡ led_by kind word }
 {
     match word {
         Lexed::Ok(_, next) => Led::Ok(kind, next),
@@ -111,7 +111,7 @@ fn decl(
     kind: DeclKind,
 ) -> Built
     requires { Room text.now arena.old at top 20 }
-    ensures { Builds (declWords kind) text.now arena.old arena.new at top 1 20 (declRule kind text.now depth at) result }
+    ensures { Builds (decl_words kind) text.now arena.old arena.new at top 1 20 (decl_rule kind text.now depth at) result }
 {
     match kind {
         DeclKind::Types => type_decl(text, at, arena, top),
@@ -164,7 +164,7 @@ fn with_last(lists: Lists, kind: DeclKind, list: u32) -> Lists
 fn joined(arena: &mut [u32], top: usize, lists: Lists, next: usize) -> Built
     requires { Endable arena.old top }
     ensures kept { Kept arena.old arena.new top }
-    ensures joins { (f : DeclKind → Run) → ((s : DeclKind) → Open arena.old top (last_of lists s) (f s)) → Joins arena.new top next (joinedRun f) result }
+    ensures joins { (f : DeclKind → Run) → ((s : DeclKind) → Open arena.old top (last_of lists s) (f s)) → Joins arena.new top next (joined_run f) result }
 {
     let r = close(arena, top, lists.types, next);
     let Built::Ok(types, _, top1) = r else {
@@ -207,7 +207,7 @@ pub(crate) fn program(
     depth: usize,
 ) -> Built
     requires { Room text.now arena.old start free 36 }
-    ensures { Builds (programWords same) text.now arena.old arena.new start free 0 36 (TopLevel text.now (turns text.now) (opened text.now depth) start) result }
+    ensures { Builds (program_words same) text.now arena.old arena.new start free 0 36 (TopLevel text.now (turns text.now) (opened text.now depth) start) result }
 {
     let mut lists = Lists {
         types: 0,

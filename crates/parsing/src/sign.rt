@@ -1,8 +1,8 @@
 // Operators between operands and before them.
 ghost use Rattle.std.specs.Prelude.{◌≡◌, ◌≤◌, length};
-ghost use Rattle.tree.specs.Words.{operatorWord};
-ghost use Rattle.parsing.specs.Code.{Signs, whereRead, word_of, swapOf, noSwap, class_of, beginsOperator};
-ghost use Rattle.grammar.specs.Rules.{unaryOperator, equalityOperator, lessOperator, moreOperator, parseComparisonOperator, termOperator, factorOperator, operatorOf};
+ghost use Rattle.tree.specs.Words.{operator_word};
+ghost use Rattle.parsing.specs.Code.{Signs, where_read, word_of, swap_of, no_swap, class_of, begins_operator};
+ghost use Rattle.grammar.specs.Rules.{unary_operator, equality_operator, less_operator, more_operator, parse_comparison_operator, term_operator, factor_operator, operator_of};
 
 use crate::leaf::peek;
 use crate::step::{keyword, sym, sym_not_prefix};
@@ -36,7 +36,7 @@ pub(crate) enum Sign {
 
 // The operator, where its token stands.
 pub(crate) fn where_read(r: Lexed, op: u32, swap: bool) -> Sign
-    ensures { result ≡ whereRead r op swap }
+    ensures { result ≡ where_read r op swap }
 {
     match r {
         Lexed::Ok(_, next) => Sign::Found(op, swap, next),
@@ -47,7 +47,7 @@ pub(crate) fn where_read(r: Lexed, op: u32, swap: bool) -> Sign
 
 pub(crate) fn equality(text: &[u8], at: usize) -> Sign
     requires { at ≤ length text.now }
-    ensures { Signs word_of swapOf text.now at (equalityOperator text.now at) result }
+    ensures { Signs word_of swap_of text.now at (equality_operator text.now at) result }
 {
     let r = where_read(sym_not_prefix(text, at, b"==", b"==>"), EQ, false);
     let Sign::None = r else {
@@ -58,7 +58,7 @@ pub(crate) fn equality(text: &[u8], at: usize) -> Sign
 
 pub(crate) fn less(text: &[u8], at: usize) -> Sign
     requires { at ≤ length text.now }
-    ensures { Signs word_of swapOf text.now at (lessOperator text.now at) result }
+    ensures { Signs word_of swap_of text.now at (less_operator text.now at) result }
 {
     let r = where_read(sym_not_prefix(text, at, b"<=", b"<=="), AT_MOST, false);
     let Sign::None = r else {
@@ -69,7 +69,7 @@ pub(crate) fn less(text: &[u8], at: usize) -> Sign
 
 pub(crate) fn more(text: &[u8], at: usize) -> Sign
     requires { at ≤ length text.now }
-    ensures { Signs word_of swapOf text.now at (moreOperator text.now at) result }
+    ensures { Signs word_of swap_of text.now at (more_operator text.now at) result }
 {
     let r = where_read(sym(text, at, b">="), AT_MOST, true);
     let Sign::None = r else {
@@ -80,7 +80,7 @@ pub(crate) fn more(text: &[u8], at: usize) -> Sign
 
 pub(crate) fn comparison(text: &[u8], at: usize) -> Sign
     requires { at ≤ length text.now }
-    ensures { Signs word_of swapOf text.now at (parseComparisonOperator text.now at) result }
+    ensures { Signs word_of swap_of text.now at (parse_comparison_operator text.now at) result }
 {
     let r = equality(text, at);
     let Sign::None = r else {
@@ -95,7 +95,7 @@ pub(crate) fn comparison(text: &[u8], at: usize) -> Sign
 
 pub(crate) fn term(text: &[u8], at: usize) -> Sign
     requires { at ≤ length text.now }
-    ensures { Signs word_of swapOf text.now at (termOperator text.now at) result }
+    ensures { Signs word_of swap_of text.now at (term_operator text.now at) result }
 {
     let r = where_read(sym(text, at, b"+"), PLUS, false);
     let Sign::None = r else {
@@ -106,7 +106,7 @@ pub(crate) fn term(text: &[u8], at: usize) -> Sign
 
 pub(crate) fn factor(text: &[u8], at: usize) -> Sign
     requires { at ≤ length text.now }
-    ensures { Signs word_of swapOf text.now at (factorOperator text.now at) result }
+    ensures { Signs word_of swap_of text.now at (factor_operator text.now at) result }
 {
     let r = where_read(sym(text, at, b"*"), TIMES, false);
     let Sign::None = r else {
@@ -121,7 +121,7 @@ pub(crate) fn factor(text: &[u8], at: usize) -> Sign
 
 // Whether a byte begins an operator between operands.
 fn begins_operator(b: u8) -> bool
-    ensures { result ≡ beginsOperator b }
+    ensures { result ≡ begins_operator b }
 {
     match b {
         b'!' => true,
@@ -142,7 +142,7 @@ fn begins_operator(b: u8) -> bool
 // The operator of a level. After an operand that is the last, one look at the next byte tells that there is none.
 pub(crate) fn operator(text: &[u8], at: usize, level: Level) -> Sign
     requires { at ≤ length text.now }
-    ensures { Signs word_of swapOf text.now at (operatorOf text.now (class_of level) at) result }
+    ensures { Signs word_of swap_of text.now at (operator_of text.now (class_of level) at) result }
 {
     let next = peek(text, at);
     if begins_operator(next) {
@@ -154,7 +154,7 @@ pub(crate) fn operator(text: &[u8], at: usize, level: Level) -> Sign
 // The operator of a level, token by token.
 fn level_operator(text: &[u8], at: usize, level: Level) -> Sign
     requires { at ≤ length text.now }
-    ensures { Signs word_of swapOf text.now at (operatorOf text.now (class_of level) at) result }
+    ensures { Signs word_of swap_of text.now at (operator_of text.now (class_of level) at) result }
 {
     match level {
         Level::Product => factor(text, at),
@@ -174,7 +174,7 @@ fn level_operator(text: &[u8], at: usize, level: Level) -> Sign
 
 pub(crate) fn unary_operator(text: &[u8], at: usize) -> Sign
     requires { at ≤ length text.now }
-    ensures { Signs operatorWord noSwap text.now at (unaryOperator text.now at) result }
+    ensures { Signs operator_word no_swap text.now at (unary_operator text.now at) result }
 {
     let r = where_read(sym_not_prefix(text, at, b"!", b"!="), LOGICAL_NOT, false);
     let Sign::None = r else {

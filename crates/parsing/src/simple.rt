@@ -1,14 +1,14 @@
 // Statements that hold no statement, and "stmt" where no level is left.
 ghost use Rattle.std.specs.Prelude.{◌≡◌, ◌≤◌, length};
 ghost use Rattle.std.proofs.Math.Option.{Option};
-ghost use Rattle.tree.specs.Words.{optionWords, stmtWords};
-ghost use Rattle.grammar.specs.Reading.{treeWords};
+ghost use Rattle.tree.specs.Words.{option_words, stmt_words};
+ghost use Rattle.grammar.specs.Reading.{tree_words};
 ghost use Rattle.grammar.specs.Steps.{must};
-ghost use Rattle.grammar.specs.Declarations.{parseWhenClause};
+ghost use Rattle.grammar.specs.Declarations.{parse_when_clause};
 ghost use Rattle.parsing.specs.Arena.{Room, Builds, Stopped};
-ghost use Rattle.parsing.specs.Code.{inner, same, turns, opened, boolOf, Worded};
-ghost use Rattle.parsing.specs.Leads.{simpleRule};
-ghost use Rattle.parsing.specs.Statements.{Leaves, deepAt, Marked, headed, declaration, declarationWords, optionalExpr, reinitStmt, exitStmt, assignStmt, callStmt};
+ghost use Rattle.parsing.specs.Code.{inner, same, turns, opened, bool_of, Worded};
+ghost use Rattle.parsing.specs.Leads.{simple_rule};
+ghost use Rattle.parsing.specs.Statements.{Leaves, deep_at, Marked, headed, declaration, declaration_words, optional_expr, reinit_stmt, exit_stmt, assign_stmt, call_stmt};
 
 use crate::arena::{Built, END, HEADED, ONE, PAIR, THREE, TWO, node};
 use crate::build::{four, over};
@@ -35,7 +35,7 @@ pub(crate) fn stated(
     tag: u32,
 ) -> Built
     requires { Room text.now arena.old at top 4 }
-    ensures { Builds (headed tag treeWords) text.now arena.old arena.new at top 1 4 (must at (inner text.now depth at)) result }
+    ensures { Builds (headed tag tree_words) text.now arena.old arena.new at top 1 4 (must at (inner text.now depth at)) result }
 {
     let value = expr(text, at, arena, top, depth);
     let Built::Ok(e, at1, top1) = value else {
@@ -55,7 +55,7 @@ pub(crate) fn optional(
 ) -> Built
     requires room { Room text.now arena.old at top 0 }
     requires marked { Marked text.now at mark }
-    ensures { Builds (optionWords treeWords) text.now arena.old arena.new at top 0 0 (optionalExpr text.now depth at mark) result }
+    ensures { Builds (option_words tree_words) text.now arena.old arena.new at top 0 0 (optional_expr text.now depth at mark) result }
 {
     match mark {
         Lexed::Ok(_, at1) => stated(text, at1, arena, top, depth, MORE),
@@ -75,7 +75,7 @@ pub(crate) fn declared(
 ) -> Built
     requires room { Room text.now arena.old at top 12 }
     requires mutable_bound { mutable ≤ 1 }
-    ensures { Builds declarationWords text.now arena.old arena.new at top 1 12 (declaration text.now depth (boolOf mutable) at) result }
+    ensures { Builds declaration_words text.now arena.old arena.new at top 1 12 (declaration text.now depth (bool_of mutable) at) result }
 {
     let bound = step::name(text, at);
     let Lexed::Ok(len, at1) = bound else {
@@ -103,7 +103,7 @@ pub(crate) fn declared(
 // `parseWhenClause`.
 pub(crate) fn when(text: &[u8], at: usize, arena: &mut [u32], top: usize, depth: usize) -> Built
     requires { Room text.now arena.old at top 0 }
-    ensures { Leaves treeWords text.now arena.old arena.new at top (parseWhenClause text.now (turns text.now) (opened text.now depth) at) result }
+    ensures { Leaves tree_words text.now arena.old arena.new at top (parse_when_clause text.now (turns text.now) (opened text.now depth) at) result }
 {
     let word = keyword(text, at, b"when");
     let Lexed::Ok(_, at1) = word else {
@@ -122,7 +122,7 @@ pub(crate) fn simple(
     kind: Simple,
 ) -> Built
     requires { Room text.now arena.old at top 16 }
-    ensures { Builds (stmtWords same) text.now arena.old arena.new at top 0 16 (simpleRule kind text.now depth at) result }
+    ensures { Builds (stmt_words same) text.now arena.old arena.new at top 0 16 (simple_rule kind text.now depth at) result }
 {
     match kind {
         Simple::Reinit => reinit(text, at, arena, top, depth),
@@ -139,7 +139,7 @@ pub(crate) fn simple(
 // After `reinit`.
 fn reinit(text: &[u8], at: usize, arena: &mut [u32], top: usize, depth: usize) -> Built
     requires { Room text.now arena.old at top 16 }
-    ensures { Builds (stmtWords same) text.now arena.old arena.new at top 1 16 (reinitStmt text.now at) result }
+    ensures { Builds (stmt_words same) text.now arena.old arena.new at top 1 16 (reinit_stmt text.now at) result }
 {
     let listed = items(text, at, arena, top, depth, Kind::Names);
     let Built::Ok(names, at1, top1) = listed else {
@@ -151,7 +151,7 @@ fn reinit(text: &[u8], at: usize, arena: &mut [u32], top: usize, depth: usize) -
 // After `exit`: `parseOptionalExitArgument`.
 fn exit(text: &[u8], at: usize, arena: &mut [u32], top: usize) -> Built
     requires { Room text.now arena.old at top 4 }
-    ensures { Builds (stmtWords same) text.now arena.old arena.new at top 0 4 (exitStmt text.now at) result }
+    ensures { Builds (stmt_words same) text.now arena.old arena.new at top 0 4 (exit_stmt text.now at) result }
 {
     match step::name(text, at) {
         Lexed::Ok(n, next) => {
@@ -171,7 +171,7 @@ fn exit(text: &[u8], at: usize, arena: &mut [u32], top: usize) -> Built
 fn label(text: &[u8], w: Word, arena: &mut [u32], top: usize) -> Built
     requires room { Room text.now arena.old w.at top 4 }
     requires worded { Worded text.now w }
-    ensures { Builds (stmtWords same) text.now arena.old arena.new w.at top 0 4 (exitStmt text.now w.at) result }
+    ensures { Builds (stmt_words same) text.now arena.old arena.new w.at top 0 4 (exit_stmt text.now w.at) result }
 {
     match mark(text, w.next) {
         Lexed::Ok(_, _) => over(arena, top, TWO, EXIT, NO_MORE, 0, w.at),
@@ -187,7 +187,7 @@ fn label(text: &[u8], w: Word, arena: &mut [u32], top: usize) -> Built
 pub(crate) fn assign(text: &[u8], w: Word, arena: &mut [u32], top: usize, depth: usize) -> Built
     requires room { Room text.now arena.old w.next top 8 }
     requires worded { Worded text.now w }
-    ensures { Builds (stmtWords same) text.now arena.old arena.new w.next top 1 4 (assignStmt text.now depth w) result }
+    ensures { Builds (stmt_words same) text.now arena.old arena.new w.next top 1 4 (assign_stmt text.now depth w) result }
 {
     let becomes = sym(text, w.next, b":=");
     let Lexed::Ok(_, at1) = becomes else {
@@ -205,7 +205,7 @@ pub(crate) fn assign(text: &[u8], w: Word, arena: &mut [u32], top: usize, depth:
 pub(crate) fn call(text: &[u8], w: Word, arena: &mut [u32], top: usize, depth: usize) -> Built
     requires room { Room text.now arena.old w.next top 8 }
     requires worded { Worded text.now w }
-    ensures { Builds (stmtWords same) text.now arena.old arena.new w.next top 1 4 (callStmt text.now depth w) result }
+    ensures { Builds (stmt_words same) text.now arena.old arena.new w.next top 1 4 (call_stmt text.now depth w) result }
 {
     let paren = sym(text, w.next, b"(");
     let Lexed::Ok(_, at1) = paren else {
@@ -241,7 +241,7 @@ pub(crate) fn too_deep(text: &[u8], at: usize) -> Built
 
 // Refusal 3 at `at`, where a token was read.
 fn deep(r: Lexed, at: usize) -> Built
-    ensures { result ≡ deepAt at r }
+    ensures { result ≡ deep_at at r }
 {
     match r {
         Lexed::Ok(_, _) => Built::Refused(LEVEL_TOO_DEEP, at),

@@ -1,11 +1,11 @@
 // Token readers at a place of the text.
 ghost use Rattle.std.specs.Prelude.{◌≡◌, ◌+◌, ◌≤◌, ◌<◌, length, take, drop};
-ghost use Rattle.lexing.specs.Answer.{moved as movedBy};
-ghost use Rattle.lexing.specs.Bytes.{sameBytes};
-ghost use Rattle.lexing.specs.Tokens.{signNotPrefix};
-ghost use Rattle.grammar.specs.Steps.{keywordAt, signAt, parseName, parseLiteralText};
-ghost use Rattle.grammar.specs.Statements.{mark as markRule};
-ghost use Rattle.parsing.specs.Code.{Tells, span, movedOf, placed};
+ghost use Rattle.lexing.specs.Answer.{moved as moved_by};
+ghost use Rattle.lexing.specs.Bytes.{same_bytes};
+ghost use Rattle.lexing.specs.Tokens.{sign_not_prefix};
+ghost use Rattle.grammar.specs.Steps.{keyword_at, sign_at, parse_name, parse_literal_text};
+ghost use Rattle.grammar.specs.Statements.{mark as mark_rule};
+ghost use Rattle.parsing.specs.Code.{Tells, span, moved_of, placed};
 ghost use Rattle.parsing.specs.Leads.{Spelt, Passes};
 
 use lexing::Lexed;
@@ -21,7 +21,7 @@ pub(crate) struct Word {
 // The answer with places counted from the text's start.
 pub(crate) fn moved(at: usize, r: Lexed) -> Lexed
     requires { placed at r }
-    ensures { result ≡ movedOf at r }
+    ensures { result ≡ moved_of at r }
 {
     match r {
         Lexed::Ok(v, n) => Lexed::Ok(v, at + n),
@@ -32,21 +32,21 @@ pub(crate) fn moved(at: usize, r: Lexed) -> Lexed
 
 pub(crate) fn keyword(text: &[u8], at: usize, word: &[u8]) -> Lexed
     requires { at ≤ length text.now }
-    ensures { Tells (λ v. v) text.now at (length word.now) (keywordAt text.now word.now at) result }
+    ensures { Tells (λ v. v) text.now at (length word.now) (keyword_at text.now word.now at) result }
 {
     moved(at, lexing::keyword(&text[at..], word))
 }
 
 pub(crate) fn sym(text: &[u8], at: usize, s: &[u8]) -> Lexed
     requires { at ≤ length text.now }
-    ensures { Tells (λ v. v) text.now at (length s.now) (signAt text.now s.now at) result }
+    ensures { Tells (λ v. v) text.now at (length s.now) (sign_at text.now s.now at) result }
 {
     moved(at, lexing::sym(&text[at..], s))
 }
 
 pub(crate) fn sym_not_prefix(text: &[u8], at: usize, s: &[u8], longer: &[u8]) -> Lexed
     requires { at ≤ length text.now }
-    ensures { Tells (λ v. v) text.now at (length s.now) (movedBy at (signNotPrefix s.now longer.now (drop at text.now))) result }
+    ensures { Tells (λ v. v) text.now at (length s.now) (moved_by at (sign_not_prefix s.now longer.now (drop at text.now))) result }
 {
     moved(at, lexing::sym_not_prefix(&text[at..], s, longer))
 }
@@ -54,7 +54,7 @@ pub(crate) fn sym_not_prefix(text: &[u8], at: usize, s: &[u8], longer: &[u8]) ->
 // `:=`, `:` or `(`.
 pub(crate) fn mark(text: &[u8], at: usize) -> Lexed
     requires { at ≤ length text.now }
-    ensures { Tells (λ v. v) text.now at 1 (markRule text.now at) result }
+    ensures { Tells (λ v. v) text.now at 1 (mark_rule text.now at) result }
 {
     let becomes = sym(text, at, b":=");
     let Lexed::None = becomes else {
@@ -69,7 +69,7 @@ pub(crate) fn mark(text: &[u8], at: usize) -> Lexed
 
 pub(crate) fn name(text: &[u8], at: usize) -> Lexed
     requires { at ≤ length text.now }
-    ensures { Tells (span at) text.now at 1 (parseName text.now at) result }
+    ensures { Tells (span at) text.now at 1 (parse_name text.now at) result }
 {
     moved(at, lexing::parse_id(&text[at..]))
 }
@@ -93,7 +93,7 @@ pub(crate) fn after_word(text: &[u8], at: usize, len: usize) -> Lexed
 
 pub(crate) fn literal_text(text: &[u8], at: usize) -> Lexed
     requires { at ≤ length text.now }
-    ensures { Tells (span at) text.now at 1 (parseLiteralText text.now at) result }
+    ensures { Tells (span at) text.now at 1 (parse_literal_text text.now at) result }
 {
     moved(at, lexing::parse_custom_literal(&text[at..]))
 }
@@ -101,7 +101,7 @@ pub(crate) fn literal_text(text: &[u8], at: usize) -> Lexed
 // Whether the bytes of `w` are the word's.
 pub(crate) fn is_word(text: &[u8], w: Word, word: &[u8]) -> bool
     requires { w.at + w.len ≤ length text.now }
-    ensures { result ≡ sameBytes (take w.len (drop w.at text.now)) word.now }
+    ensures { result ≡ same_bytes (take w.len (drop w.at text.now)) word.now }
 {
     let at = w.at;
     let end = w.at + w.len;

@@ -2,12 +2,12 @@
 pub(crate) mod alt;
 
 ghost use Rattle.std.specs.Prelude.{◌≡◌, ◌≤◌, length, take, drop};
-ghost use Rattle.tree.specs.Words.{stmtWords, aExprWords};
-ghost use Rattle.grammar.specs.Statements.{rep, parseStmt, parseVariableDeclaration, afterForall, parseAExpr};
+ghost use Rattle.tree.specs.Words.{stmt_words, a_expr_words};
+ghost use Rattle.grammar.specs.Statements.{rep, parse_stmt, parse_variable_declaration, after_forall, parse_a_expr};
 ghost use Rattle.parsing.specs.Arena.{Room, Builds};
-ghost use Rattle.parsing.specs.Code.{same, turns, opened, Worded, boolOf};
-ghost use Rattle.parsing.specs.Leads.{leadOf, loopBody};
-ghost use Rattle.parsing.specs.Statements.{Leaves, labelStmt, namedStmt, scopeStmt, repeated, repeatedWords, repetitionWords, repeatedRule};
+ghost use Rattle.parsing.specs.Code.{same, turns, opened, Worded, bool_of};
+ghost use Rattle.parsing.specs.Leads.{lead_of, loop_body};
+ghost use Rattle.parsing.specs.Statements.{Leaves, label_stmt, named_stmt, scope_stmt, repeated, repeated_words, repetition_words, repeated_rule};
 
 use crate::arena::{Built, HEADED, ITEM, PAIR, THREE, node};
 use crate::build::{close, over};
@@ -35,7 +35,7 @@ pub(crate) enum Repeated {
 #[cycle(aexpr_branch_case_choose_cond_cont_els_elsif_block_forall_label_looped_many_named_nested_one_scope_stmt_var_word)]
 fn one(text: &[u8], at: usize, arena: &mut [u32], top: usize, depth: usize, kind: Repeated) -> Built
     requires { Room text.now arena.old at top 0 }
-    ensures { Leaves (repeatedWords kind) text.now arena.old arena.new at top (repeatedRule kind text.now depth at) result }
+    ensures { Leaves (repeated_words kind) text.now arena.old arena.new at top (repeated_rule kind text.now depth at) result }
 {
     match kind {
         Repeated::Stmts => stmt(text, at, arena, top, depth),
@@ -60,7 +60,7 @@ pub(crate) fn many(
     kind: Repeated,
 ) -> Built
     requires { Room text.now arena.old start free 4 }
-    ensures { Builds (repetitionWords kind) text.now arena.old arena.new start free 0 4 (rep (repeated kind) (turns text.now) (repeatedRule kind text.now depth) start) result }
+    ensures { Builds (repetition_words kind) text.now arena.old arena.new start free 0 4 (rep (repeated kind) (turns text.now) (repeated_rule kind text.now depth) start) result }
 {
     let mut list: u32 = 0;
     let mut at = start;
@@ -87,7 +87,7 @@ pub(crate) fn many(
 #[cycle(aexpr_branch_case_choose_cond_cont_els_elsif_block_forall_label_looped_many_named_nested_one_scope_stmt_var_word)]
 pub(crate) fn block(text: &[u8], at: usize, arena: &mut [u32], top: usize, depth: usize) -> Built
     requires { Room text.now arena.old at top 0 }
-    ensures { Leaves (stmtWords same) text.now arena.old arena.new at top ((opened text.now depth).block at) result }
+    ensures { Leaves (stmt_words same) text.now arena.old arena.new at top ((opened text.now depth).block at) result }
 {
     let brace = sym(text, at, b"{");
     let Lexed::Ok(_, at1) = brace else {
@@ -118,7 +118,7 @@ fn looped(
     start: usize,
 ) -> Built
     requires { Room text.now arena.old at top 12 }
-    ensures { Builds (stmtWords same) text.now arena.old arena.new at top 1 12 (loopBody text.now depth start at) result }
+    ensures { Builds (stmt_words same) text.now arena.old arena.new at top 1 12 (loop_body text.now depth start at) result }
 {
     if depth == 0 {
         return Built::Refused(LEVEL_TOO_DEEP, start);
@@ -139,7 +139,7 @@ fn looped(
 #[cycle(aexpr_branch_case_choose_cond_cont_els_elsif_block_forall_label_looped_many_named_nested_one_scope_stmt_var_word)]
 fn nested(text: &[u8], at: usize, arena: &mut [u32], top: usize, depth: usize) -> Built
     requires { Room text.now arena.old at top 0 }
-    ensures { Leaves (stmtWords same) text.now arena.old arena.new at top ((opened text.now depth).stmt at) result }
+    ensures { Leaves (stmt_words same) text.now arena.old arena.new at top ((opened text.now depth).stmt at) result }
 {
     if depth == 0 {
         return simple::too_deep(text, at);
@@ -151,7 +151,7 @@ fn nested(text: &[u8], at: usize, arena: &mut [u32], top: usize, depth: usize) -
 #[cycle(aexpr_branch_case_choose_cond_cont_els_elsif_block_forall_label_looped_many_named_nested_one_scope_stmt_var_word)]
 fn stmt(text: &[u8], at: usize, arena: &mut [u32], top: usize, depth: usize) -> Built
     requires { Room text.now arena.old at top 0 }
-    ensures { Leaves (stmtWords same) text.now arena.old arena.new at top (parseStmt text.now (turns text.now) (opened text.now depth) at) result }
+    ensures { Leaves (stmt_words same) text.now arena.old arena.new at top (parse_stmt text.now (turns text.now) (opened text.now depth) at) result }
 {
     let len = word_length(text, at);
     if len == 0 {
@@ -177,8 +177,8 @@ fn stmt(text: &[u8], at: usize, arena: &mut [u32], top: usize, depth: usize) -> 
 fn word(text: &[u8], w: Word, arena: &mut [u32], top: usize, depth: usize, lead: Lead) -> Built
     requires room { Room text.now arena.old w.at top 0 }
     requires worded { Worded text.now w }
-    requires lead_value { lead ≡ leadOf (take w.len (drop w.at text.now)) }
-    ensures { Leaves (stmtWords same) text.now arena.old arena.new w.at top (parseStmt text.now (turns text.now) (opened text.now depth) w.at) result }
+    requires lead_value { lead ≡ lead_of (take w.len (drop w.at text.now)) }
+    ensures { Leaves (stmt_words same) text.now arena.old arena.new w.at top (parse_stmt text.now (turns text.now) (opened text.now depth) w.at) result }
 {
     match lead {
         Lead::Var => var(text, w.next, arena, top, depth, TRUE),
@@ -197,7 +197,7 @@ fn word(text: &[u8], w: Word, arena: &mut [u32], top: usize, depth: usize, lead:
 fn named(text: &[u8], w: Word, arena: &mut [u32], top: usize, depth: usize) -> Built
     requires room { Room text.now arena.old w.next top 8 }
     requires worded { Worded text.now w }
-    ensures { Builds (stmtWords same) text.now arena.old arena.new w.next top 1 4 (namedStmt text.now depth w) result }
+    ensures { Builds (stmt_words same) text.now arena.old arena.new w.next top 1 4 (named_stmt text.now depth w) result }
 {
     let assigned = simple::assign(text, w, arena, top, depth);
     let Built::None = assigned else {
@@ -215,7 +215,7 @@ fn named(text: &[u8], w: Word, arena: &mut [u32], top: usize, depth: usize) -> B
 fn label(text: &[u8], w: Word, arena: &mut [u32], top: usize, depth: usize) -> Built
     requires room { Room text.now arena.old w.next top 8 }
     requires worded { Worded text.now w }
-    ensures { Builds (stmtWords same) text.now arena.old arena.new w.next top 1 4 (labelStmt text.now depth w) result }
+    ensures { Builds (stmt_words same) text.now arena.old arena.new w.next top 1 4 (label_stmt text.now depth w) result }
 {
     let colon = sym(text, w.next, b":");
     let Lexed::Ok(_, at1) = colon else {
@@ -233,7 +233,7 @@ fn label(text: &[u8], w: Word, arena: &mut [u32], top: usize, depth: usize) -> B
 #[cycle(aexpr_branch_case_choose_cond_cont_els_elsif_block_forall_label_looped_many_named_nested_one_scope_stmt_var_word)]
 fn scope(text: &[u8], at: usize, arena: &mut [u32], top: usize, depth: usize) -> Built
     requires { Room text.now arena.old at top 0 }
-    ensures { Leaves (stmtWords same) text.now arena.old arena.new at top (scopeStmt text.now depth at) result }
+    ensures { Leaves (stmt_words same) text.now arena.old arena.new at top (scope_stmt text.now depth at) result }
 {
     let r = block(text, at, arena, top, depth);
     let Built::None = r else {
@@ -251,7 +251,7 @@ fn scope(text: &[u8], at: usize, arena: &mut [u32], top: usize, depth: usize) ->
 fn var(text: &[u8], at: usize, arena: &mut [u32], top: usize, depth: usize, mutable: u32) -> Built
     requires room { Room text.now arena.old at top 24 }
     requires mutable_bound { mutable ≤ 1 }
-    ensures { Builds (stmtWords same) text.now arena.old arena.new at top 1 24 (parseVariableDeclaration text.now (turns text.now) (opened text.now depth) (boolOf mutable) at) result }
+    ensures { Builds (stmt_words same) text.now arena.old arena.new at top 1 24 (parse_variable_declaration text.now (turns text.now) (opened text.now depth) (bool_of mutable) at) result }
 {
     let head = simple::declared(text, at, arena, top, depth, mutable);
     let Built::Ok(declaration, at1, top1) = head else {
@@ -269,7 +269,7 @@ fn var(text: &[u8], at: usize, arena: &mut [u32], top: usize, depth: usize, muta
 #[cycle(aexpr_branch_case_choose_cond_cont_els_elsif_block_forall_label_looped_many_named_nested_one_scope_stmt_var_word)]
 fn forall(text: &[u8], at: usize, arena: &mut [u32], top: usize, depth: usize) -> Built
     requires { Room text.now arena.old at top 8 }
-    ensures { Builds (stmtWords same) text.now arena.old arena.new at top 1 8 (afterForall text.now (turns text.now) (opened text.now depth) at) result }
+    ensures { Builds (stmt_words same) text.now arena.old arena.new at top 1 8 (after_forall text.now (turns text.now) (opened text.now depth) at) result }
 {
     let typed = leaf::id_type(text, at, arena, top);
     let Built::Ok(binding, at1, top1) = typed else {
@@ -288,7 +288,7 @@ fn forall(text: &[u8], at: usize, arena: &mut [u32], top: usize, depth: usize) -
 fn aexpr(text: &[u8], at: usize, arena: &mut [u32], top: usize, depth: usize, w: &[u8]) -> Built
     requires room { Room text.now arena.old at top 0 }
     requires in_bounds { 7 ≤ length w.now }
-    ensures { Leaves (aExprWords same) text.now arena.old arena.new at top (parseAExpr text.now (turns text.now) (opened text.now depth) w.now at) result }
+    ensures { Leaves (a_expr_words same) text.now arena.old arena.new at top (parse_a_expr text.now (turns text.now) (opened text.now depth) w.now at) result }
 {
     let word = keyword(text, at, w);
     let Lexed::Ok(_, at1) = word else {

@@ -14,9 +14,9 @@ use Rattle.lexing.specs.RunLaws.{pick-cases}
 use Rattle.rendering.specs.declared.Rendered.{Rendered}
 use Rattle.rendering.specs.declared.Rendered.TheVariants.{Bytes, Refused}
 use Rattle.tree.specs.Held.{Held, held, refused}
-use Rattle.rendering.specs.Tables.{Printable, heldFor}
-use Rattle.rendering.specs.Render.{printTooLong, Made, Gives, Renders}
-use Rattle.printing.specs.Entries.{mostPrint, Outcome, written, refusal, stored, printHeld, printTable}
+use Rattle.rendering.specs.Tables.{Printable, held_for}
+use Rattle.rendering.specs.Render.{print_too_long, Made, Gives, Renders}
+use Rattle.printing.specs.Entries.{most_print, Outcome, written, refusal, stored, print_held, print_table}
 use Rattle.printing.specs.Delivery.{delivered}
 
 -- ---- from a buffer to the output
@@ -36,18 +36,18 @@ module _ (buffer : List ℕ) (n : ℕ) (out : List ℕ) (b : n ≤ length buffer
       ap (written n) f ∙ sym (simp (le-leb n (length out) h))
 
   -- an output that is too short is refused
-  pub too_short : length out < n → refusal printTooLong 0 out ≡ delivered buffer n out
+  pub too_short : length out < n → refusal print_too_long 0 out ≡ delivered buffer n out
   unfolding delivered
   too_short h = sym (simp (lt-leb n (length out) h))
 
 -- ---- what a buffer holds of a table's print
 
 -- a print that is longer than the output or than every print
-too_long : (n l : ℕ) → min l mostPrint < n → (leb n l && leb n mostPrint) ≡ false
+too_long : (n l : ℕ) → min l most_print < n → (leb n l && leb n most_print) ≡ false
 too_long n l h = by-test (leb n l) refl
   where
-    by-test : (v : Bool) → leb n l ≡ v → (v && leb n mostPrint) ≡ false
-    by-test true e = let m = leb-true n l e in lt-leb n mostPrint (omega arith)
+    by-test : (v : Bool) → leb n l ≡ v → (v && leb n most_print) ≡ false
+    by-test true e = let m = leb-true n l e in lt-leb n most_print (omega arith)
     by-test false e = refl
 
 -- a print's length, where it is answered
@@ -67,49 +67,49 @@ module _ (P : Printable) (b b' : List ℕ) where
       omega arith
   bytes-there n (refused number place) e = impossible cc
 
-  module _ (out : List ℕ) (h : length b ≤ mostPrint) (k : min (length out) mostPrint ≤ length b) where
+  module _ (out : List ℕ) (h : length b ≤ most_print) (k : min (length out) most_print ≤ length b) where
     -- a print in the buffer is stored
-    print-stored : (n : ℕ) (x : Held P.Tree) → Gives P b (Bytes n) b' x → delivered b' n out ≡ printHeld P x out
+    print-stored : (n : ℕ) (x : Held P.Tree) → Gives P b (Bytes n) b' x → delivered b' n out ≡ print_held P x out
     unfolding delivered stored
     print-stored n (held t) m =
         let l : n ≤ length b = (made-length m).1 in
         let e : length (P.print t) ≡ n = sym (made-length m).0 in
-        rw (m.bytes n refl, e, le-leb n mostPrint (omega arith)) (by-test (leb n (length out)))
+        rw (m.bytes n refl, e, le-leb n most_print (omega arith)) (by-test (leb n (length out)))
       where
-        by-test : (v : Bool) → pick v (written n (P.print t ++ drop n out)) (refusal printTooLong 0 out)
-            ≡ pick (v && true) (written n (P.print t ++ drop n out)) (refusal printTooLong 0 out)
+        by-test : (v : Bool) → pick v (written n (P.print t ++ drop n out)) (refusal print_too_long 0 out)
+            ≡ pick (v && true) (written n (P.print t ++ drop n out)) (refusal print_too_long 0 out)
         by-test true = refl
         by-test false = refl
     print-stored n (refused number place) e = impossible cc
 
     -- a refusal is the print's
-    print-refused : (number place : ℕ) (x : Held P.Tree) → Gives P b (Refused number place) b' x → refusal number place out ≡ printHeld P x out
+    print-refused : (number place : ℕ) (x : Held P.Tree) → Gives P b (Refused number place) b' x → refusal number place out ≡ print_held P x out
     unfolding stored
     print-refused number place (held t) m =
         pick-cases (leb (length (P.print t)) (length b)) (sym m.answers)
         (λ v e. impossible cc)
         (λ v e. let l : length b < length (P.print t) = leb-false _ _ v in
-        let f : refusal number place out ≡ refusal printTooLong 0 out = cc in
+        let f : refusal number place out ≡ refusal print_too_long 0 out = cc in
         f ∙ sym (simp (too_long (length (P.print t)) (length out) (omega arith))))
     print-refused number place (refused m q) e = cc
 
 -- ---- by what `render` ensures
 
 module _ {P : Printable} {text words b b' : List ℕ} {r : Rendered} (x : Renders P text words b r b') where
-  by_answer : {q : Rendered} → r ≡ q → Gives P b q b' (heldFor P text words)
-  by_answer e = subst (λ (q : Rendered). Gives P b q b' (heldFor P text words)) e x.gives
+  by_answer : {q : Rendered} → r ≡ q → Gives P b q b' (held_for P text words)
+  by_answer e = subst (λ (q : Rendered). Gives P b q b' (held_for P text words)) e x.gives
 
   -- the first n bytes of the buffer are the print
   pub there : {n : ℕ} → r ≡ Bytes n → n ≤ length b'
-  there {n} e = bytes-there P b b' n (heldFor P text words) (by_answer e)
+  there {n} e = bytes-there P b b' n (held_for P text words) (by_answer e)
 
-  module _ (out : List ℕ) (h : length b ≤ mostPrint) (k : min (length out) mostPrint ≤ length b) where
+  module _ (out : List ℕ) (h : length b ≤ most_print) (k : min (length out) most_print ≤ length b) where
     -- they are handed over
-    pub handed : {n : ℕ} {o : Outcome} → r ≡ Bytes n → o ≡ delivered b' n out → o ≡ printTable P text words out
-    unfolding printTable
-    handed {n} e d = d ∙ print-stored P b b' out h k n (heldFor P text words) (by_answer e)
+    pub handed : {n : ℕ} {o : Outcome} → r ≡ Bytes n → o ≡ delivered b' n out → o ≡ print_table P text words out
+    unfolding print_table
+    handed {n} e d = d ∙ print-stored P b b' out h k n (held_for P text words) (by_answer e)
 
     -- so is a refusal
-    pub refused-too : {number place : ℕ} → r ≡ Refused number place → refusal number place out ≡ printTable P text words out
-    unfolding printTable
-    refused-too {number} {place} e = print-refused P b b' out h k number place (heldFor P text words) (by_answer e)
+    pub refused-too : {number place : ℕ} → r ≡ Refused number place → refusal number place out ≡ print_table P text words out
+    unfolding print_table
+    refused-too {number} {place} e = print-refused P b b' out h k number place (held_for P text words) (by_answer e)

@@ -9,7 +9,7 @@ use Rattle.printing.specs.declared.Printed.{Printed}
 use Rattle.printing.specs.declared.Printed.TheVariants.{Written, Refused}
 use Rattle.rendering.specs.Tables.{Printable, Within}
 use Rattle.rendering.specs.TableLaws.{Lawful}
-use Rattle.rendering.specs.Render.{printTooLong}
+use Rattle.rendering.specs.Render.{print_too_long}
 use Rattle.printing.specs.Entries.{Answered, Fits}
 use Rattle.printing.specs.PrintCases as Cases
 
@@ -37,9 +37,9 @@ module _ (P : Printable) (L : Lawful P) (text words out : List ℕ) (r : Printed
   refused-7-place = Cases.refused-7-place P L text words out r out' a
 
   -- Refusal 8: exactly where the print of the table's tree is longer than the output or than 65,536 bytes.
-  pub refused-8 : (r ≡ Refused printTooLong 0) ↔ (Within P text words × ((t : P.Tree) × ((P.words t ≡ words) × (Fits (P.print t) out → ⊥))))
+  pub refused-8 : (r ≡ Refused print_too_long 0) ↔ (Within P text words × ((t : P.Tree) × ((P.words t ≡ words) × (Fits (P.print t) out → ⊥))))
   refused-8 = Cases.refused-8 P L text words out r out' a
 
   -- There is no other refusal, and each leaves the output as it was.
-  pub refusal-keeps : (number place : ℕ) → r ≡ Refused number place → ((r ≡ Refused oversized 0) ⊎ (r ≡ Refused misfitting place) ⊎ (r ≡ Refused printTooLong 0)) × (out' ≡ out)
+  pub refusal-keeps : (number place : ℕ) → r ≡ Refused number place → ((r ≡ Refused oversized 0) ⊎ (r ≡ Refused misfitting place) ⊎ (r ≡ Refused print_too_long 0)) × (out' ≡ out)
   refusal-keeps = Cases.refusal-keeps P L text words out r out' a

@@ -3,14 +3,14 @@ use Rattle.std.specs.Prelude.{ℕ, ◌≤◌, ◌≡◌, ◌&&◌, List, ◌++�
 use Rattle.lexing.specs.Answer.{pick}
 use Rattle.layout.specs.declared.format.ExprFormatOption.{ExprFormatOption}
 use Rattle.tree.specs.Held.{Held, held, refused}
-use Rattle.rendering.specs.Tables.{Printable, expressions, programs, heldFor}
-use Rattle.rendering.specs.Render.{printTooLong}
+use Rattle.rendering.specs.Tables.{Printable, expressions, programs, held_for}
+use Rattle.rendering.specs.Render.{print_too_long}
 use Rattle.printing.specs.declared.Printed.{Printed}
 use Rattle.printing.specs.declared.Printed.TheVariants.{Written, Refused}
 
 -- the most bytes of a print (REFERENCE, "Limits")
-abbrev pub mostPrint : ℕ
-mostPrint = 65536
+abbrev pub most_print : ℕ
+most_print = 65536
 
 -- what a print answers, and the output afterwards
 pub data Outcome : Type 0 where
@@ -18,37 +18,37 @@ pub data Outcome : Type 0 where
   refusal : ℕ → ℕ → List ℕ → Outcome
 
 -- the code's answer and the output as an outcome
-abbrev pub outcomeOf : Printed → List ℕ → Outcome
-outcomeOf (Written n) out = written n out
-outcomeOf (Refused number place) out = refusal number place out
+abbrev pub outcome_of : Printed → List ℕ → Outcome
+outcome_of (Written n) out = written n out
+outcome_of (Refused number place) out = refusal number place out
 
 -- the print and then the output's old bytes, or refusal 8
 unfoldable pub stored : List ℕ → List ℕ → Outcome
 stored print out =
-    pick (leb (length print) (length out) && leb (length print) mostPrint) (written (length print) (print ++ drop (length print) out)) (refusal printTooLong 0 out)
+    pick (leb (length print) (length out) && leb (length print) most_print) (written (length print) (print ++ drop (length print) out)) (refusal print_too_long 0 out)
 
 -- ---- the print of a table
 
 module _ (P : Printable) where
   -- by what the table holds: its tree's print, or refusal 6 or 7
-  abbrev pub printHeld : Held P.Tree → (out : List ℕ) → Outcome
-  printHeld (held t) out = stored (P.print t) out
-  printHeld (refused number place) out = refusal number place out
+  abbrev pub print_held : Held P.Tree → (out : List ℕ) → Outcome
+  print_held (held t) out = stored (P.print t) out
+  print_held (refused number place) out = refusal number place out
 
-  unfoldable pub printTable : (text words out : List ℕ) → Outcome
-  printTable text words out = printHeld (heldFor P text words) out
+  unfoldable pub print_table : (text words out : List ℕ) → Outcome
+  print_table text words out = print_held (held_for P text words) out
 
   -- the contract of a print: its answer r and the output afterwards
   abbrev pub Answered : (text words out : List ℕ) → Printed → (out' : List ℕ) → Type 0
-  Answered text words out r out' = outcomeOf r out' ≡ printTable text words out
+  Answered text words out r out' = outcome_of r out' ≡ print_table text words out
 
 -- print expression
-abbrev pub printExpression : ℕ → List ℕ → List ℕ → ExprFormatOption → List ℕ → Outcome
-printExpression step text words format out = printTable (expressions step text format) text words out
+abbrev pub print_expression : ℕ → List ℕ → List ℕ → ExprFormatOption → List ℕ → Outcome
+print_expression step text words format out = print_table (expressions step text format) text words out
 
 -- print program
-abbrev pub printProgram : ℕ → List ℕ → List ℕ → List ℕ → Outcome
-printProgram step text words out = printTable (programs step text) text words out
+abbrev pub print_program : ℕ → List ℕ → List ℕ → List ℕ → Outcome
+print_program step text words out = print_table (programs step text) text words out
 
 -- The contract of `print_expression` (one line) and of `print_expression_lines` (broken lines from a start indent).
 abbrev pub PrintAnswered : (text words : List ℕ) → ExprFormatOption → (out : List ℕ) → Printed → (out' : List ℕ) → Type 0
@@ -61,4 +61,4 @@ ProgramAnswered text words out r out' = Answered (programs 2 text) text words ou
 -- the limits that refusal 8 is about
 pub record Fits (print out : List ℕ) : Type 0 where
   pub in-output : length print ≤ length out
-  pub in-print : length print ≤ mostPrint
+  pub in-print : length print ≤ most_print

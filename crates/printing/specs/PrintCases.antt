@@ -13,39 +13,39 @@ use Rattle.tree.specs.Held.{Held}
 use Rattle.rendering.specs.Tables.{Printable, Within}
 use Rattle.tree.specs.HeldLaws as tables
 use Rattle.rendering.specs.TableLaws.{Lawful, Table, table}
-use Rattle.rendering.specs.Render.{printTooLong}
+use Rattle.rendering.specs.Render.{print_too_long}
 use Rattle.printing.specs.declared.Printed.{Printed}
 use Rattle.printing.specs.declared.Printed.TheVariants.{Written, Refused}
-use Rattle.printing.specs.Entries.{mostPrint, written, refusal, outcomeOf, stored, printHeld, printTable, Answered, Fits}
+use Rattle.printing.specs.Entries.{most_print, written, refusal, outcome_of, stored, print_held, print_table, Answered, Fits}
 
 -- one of the four cases holds of the answer r and of the output afterwards
 pub data Answer (P : Printable) (text words out : List ℕ) (r : Printed) (out' : List ℕ) : Type 0 where
   over : (Within P text words → ⊥) → r ≡ Refused oversized 0 → out' ≡ out → Answer P text words out r out'
   misfit : Within P text words → (place : ℕ) → P.refused words ≡ some (record { number = misfitting; place = place }) → r ≡ Refused misfitting place → out' ≡ out
       → Answer P text words out r out'
-  long : Within P text words → (t : P.Tree) → P.words t ≡ words → (Fits (P.print t) out → ⊥) → r ≡ Refused printTooLong 0 → out' ≡ out
+  long : Within P text words → (t : P.Tree) → P.words t ≡ words → (Fits (P.print t) out → ⊥) → r ≡ Refused print_too_long 0 → out' ≡ out
       → Answer P text words out r out'
   printed : Within P text words → (t : P.Tree) → P.words t ≡ words → Fits (P.print t) out
       → r ≡ Written (length (P.print t)) → out' ≡ P.print t ++ drop (length (P.print t)) out
       → Answer P text words out r out'
 
 -- an outcome and the code's answer
-is-refused : (r : Printed) {number place : ℕ} {out out' : List ℕ} → outcomeOf r out' ≡ refusal number place out → (r ≡ Refused number place) × (out' ≡ out)
+is-refused : (r : Printed) {number place : ℕ} {out out' : List ℕ} → outcome_of r out' ≡ refusal number place out → (r ≡ Refused number place) × (out' ≡ out)
 is-refused (Written n) e = impossible cc
 is-refused (Refused number place) e = (cc, cc)
 
 -- a print and the code's answer
-is-written : (r : Printed) {n : ℕ} {after out' : List ℕ} → outcomeOf r out' ≡ written n after → (r ≡ Written n) × (out' ≡ after)
+is-written : (r : Printed) {n : ℕ} {after out' : List ℕ} → outcome_of r out' ≡ written n after → (r ≡ Written n) × (out' ≡ after)
 is-written (Written n) e = (cc, cc)
 is-written (Refused number place) e = impossible cc
 
 module _ (P : Printable) (L : Lawful P) (text words out : List ℕ) (r : Printed) (out' : List ℕ) where
   -- the cases of a table with a tree's words
-  of_tree : Within P text words → (t : P.Tree) → P.words t ≡ words → stored (P.print t) out ≡ outcomeOf r out'
+  of_tree : Within P text words → (t : P.Tree) → P.words t ≡ words → stored (P.print t) out ≡ outcome_of r out'
       → Answer P text words out r out'
   unfolding stored
   of_tree w t h e =
-      pick-cases (leb (length (P.print t)) (length out) && leb (length (P.print t)) mostPrint) e
+      pick-cases (leb (length (P.print t)) (length out) && leb (length (P.print t)) most_print) e
       (λ b f. let two = both_true _ _ b in
       let c = is-written r (sym f) in
       printed w t h (record { in-output = leb-true _ _ two.0; in-print = leb-true _ _ two.1 }) c.0 c.1)
@@ -56,14 +56,14 @@ module _ (P : Printable) (L : Lawful P) (text words out : List ℕ) (r : Printed
       c.0 c.1)
 
   -- the cases of a table
-  of-table : {h : Held P.Tree} → Table P text words h → printHeld P h out ≡ outcomeOf r out' → Answer P text words out r out'
+  of-table : {h : Held P.Tree} → Table P text words h → print_held P h out ≡ outcome_of r out' → Answer P text words out r out'
   of-table (tables.over n) e = let c = is-refused r (sym e) in over n c.0 c.1
   of-table (tables.misfit w place m) e = let c = is-refused r (sym e) in misfit w place m c.0 c.1
   of-table (tables.tree w t h) e = of_tree w t h e
 
   -- every answer is one of the four
   pub cases : Answered P text words out r out' → Answer P text words out r out'
-  unfolding printTable
+  unfolding print_table
   cases a = of-table (table P text words L) (sym a)
 
 -- a refusal has one place
@@ -164,7 +164,7 @@ module _ (P : Printable) (L : Lawful P) (text words out : List ℕ) (r : Printed
   )
 
   -- refusal 8 exactly where the print does not fit
-  pub refused-8 : (r ≡ Refused printTooLong 0) ↔ (Within P text words × ((t : T) × ((P.words t ≡ words) × (Fits (print t) out → ⊥))))
+  pub refused-8 : (r ≡ Refused print_too_long 0) ↔ (Within P text words × ((t : T) × ((P.words t ≡ words) × (Fits (print t) out → ⊥))))
   refused-8 = (
     λ e. elim answer [
       | over n f k ↦ let z : ◌≡◌ {A = ℕ} 8 6 = one_number e f in absurd (omega arith)
@@ -181,7 +181,7 @@ module _ (P : Printable) (L : Lawful P) (text words out : List ℕ) (r : Printed
   )
 
   -- no other refusal, and the output stays
-  pub refusal-keeps : (number place : ℕ) → r ≡ Refused number place → ((r ≡ Refused oversized 0) ⊎ (r ≡ Refused misfitting place) ⊎ (r ≡ Refused printTooLong 0)) × (out' ≡ out)
+  pub refusal-keeps : (number place : ℕ) → r ≡ Refused number place → ((r ≡ Refused oversized 0) ⊎ (r ≡ Refused misfitting place) ⊎ (r ≡ Refused print_too_long 0)) × (out' ≡ out)
   refusal-keeps number place e =
       elim answer [
         | over n f k ↦ (inl f, k)

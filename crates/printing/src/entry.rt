@@ -2,7 +2,7 @@
 ghost use Rattle.std.specs.Prelude.{◌≤◌, min, ◌≡◌, length};
 ghost use Rattle.layout.specs.declared.format.ExprFormatOption.TheVariants.{SingleLine, MultipleLines};
 ghost use Rattle.rendering.specs.Render.{rooted};
-ghost use Rattle.printing.specs.Entries.{mostPrint, outcomeOf, Answered, PrintAnswered, ProgramAnswered};
+ghost use Rattle.printing.specs.Entries.{most_print, outcome_of, Answered, PrintAnswered, ProgramAnswered};
 ghost use Rattle.printing.specs.Delivery.{delivered};
 
 use crate::Printed;
@@ -64,7 +64,7 @@ fn print_through(
     buffer: &mut [u8],
     out: &mut [u8],
 ) -> Printed
-    requires { (length buffer.old ≤ mostPrint) × (min (length out.old) mostPrint ≤ length buffer.old) }
+    requires { (length buffer.old ≤ most_print) × (min (length out.old) most_print ≤ length buffer.old) }
     ensures { Answered (rooted 2 text.now root) text.now words.now out.old result out.new }
 {
     let made = render(text, words, root, buffer);
@@ -77,7 +77,7 @@ fn print_through(
 // Copies the first `n` bytes of a buffer to the output; refusal 8 where that is shorter.
 fn deliver(buffer: &[u8], n: usize, out: &mut [u8]) -> Printed
     requires { n ≤ length buffer.now }
-    ensures { outcomeOf result out.new ≡ delivered buffer.now n out.old }
+    ensures { outcome_of result out.new ≡ delivered buffer.now n out.old }
 {
     if out.len() < n {
         return Printed::Refused(PRINT_TOO_LONG, 0);

@@ -6,7 +6,7 @@ use Rattle.grammar.specs.Grammar.{Tree}
 use Rattle.grammar.specs.OperatorTrees.{OperatorTree, DerivesWithin}
 use Rattle.grammar.specs.Proofs.Bridge.Limits.{derives-operators}
 use Rattle.grammar.specs.Claims as grammar
-use Rattle.tree.specs.Check.{expressionRefusal, programRefusal}
+use Rattle.tree.specs.Check.{expression_refusal, program_refusal}
 use Rattle.reading.specs.TreeRead.{Answered, ProgramAnswered, Leaves}
 use Rattle.reading.specs.Answered.{leaves-derives, derives-leaves}
 use Rattle.reading.specs.declared.entry.Reading.{Reading}
@@ -22,8 +22,8 @@ read-expression-exact text n r table t a =
 
 -- The k words that `read_expression` and `read_program` answer are a table that `check_expression` and `check_program` accept over the same
 -- text (`ProgramAnswered` is the contract of `read_program`).
-pub read-expression-accepted : (text : List ℕ) (n k : ℕ) (table : List ℕ) → Answered text n (Words k) table → expressionRefusal (take k table) (length text) ≡ none
+pub read-expression-accepted : (text : List ℕ) (n k : ℕ) (table : List ℕ) → Answered text n (Words k) table → expression_refusal (take k table) (length text) ≡ none
 read-expression-accepted text n k table a = grammar.read-expression-accepted text n k table (sym a)
 
-pub read-program-accepted : (text : List ℕ) (n k : ℕ) (table : List ℕ) → ProgramAnswered text n (Words k) table → programRefusal (take k table) (length text) ≡ none
+pub read-program-accepted : (text : List ℕ) (n k : ℕ) (table : List ℕ) → ProgramAnswered text n (Words k) table → program_refusal (take k table) (length text) ≡ none
 read-program-accepted text n k table a = grammar.read-program-accepted text n k table (sym a)

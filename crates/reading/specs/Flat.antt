@@ -1,20 +1,20 @@
 -- A node's words in a table. The walk keeps a stack of frames, each of which stands for a run of words: its first words are written, and the
 -- frames of its parts take its place. Contracts of the walk's functions.
 use Rattle.std.specs.Prelude.{ℕ, zero, suc, ◌+◌, ◌*◌, ◌-◌, ◌/◌, ◌%◌, ◌^◌, ◌≤◌, ◌<◌, min, ◌≡◌, List, [], ◌∷◌, ◌++◌, length, get_or, drop, replicate, eqb}
-use Rattle.tree.specs.Tags.{more, no_more, idExprTag, operatorExprTag}
+use Rattle.tree.specs.Tags.{more, no_more, id_expr_tag, operator_expr_tag}
 use Rattle.lexing.specs.Answer.{pick}
-use Rattle.parsing.specs.Arena.{Run, Holds, mostArena, oneNode, twoNode, threeNode, identNode, unaryNode, binaryNode, itemNode, pairNode, closedNode, headedNode}
+use Rattle.parsing.specs.Arena.{Run, Holds, most_arena, one_node, two_node, three_node, ident_node, unary_node, binary_node, item_node, pair_node, closed_node, headed_node}
 
 -- ---- frames
 
 -- the words of a node before its parts
-unfoldable pub nodeHead : ℕ → ℕ → ℕ → ℕ → Run
-nodeHead tag x y z r =
-    pick (eqb tag oneNode) (x ∷ r)
-    (pick (eqb tag twoNode) (x ∷ y ∷ r)
-    (pick (eqb tag threeNode) (x ∷ y ∷ z ∷ r)
-    (pick (eqb tag identNode) (idExprTag ∷ x ∷ y ∷ z ∷ r)
-    (pick (eqb tag unaryNode) (operatorExprTag ∷ x ∷ more ∷ r) (pick (eqb tag binaryNode) (operatorExprTag ∷ x ∷ more ∷ r) (pick (eqb tag headedNode) (x ∷ r) r))))))
+unfoldable pub node_head : ℕ → ℕ → ℕ → ℕ → Run
+node_head tag x y z r =
+    pick (eqb tag one_node) (x ∷ r)
+    (pick (eqb tag two_node) (x ∷ y ∷ r)
+    (pick (eqb tag three_node) (x ∷ y ∷ z ∷ r)
+    (pick (eqb tag ident_node) (id_expr_tag ∷ x ∷ y ∷ z ∷ r)
+    (pick (eqb tag unary_node) (operator_expr_tag ∷ x ∷ more ∷ r) (pick (eqb tag binary_node) (operator_expr_tag ∷ x ∷ more ∷ r) (pick (eqb tag headed_node) (x ∷ r) r))))))
 
 -- a frame is 0, which stands for the word 0, or one of these: a node; 1 and the node; 1, the node and 0
 abbrev pub whole : ℕ → ℕ
@@ -27,13 +27,13 @@ abbrev pub last : ℕ → ℕ
 last n = n * 4 + 3
 
 -- the frames of a node's parts, the first one on top
-unfoldable pub nodeParts : ℕ → ℕ → ℕ → List ℕ
-nodeParts tag y z =
-    pick (eqb tag unaryNode) (whole y ∷ 0 ∷ [])
-    (pick (eqb tag binaryNode) (whole y ∷ last z ∷ [])
-    (pick (eqb tag itemNode) (whole y ∷ next z ∷ [])
-    (pick (eqb tag pairNode) (whole y ∷ whole z ∷ [])
-    (pick (eqb tag closedNode) (whole y ∷ 0 ∷ []) (pick (eqb tag headedNode) (whole y ∷ []) [])))))
+unfoldable pub node_parts : ℕ → ℕ → ℕ → List ℕ
+node_parts tag y z =
+    pick (eqb tag unary_node) (whole y ∷ 0 ∷ [])
+    (pick (eqb tag binary_node) (whole y ∷ last z ∷ [])
+    (pick (eqb tag item_node) (whole y ∷ next z ∷ [])
+    (pick (eqb tag pair_node) (whole y ∷ whole z ∷ [])
+    (pick (eqb tag closed_node) (whole y ∷ 0 ∷ []) (pick (eqb tag headed_node) (whole y ∷ []) [])))))
 
 module _ (arena : List ℕ) (frame : ℕ) where
   abbrev pub field : ℕ → ℕ
@@ -43,14 +43,14 @@ module _ (arena : List ℕ) (frame : ℕ) where
   unfoldable pub head_of : Run
   head_of r =
       pick (eqb (frame % 4) 0) (no_more ∷ r)
-      (pick (eqb (frame % 4) 1) (nodeHead (get_or arena (frame / 4) 0) (field 1) (field 2) (field 3) r) (more ∷ r))
+      (pick (eqb (frame % 4) 1) (node_head (get_or arena (frame / 4) 0) (field 1) (field 2) (field 3) r) (more ∷ r))
 
   -- the frames that take its place
   unfoldable pub parts_of : List ℕ
   parts_of =
       pick (eqb (frame % 4) 0) []
       (pick (eqb (frame % 4) 2) ((frame - 1) ∷ [])
-      (pick (eqb (frame % 4) 3) ((frame - 2) ∷ 0 ∷ []) (nodeParts (get_or arena (frame / 4) 0) (field 2) (field 3))))
+      (pick (eqb (frame % 4) 3) ((frame - 2) ∷ 0 ∷ []) (node_parts (get_or arena (frame / 4) 0) (field 2) (field 3))))
 
 -- frames that fit the stack's words
 abbrev pub Small : List ℕ → Type 0
@@ -96,7 +96,7 @@ pub record Rooted (arena stack table : List ℕ) (root : ℕ) : Type 0 where
   pub holds : Holds arena root run
   pub below : root + 4 ≤ top
   pub inside : top ≤ length arena
-  pub small : length arena ≤ mostArena
+  pub small : length arena ≤ most_arena
   pub room : top ≤ 4 * length stack
   pub clear : table ≡ replicate (length table) 0
 

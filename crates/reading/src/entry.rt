@@ -1,11 +1,11 @@
 // Read expression and read program.
 ghost use Rattle.std.specs.Prelude.{◌≡◌, ◌≤◌, min, [], length, replicate};
-ghost use Rattle.tree.specs.Limits.{mostText};
+ghost use Rattle.tree.specs.Limits.{most_text};
 ghost use Rattle.grammar.specs.Reading.{stored};
 ghost use Rattle.parsing.specs.Arena.{Run, Holds};
-ghost use Rattle.reading.specs.Entry.{Buffers, wholeOutcome, readOutcome};
+ghost use Rattle.reading.specs.Entry.{Buffers, whole_outcome, read_outcome};
 ghost use Rattle.reading.specs.Flat.{Rooted};
-ghost use Rattle.reading.specs.TreeRead.{outcomeOf, Answered, ProgramAnswered};
+ghost use Rattle.reading.specs.TreeRead.{outcome_of, Answered, ProgramAnswered};
 
 use crate::flat::flatten;
 use lexing::refusal::{TEXT_TOO_LONG, TREE_TOO_LARGE};
@@ -44,7 +44,7 @@ fn least(a: usize, b: usize) -> usize
 // The tree's words in the table, or refusal 5.
 fn store(arena: &[u32], root: u32, stack: &mut [u32], table: &mut [u32]) -> Reading
     requires { Rooted arena.now stack.old table.old root }
-    ensures { (f : Run) → Holds arena.now root f → outcomeOf result table.new ≡ stored (length table.old) (f []) }
+    ensures { (f : Run) → Holds arena.now root f → outcome_of result table.new ≡ stored (length table.old) (f []) }
 {
     let n = flatten(arena, root, stack, table);
     if n <= least(table.len(), MOST_WORDS) {
@@ -63,7 +63,7 @@ fn read_in(
     whole: Whole,
 ) -> Reading
     requires { Buffers text.now arena.old stack.old table.old }
-    ensures { outcomeOf result table.new ≡ wholeOutcome whole (length table.old) text.now }
+    ensures { outcome_of result table.new ≡ whole_outcome whole (length table.old) text.now }
 {
     match parse(text, arena, whole) {
         Parsed::Tree(root) => store(arena, root, stack, table),
@@ -74,7 +74,7 @@ fn read_in(
 // A text of at most 512 bytes.
 fn read_small(text: &[u8], table: &mut [u32], whole: Whole) -> Reading
     requires { (length text.now ≤ 512) × (table.old ≡ replicate (length table.old) 0) }
-    ensures { outcomeOf result table.new ≡ wholeOutcome whole (length table.old) text.now }
+    ensures { outcome_of result table.new ≡ whole_outcome whole (length table.old) text.now }
 {
     let mut arena = [0u32; 4140];
     let mut stack = [0u32; 1035];
@@ -84,7 +84,7 @@ fn read_small(text: &[u8], table: &mut [u32], whole: Whole) -> Reading
 // A text of at most 4,096 bytes.
 fn read_medium(text: &[u8], table: &mut [u32], whole: Whole) -> Reading
     requires { (length text.now ≤ 4096) × (table.old ≡ replicate (length table.old) 0) }
-    ensures { outcomeOf result table.new ≡ wholeOutcome whole (length table.old) text.now }
+    ensures { outcome_of result table.new ≡ whole_outcome whole (length table.old) text.now }
 {
     let mut arena = [0u32; 32812];
     let mut stack = [0u32; 8203];
@@ -94,7 +94,7 @@ fn read_medium(text: &[u8], table: &mut [u32], whole: Whole) -> Reading
 // A text of at most 12,288 bytes.
 fn read_large(text: &[u8], table: &mut [u32], whole: Whole) -> Reading
     requires { (length text.now ≤ 12288) × (table.old ≡ replicate (length table.old) 0) }
-    ensures { outcomeOf result table.new ≡ wholeOutcome whole (length table.old) text.now }
+    ensures { outcome_of result table.new ≡ whole_outcome whole (length table.old) text.now }
 {
     let mut arena = [0u32; 98348];
     let mut stack = [0u32; 24587];
@@ -103,8 +103,8 @@ fn read_large(text: &[u8], table: &mut [u32], whole: Whole) -> Reading
 
 // A text of at most 32,768 bytes.
 fn read_longest(text: &[u8], table: &mut [u32], whole: Whole) -> Reading
-    requires { (length text.now ≤ mostText) × (table.old ≡ replicate (length table.old) 0) }
-    ensures { outcomeOf result table.new ≡ wholeOutcome whole (length table.old) text.now }
+    requires { (length text.now ≤ most_text) × (table.old ≡ replicate (length table.old) 0) }
+    ensures { outcome_of result table.new ≡ whole_outcome whole (length table.old) text.now }
 {
     let mut arena = [0u32; 262188];
     let mut stack = [0u32; 65547];
@@ -113,7 +113,7 @@ fn read_longest(text: &[u8], table: &mut [u32], whole: Whole) -> Reading
 
 // Reads a text with buffers by its length.
 fn read(text: &[u8], table: &mut [u32], whole: Whole) -> Reading
-    ensures { outcomeOf result table.new ≡ readOutcome whole text.now (length table.old) }
+    ensures { outcome_of result table.new ≡ read_outcome whole text.now (length table.old) }
 {
     clear(table);
     if MOST_TEXT < text.len() {

@@ -1,7 +1,7 @@
 // A node's words, written to a table by a walk with a stack of frames. The stack grows down from its end.
 ghost use Rattle.std.specs.Prelude.{◌+◌, ◌*◌, ◌/◌, ◌≤◌, ◌<◌, [], ◌∷◌, length};
 ghost use Rattle.parsing.specs.Arena.{Run, Holds};
-ghost use Rattle.reading.specs.Flat.{nodeHead, nodeParts, whole, head_of, parts_of, Fit, Replaced, Writes, Rooted, Flattened};
+ghost use Rattle.reading.specs.Flat.{node_head, node_parts, whole, head_of, parts_of, Fit, Replaced, Writes, Rooted, Flattened};
 
 use parsing::{BINARY, CLOSED, HEADED, IDENT, ITEM, ONE, PAIR, THREE, TWO, UNARY};
 use tree::word::{ID_EXPR, MORE, NO_MORE, OPERATOR_EXPR};
@@ -28,7 +28,7 @@ fn emit(table: &mut [u32], out: usize, w: u32) -> usize
 
 // The words of a node before its parts.
 fn node_head(table: &mut [u32], out: usize, tag: u32, x: u32, y: u32, z: u32) -> usize
-    ensures { Writes (nodeHead tag x y z) table.old out table.new result }
+    ensures { Writes (node_head tag x y z) table.old out table.new result }
 {
     match tag {
         ONE => emit(table, out, x),
@@ -112,8 +112,8 @@ fn over(stack: &mut [u32], sp: usize, y: u32, z: u32, kind: u32) -> usize
 
 // The parts of a node in the place of its frame.
 fn node_parts(stack: &mut [u32], sp: usize, tag: u32, y: u32, z: u32) -> usize
-    requires { Fit (nodeParts tag y z) stack.old sp }
-    ensures { Replaced (nodeParts tag y z) stack.old stack.new sp result }
+    requires { Fit (node_parts tag y z) stack.old sp }
+    ensures { Replaced (node_parts tag y z) stack.old stack.new sp result }
 {
     match tag {
         UNARY => over(stack, sp, y, 0, END),

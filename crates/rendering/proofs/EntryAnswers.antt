@@ -7,7 +7,7 @@ use mathlib.Core.List.{List, [], append-nil}
 use lib.ListN.{length, take}
 use borrow.Author.Tests.{le-leb, lt-leb}
 use Rattle.tree.specs.Clash.{impossible}
-use Rattle.tree.specs.Limits.{mostText, mostWords}
+use Rattle.tree.specs.Limits.{most_text, most_words}
 use Rattle.tree.specs.Check.{Refusal, oversized}
 use Rattle.tree.specs.CountLaws.{expression-counted, program-counted}
 use Rattle.rendering.specs.declared.parts.Advance.{Advance}
@@ -16,12 +16,12 @@ use Rattle.rendering.specs.declared.Rendered.TheVariants.{Bytes, Refused}
 use Rattle.rendering.specs.declared.Root.{Root}
 use Rattle.rendering.specs.declared.Root.TheVariants.{AnExpression, AProgram}
 use Rattle.tree.specs.Held.{Held, held, refused}
-use Rattle.rendering.specs.Tables.{mostIndent, Printable, printOf, programPrintOf, heldFor, Within}
+use Rattle.rendering.specs.Tables.{most_indent, Printable, print_of, program_print_of, held_for, Within}
 use Rattle.rendering.specs.TableLaws.{Lawful, expression-laws, program-laws, holds, refuses, long-text, deep-indent}
 use Rattle.rendering.specs.Wrote.{Wrote}
 use Rattle.rendering.specs.Parts.{Prints}
-use Rattle.rendering.specs.ExprParts.{mostStep}
-use Rattle.rendering.specs.Render.{rooted, rootIndent, rootCounts, rootPart, RootCounted, Numbered, printTooLong, Made, Gives, Renders, Makes}
+use Rattle.rendering.specs.ExprParts.{most_step}
+use Rattle.rendering.specs.Render.{rooted, root_indent, root_counts, root_part, RootCounted, Numbered, print_too_long, Made, Gives, Renders, Makes}
 
 -- ---- from a write to a print
 
@@ -41,7 +41,7 @@ fitting {X} {b} {b'} {n} w h =
     }
 
 -- a print that is longer than the buffer is refused
-longer : {X : List ℕ → List ℕ} {b b' : List ℕ} {n : ℕ} → Wrote X b 0 b' n → length b' < n → Made (X []) b (Refused printTooLong 0) b'
+longer : {X : List ℕ → List ℕ} {b b' : List ℕ} {n : ℕ} → Wrote X b 0 b' n → length b' < n → Made (X []) b (Refused print_too_long 0) b'
 longer {X} {b} w h =
     record {
       answers = let p = whole_length w in let s = w.same in sym (simp (lt-leb (length (X [])) (length b) (omega arith)));
@@ -51,37 +51,37 @@ longer {X} {b} w h =
 -- ---- the print of a table's tree
 
 -- an accepted table is no longer than a table may be
-few : (P : Printable) (words : List ℕ) → P.refused words ≡ none → length words ≤ mostWords
+few : (P : Printable) (words : List ℕ) → P.refused words ≡ none → length words ≤ most_words
 few P words e = ((P.unrefused words).0 e).0
 
 -- what the check that accepts a table notes are the numbers of items
-pub numbered : (text words before : List ℕ) (step : ℕ) (root : Root) {after : List ℕ} → (length words ≤ mostWords → length words ≤ length before)
-    → (rooted step text root).refused words ≡ none → after ≡ rootCounts root words (length text) before → Numbered text words after step root
+pub numbered : (text words before : List ℕ) (step : ℕ) (root : Root) {after : List ℕ} → (length words ≤ most_words → length words ≤ length before)
+    → (rooted step text root).refused words ≡ none → after ≡ root_counts root words (length text) before → Numbered text words after step root
 numbered text words before step root {after} h e f =
-    let l : length words ≤ mostWords = few (rooted step text root) words e in
+    let l : length words ≤ most_words = few (rooted step text root) words e in
     record { few = l; counted = λ t d. subst (λ (c : List ℕ). RootCounted text words c step root t) (sym f) (by-root root t d l (h l)) }
   where
-    by-root : (r : Root) (t : (rooted step text r).Tree) → (rooted step text r).words t ≡ words → length words ≤ mostWords → length words ≤ length before
-        → RootCounted text words (rootCounts r words (length text) before) step r t
+    by-root : (r : Root) (t : (rooted step text r).Tree) → (rooted step text r).words t ≡ words → length words ≤ most_words → length words ≤ length before
+        → RootCounted text words (root_counts r words (length text) before) step r t
     by-root (AnExpression format) t d l m = expression-counted words (length text) before t d l m
     by-root AProgram t d l m = program-counted words (length text) before t d l m
 
 -- the write of a tree's print, by what follows from every write of it
-written : (text words counts : List ℕ) (step : ℕ) (root : Root) {b b₁ : List ℕ} {s : Advance} {r : Rendered} → step ≤ mostStep → rootIndent root ≤ mostIndent
-    → length words ≤ mostWords → Prints (rootPart text words counts step root) words 0 b 0 b₁ s
+written : (text words counts : List ℕ) (step : ℕ) (root : Root) {b b₁ : List ℕ} {s : Advance} {r : Rendered} → step ≤ most_step → root_indent root ≤ most_indent
+    → length words ≤ most_words → Prints (root_part text words counts step root) words 0 b 0 b₁ s
     → ((X : List ℕ → List ℕ) → Wrote X b 0 b₁ s.pos → Made (X []) b r b₁)
     → (t : (rooted step text root).Tree) → RootCounted text words counts step root t → (rooted step text root).words t ≡ words → Made ((rooted step text root).print t) b r b₁
-unfolding printOf programPrintOf
+unfolding print_of program_print_of
 written text words counts step (AnExpression format) m i l x k t c f = k _ (x.prints t [] (record { few = l; short = m; room = omega arith }, c) (sym f)).wrote
 written text words counts step AProgram m i l x k t c f = k _ (x.prints t [] (record { few = l; short = m; room = omega arith }, c) (sym f)).wrote
 
-module _ (step : ℕ) (text : List ℕ) (root : Root) {words counts b b₁ : List ℕ} {s : Advance} (m : step ≤ mostStep) (i : rootIndent root ≤ mostIndent)
-    (n : Numbered text words counts step root) (x : Prints (rootPart text words counts step root) words 0 b 0 b₁ s) where
+module _ (step : ℕ) (text : List ℕ) (root : Root) {words counts b b₁ : List ℕ} {s : Advance} (m : step ≤ most_step) (i : root_indent root ≤ most_indent)
+    (n : Numbered text words counts step root) (x : Prints (root_part text words counts step root) words 0 b 0 b₁ s) where
   -- a print that fits the buffer, and one that is longer
   pub fits : s.pos ≤ length b₁ → Makes (rooted step text root) words b (Bytes s.pos) b₁
   fits h = record { made = λ t f. written text words counts step root m i n.few x (λ X w. fitting w h) t (n.counted t f) f }
 
-  pub passes : length b₁ < s.pos → Makes (rooted step text root) words b (Refused printTooLong 0) b₁
+  pub passes : length b₁ < s.pos → Makes (rooted step text root) words b (Refused print_too_long 0) b₁
   passes h = record { made = λ t f. written text words counts step root m i n.few x (λ X w. longer w h) t (n.counted t f) f }
 
 -- ---- by the root
@@ -91,21 +91,21 @@ pub root_laws : (step : ℕ) (text : List ℕ) (root : Root) → Lawful (rooted 
 root_laws step text (AnExpression format) = expression-laws step text format
 root_laws step text AProgram = program-laws step text
 
-root-indent : (step : ℕ) (text : List ℕ) (root : Root) → (rooted step text root).indent ≡ rootIndent root
+root-indent : (step : ℕ) (text : List ℕ) (root : Root) → (rooted step text root).indent ≡ root_indent root
 root-indent step text (AnExpression format) = refl
 root-indent step text AProgram = refl
 
 -- the check of a table by its root
 pub checked-by : (text words before : List ℕ) (step : ℕ) {root k : Root} {q : Option Refusal} {after : List ℕ} → root ≡ k
-    → (q ≡ (rooted step text k).refused words) × (after ≡ rootCounts k words (length text) before)
-    → (q ≡ (rooted step text root).refused words) × (after ≡ rootCounts root words (length text) before)
+    → (q ≡ (rooted step text k).refused words) × (after ≡ root_counts k words (length text) before)
+    → (q ≡ (rooted step text root).refused words) × (after ≡ root_counts root words (length text) before)
 checked-by text words before step {q = q} {after = after} e x =
-    subst (λ (r : Root). (q ≡ (rooted step text r).refused words) × (after ≡ rootCounts r words (length text) before)) (sym e) x
+    subst (λ (r : Root). (q ≡ (rooted step text r).refused words) × (after ≡ root_counts r words (length text) before)) (sym e) x
 
 -- the print of a table by its root
 pub printed-by : (text words counts : List ℕ) (step : ℕ) {root k : Root} {b b₁ : List ℕ} {s : Advance} → root ≡ k
-    → Prints (rootPart text words counts step k) words 0 b 0 b₁ s → Prints (rootPart text words counts step root) words 0 b 0 b₁ s
-printed-by text words counts step {b = b} {b₁ = b₁} {s = s} e x = subst (λ (r : Root). Prints (rootPart text words counts step r) words 0 b 0 b₁ s) (sym e) x
+    → Prints (root_part text words counts step k) words 0 b 0 b₁ s → Prints (root_part text words counts step root) words 0 b 0 b₁ s
+printed-by text words counts step {b = b} {b₁ = b₁} {s = s} e x = subst (λ (r : Root). Prints (root_part text words counts step r) words 0 b 0 b₁ s) (sym e) x
 
 -- ---- the refusals, and the print of an accepted table
 
@@ -114,17 +114,17 @@ module _ (step : ℕ) (root : Root) (text words b b' : List ℕ) where
   P = rooted step text root
 
   -- what the table is refused by
-  by-held : {r : Rendered} (h : Held P.Tree) → heldFor P text words ≡ h → Gives P b r b' h → Renders P text words b r b'
+  by-held : {r : Rendered} (h : Held P.Tree) → held_for P text words ≡ h → Gives P b r b' h → Renders P text words b r b'
   by-held {r} h e g = record { gives = subst (λ (x : Held P.Tree). Gives P b r b' x) (sym e) g }
 
   -- a text that is too long, and a start indent that is too large, are refused by 6
-  pub over-text : mostText < length text → Renders P text words b (Refused oversized 0) b'
+  pub over-text : most_text < length text → Renders P text words b (Refused oversized 0) b'
   over-text h = by-held (refused oversized 0) (long-text P text words h) refl
 
-  pub over-indent : mostIndent < rootIndent root → Renders P text words b (Refused oversized 0) b'
+  pub over-indent : most_indent < root_indent root → Renders P text words b (Refused oversized 0) b'
   over-indent h = by-held (refused oversized 0) (deep-indent P text words (rw (root-indent step text root) h)) refl
 
-  module _ (t : length text ≤ mostText) (i : rootIndent root ≤ mostIndent) where
+  module _ (t : length text ≤ most_text) (i : root_indent root ≤ most_indent) where
     -- the check's refusal is the answer
     pub refused-table : {number place : ℕ} → P.refused words ≡ some (record { number = number; place = place }) → Renders P text words b (Refused number place) b'
     refused-table {number} {place} e = by-held (refused number place) (refuses P text words t (rw (root-indent step text root) i) _ e) refl

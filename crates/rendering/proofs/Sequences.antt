@@ -5,7 +5,7 @@ use mathlib.Core.Option.{Option, none, some}
 use mathlib.Core.List.{List, [], ◌∷◌, ◌++◌}
 use lib.ListN.{drop, get_or}
 use Rattle.tree.specs.Clash.{impossible}
-use Rattle.tree.specs.Words.{optionWords, seqWords}
+use Rattle.tree.specs.Words.{option_words, seq_words}
 use Rattle.rendering.specs.declared.parts.Advance.{Advance}
 use Rattle.layout.specs.Statements.{optional, separated}
 use Rattle.rendering.specs.Parts.{Part, Done, Prints, Next}
@@ -49,7 +49,7 @@ module _ (P : Part) {A : Type 0} (make : A → P.Tree) (L : Listing P make) {tab
 
 -- an optional part after text
 abbrev pub options : {A : Type 0} → (Option A → List ℕ → Type 0) → (A → List ℕ → List ℕ) → (A → List ℕ → List ℕ) → List ℕ → Part
-options {A} given words print prefix = record { Tree = Option A; given = given; words = optionWords words; print = λ o rest. optional print prefix o rest }
+options {A} given words print prefix = record { Tree = Option A; given = given; words = option_words words; print = λ o rest. optional print prefix o rest }
 
 pub an-option : {A : Type 0} (given : Option A → List ℕ → Type 0) (words print : A → List ℕ → List ℕ) (prefix : List ℕ) → Listing (options given words print prefix) some
 an-option {A} given words print prefix = record { view = by-option }
@@ -64,7 +64,7 @@ cons c = c.0 ∷ c.1
 
 -- a list with text before its items
 abbrev pub lists : {A : Type 0} → (List A → List ℕ → Type 0) → (A → List ℕ → List ℕ) → (A → List ℕ → List ℕ) → (first next : List ℕ) → Part
-lists {A} given words print first next = record { Tree = List A; given = given; words = seqWords words; print = λ l rest. separated print first next l rest }
+lists {A} given words print first next = record { Tree = List A; given = given; words = seq_words words; print = λ l rest. separated print first next l rest }
 
 pub a-list : {A : Type 0} (given : List A → List ℕ → Type 0) (words print : A → List ℕ → List ℕ) (first next : List ℕ)
     → Listing (lists given words print first next) cons
@@ -73,7 +73,7 @@ a-list {A} given words print first next = record { view = by-list }
   where
     by-list : (l : List A) → View (lists given words print first next) cons l
     by-list [] = nothing (λ rest. refl) refl
-    by-list (a ∷ l) = something (a, l) refl (λ rest. (words a (seqWords words l rest), refl))
+    by-list (a ∷ l) = something (a, l) refl (λ rest. (words a (seq_words words l rest), refl))
 
 -- the print of an item and the others
 pub separated-print : {A : Type 0} (item : A → List ℕ → List ℕ) (first next : List ℕ) (a : A) (l : List A)

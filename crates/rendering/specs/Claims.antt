@@ -6,17 +6,17 @@ use Rattle.std.proofs.lemmas.Bool.{lt-leb}
 use Rattle.rendering.specs.declared.Rendered.{Rendered}
 use Rattle.rendering.specs.declared.Rendered.TheVariants.{Bytes, Refused}
 use Rattle.tree.specs.Held.{refused}
-use Rattle.rendering.specs.Tables.{Printable, heldFor, Within}
+use Rattle.rendering.specs.Tables.{Printable, held_for, Within}
 use Rattle.rendering.specs.TableLaws.{Lawful, Table, table, holds}
-use Rattle.rendering.specs.Render.{printTooLong, Made, Renders}
+use Rattle.rendering.specs.Render.{print_too_long, Made, Renders}
 
 -- Every table is one of the three; which, its words and the limits decide.
-pub table-cases : (P : Printable) → Lawful P → (text words : List ℕ) → Table P text words (heldFor P text words)
+pub table-cases : (P : Printable) → Lawful P → (text words : List ℕ) → Table P text words (held_for P text words)
 table-cases P L text words = table P text words L
 
 module _ (P : Printable) (text words b : List ℕ) (r : Rendered) (b' : List ℕ) (h : Renders P text words b r b') where
   -- A refused table is refused so.
-  pub refused-so : (number place : ℕ) → heldFor P text words ≡ refused number place → r ≡ Refused number place
+  pub refused-so : (number place : ℕ) → held_for P text words ≡ refused number place → r ≡ Refused number place
   refused-so number place e = rw e at h.gives
 
   -- of a table that holds a tree
@@ -31,5 +31,5 @@ module _ (P : Printable) (text words b : List ℕ) (r : Rendered) (b' : List ℕ
         (f, made.bytes _ f)
 
     -- Any other is refused by 8.
-    pub too_long : length b < length (P.print t) → r ≡ Refused printTooLong 0
+    pub too_long : length b < length (P.print t) → r ≡ Refused print_too_long 0
     too_long l = made.answers ∙ simp (lt-leb _ _ l)

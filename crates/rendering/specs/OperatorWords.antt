@@ -8,5 +8,5 @@ operators =
     IfThenElse ∷ IfThenElse ∷ Equiv ∷ LogicalImp ∷ LogicalAnd ∷ LogicalOr ∷ Eq ∷ Neq ∷ Less ∷ AtMost ∷ Plus ∷ Minus ∷ Times ∷ Div ∷ Mod ∷ LogicalNot ∷ []
 
 -- the operator of a word; UnaryMinus past the list
-abbrev pub operatorOf : ℕ → Operator
-operatorOf w = get_or operators w UnaryMinus
+abbrev pub operator_of : ℕ → Operator
+operator_of w = get_or operators w UnaryMinus

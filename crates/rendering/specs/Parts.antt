@@ -3,7 +3,7 @@ use Rattle.std.specs.Prelude.{ℕ, ◌≤◌, ◌<◌, ◌≡◌, Bool, List, []
 use Rattle.std.proofs.Math.Option.{Option}
 use Rattle.lexing.specs.Bytes.{bytes}
 use Rattle.tree.specs.Ast.{Binding, Expr}
-use Rattle.tree.specs.Words.{boolWord, naturalWords, nameWords, optionWords, seqWords, bindingWords, exprWords}
+use Rattle.tree.specs.Words.{bool_word, natural_words, name_words, option_words, seq_words, binding_words, expr_words}
 use Rattle.tree.specs.Check.{NameIn}
 use Rattle.layout.specs.declared.power.Side.TheVariants.{Left}
 use Rattle.layout.specs.declared.power.BindingPower.{BindingPower}
@@ -11,8 +11,8 @@ use Rattle.layout.specs.declared.format.ExprFormatOption.{ExprFormatOption}
 use Rattle.rendering.specs.declared.parts.Advance.{Advance}
 use Rattle.layout.specs.Text.{◌▹◌, ◌▸◌, decimal}
 use Rattle.layout.specs.PrintUtil.{EndlessOperator, Parenthesis}
-use Rattle.layout.specs.Printer.{boolText, oldText, quantifierText, IdTypeDecl, Bindings, parameters, Expression, isIf}
-use Rattle.rendering.specs.Tables.{nameIn}
+use Rattle.layout.specs.Printer.{bool_text, old_text, quantifier_text, IdTypeDecl, Bindings, parameters, Expression, is_if}
+use Rattle.rendering.specs.Tables.{name_in}
 use Rattle.rendering.specs.Wrote.{Wrote}
 
 -- trees with their words and their prints, each before what follows, and what the print of one needs, by the tree and the words that follow
@@ -38,36 +38,36 @@ pub record Next (table : List ℕ) (at next : ℕ) : Type 0 where
   pub past : at < length table → at < next
   pub after : (w : ℕ) (ws : List ℕ) → drop at table ≡ w ∷ ws → drop next table ≡ ws
 
-abbrev pub aBool : Part
-aBool = record { Tree = Bool; given = λ _ _. Unit {0}; words = λ b rest. boolWord b ∷ rest; print = λ b rest. boolText b ▸ rest }
+abbrev pub a_bool : Part
+a_bool = record { Tree = Bool; given = λ _ _. Unit {0}; words = λ b rest. bool_word b ∷ rest; print = λ b rest. bool_text b ▸ rest }
 
-abbrev pub aNatural : Part
-aNatural = record { Tree = ℕ; given = λ _ _. Unit {0}; words = naturalWords; print = decimal }
+abbrev pub a_natural : Part
+a_natural = record { Tree = ℕ; given = λ _ _. Unit {0}; words = natural_words; print = decimal }
 
 module _ (text : List ℕ) where
   abbrev N : Type 0
   N = NameIn (length text)
 
-  abbrev pub aName : Part
-  aName = record { Tree = N; given = λ _ _. Unit {0}; words = nameWords (λ n. n.span); print = λ n rest. nameIn text n ▹ rest }
+  abbrev pub a_name : Part
+  a_name = record { Tree = N; given = λ _ _. Unit {0}; words = name_words (λ n. n.span); print = λ n rest. name_in text n ▹ rest }
 
   -- a name and its type
-  abbrev pub typedName : Part
-  typedName =
+  abbrev pub typed_name : Part
+  typed_name =
       record {
         Tree = N × N;
         given = λ _ _. Unit {0};
-        words = λ a rest. nameWords (λ n. n.span) a.0 (nameWords (λ n. n.span) a.1 rest);
-        print = λ a rest. nameIn text a.0 ▹ ": " ▸ nameIn text a.1 ▹ rest;
+        words = λ a rest. name_words (λ n. n.span) a.0 (name_words (λ n. n.span) a.1 rest);
+        print = λ a rest. name_in text a.0 ▹ ": " ▸ name_in text a.1 ▹ rest;
       }
 
-  abbrev pub idType : Part
-  idType =
+  abbrev pub id_type : Part
+  id_type =
       record {
         Tree = N × Option N;
         given = λ _ _. Unit {0};
-        words = λ a rest. nameWords (λ n. n.span) a.0 (optionWords (nameWords (λ n. n.span)) a.1 rest);
-        print = λ a rest. IdTypeDecl (nameIn text) [] a.0 a.1 rest;
+        words = λ a rest. name_words (λ n. n.span) a.0 (option_words (name_words (λ n. n.span)) a.1 rest);
+        print = λ a rest. IdTypeDecl (name_in text) [] a.0 a.1 rest;
       }
 
   abbrev pub bindings : List ℕ → Part
@@ -75,8 +75,8 @@ module _ (text : List ℕ) where
       record {
         Tree = List (Binding N);
         given = λ _ _. Unit {0};
-        words = seqWords (bindingWords (λ n. n.span));
-        print = λ bs rest. Bindings (nameIn text) prefix bs rest;
+        words = seq_words (binding_words (λ n. n.span));
+        print = λ bs rest. Bindings (name_in text) prefix bs rest;
       }
 
   -- a quantifier's Bool and bindings
@@ -85,28 +85,28 @@ module _ (text : List ℕ) where
       record {
         Tree = Bool × List (Binding N);
         given = λ _ _. Unit {0};
-        words = λ a rest. boolWord a.0 ∷ seqWords (bindingWords (λ n. n.span)) a.1 rest;
-        print = λ a rest. Bindings (nameIn text) (bytes (quantifierText a.0)) a.1 rest;
+        words = λ a rest. bool_word a.0 ∷ seq_words (binding_words (λ n. n.span)) a.1 rest;
+        print = λ a rest. Bindings (name_in text) (bytes (quantifier_text a.0)) a.1 rest;
       }
 
-  abbrev pub closureParameters : Part
-  closureParameters =
+  abbrev pub closure_parameters : Part
+  closure_parameters =
       record {
         Tree = List (Binding N);
         given = λ _ _. Unit {0};
-        words = seqWords (bindingWords (λ n. n.span));
-        print = λ bs rest. parameters (nameIn text) bs rest;
+        words = seq_words (binding_words (λ n. n.span));
+        print = λ bs rest. parameters (name_in text) bs rest;
       }
 
   -- ---- the leaves, after their first word
 
-  abbrev pub customLiteral : Part
-  customLiteral =
+  abbrev pub custom_literal : Part
+  custom_literal =
       record {
         Tree = N × N;
         given = λ _ _. Unit {0};
-        words = λ a rest. nameWords (λ n. n.span) a.0 (nameWords (λ n. n.span) a.1 rest);
-        print = λ a rest. "|" ▸ nameIn text a.0 ▹ ": " ▸ nameIn text a.1 ▹ "|" ▸ rest;
+        words = λ a rest. name_words (λ n. n.span) a.0 (name_words (λ n. n.span) a.1 rest);
+        print = λ a rest. "|" ▸ name_in text a.0 ▹ ": " ▸ name_in text a.1 ▹ "|" ▸ rest;
       }
 
   abbrev pub identifier : Part
@@ -114,8 +114,8 @@ module _ (text : List ℕ) where
       record {
         Tree = N × Bool;
         given = λ _ _. Unit {0};
-        words = λ a rest. nameWords (λ n. n.span) a.0 (boolWord a.1 ∷ rest);
-        print = λ a rest. oldText a.1 ▸ nameIn text a.0 ▹ rest;
+        words = λ a rest. name_words (λ n. n.span) a.0 (bool_word a.1 ∷ rest);
+        print = λ a rest. old_text a.1 ▸ name_in text a.0 ▹ rest;
       }
 
   -- an expression without expressions in it, by any step, in any context and format
@@ -124,66 +124,66 @@ module _ (text : List ℕ) where
       record {
         Tree = ℕ × Expr N × BindingPower × ExprFormatOption;
         given = λ _ _. get_or table at 0 < 5;
-        words = λ a rest. exprWords (λ n. n.span) a.1 rest;
-        print = λ a rest. Expression (nameIn text) a.0 a.1 a.2 a.3 rest;
+        words = λ a rest. expr_words (λ n. n.span) a.1 rest;
+        print = λ a rest. Expression (name_in text) a.0 a.1 a.2 a.3 rest;
       }
 
   -- whether an expression is an IfThenElse, of any number of operands
   pub record IsIf (table : List ℕ) (at : ℕ) (r : Bool) : Type 0 where
-    pub tells : (t : Expr N) (rest : List ℕ) → drop at table ≡ exprWords (λ n. n.span) t rest → r ≡ isIf t
+    pub tells : (t : Expr N) (rest : List ℕ) → drop at table ≡ expr_words (λ n. n.span) t rest → r ≡ is_if t
 
   -- ---- the beginnings of prints
 
   -- of a label
-  abbrev pub labelHead : BindingPower → Part
-  labelHead context =
+  abbrev pub label_head : BindingPower → Part
+  label_head context =
       record {
         Tree = N;
         given = λ _ _. Unit {0};
-        words = nameWords (λ n. n.span);
-        print = λ n rest. Parenthesis Left EndlessOperator context ▹ nameIn text n ▹ ": " ▸ rest;
+        words = name_words (λ n. n.span);
+        print = λ n rest. Parenthesis Left EndlessOperator context ▹ name_in text n ▹ ": " ▸ rest;
       }
 
   -- of a `val`
-  abbrev pub letHead : BindingPower → Part
-  letHead context =
+  abbrev pub let_head : BindingPower → Part
+  let_head context =
       record {
         Tree = N × Option N;
         given = λ _ _. Unit {0};
-        words = λ a rest. nameWords (λ n. n.span) a.0 (optionWords (nameWords (λ n. n.span)) a.1 rest);
-        print = λ a rest. Parenthesis Left EndlessOperator context ▹ IdTypeDecl (nameIn text) (bytes "val ") a.0 a.1 (" := " ▸ rest);
+        words = λ a rest. name_words (λ n. n.span) a.0 (option_words (name_words (λ n. n.span)) a.1 rest);
+        print = λ a rest. Parenthesis Left EndlessOperator context ▹ IdTypeDecl (name_in text) (bytes "val ") a.0 a.1 (" := " ▸ rest);
       }
 
   -- of a quantifier
-  abbrev pub quantifierHead : BindingPower → Part
-  quantifierHead context =
+  abbrev pub quantifier_head : BindingPower → Part
+  quantifier_head context =
       record {
         Tree = Bool × List (Binding N);
         given = λ _ _. Unit {0};
-        words = λ a rest. boolWord a.0 ∷ seqWords (bindingWords (λ n. n.span)) a.1 rest;
-        print = λ a rest. Parenthesis Left EndlessOperator context ▹ Bindings (nameIn text) (bytes (quantifierText a.0)) a.1 rest;
+        words = λ a rest. bool_word a.0 ∷ seq_words (binding_words (λ n. n.span)) a.1 rest;
+        print = λ a rest. Parenthesis Left EndlessOperator context ▹ Bindings (name_in text) (bytes (quantifier_text a.0)) a.1 rest;
       }
 
   -- of a call
-  abbrev pub callHead : Part
-  callHead = record { Tree = N; given = λ _ _. Unit {0}; words = nameWords (λ n. n.span); print = λ n rest. nameIn text n ▹ "(" ▸ rest }
+  abbrev pub call_head : Part
+  call_head = record { Tree = N; given = λ _ _. Unit {0}; words = name_words (λ n. n.span); print = λ n rest. name_in text n ▹ "(" ▸ rest }
 
   -- of a closure's binding
-  abbrev pub closureHead : List ℕ → Part
-  closureHead sep =
+  abbrev pub closure_head : List ℕ → Part
+  closure_head sep =
       record {
         Tree = N × List (Binding N);
         given = λ _ _. Unit {0};
-        words = λ a rest. nameWords (λ n. n.span) a.0 (seqWords (bindingWords (λ n. n.span)) a.1 rest);
-        print = λ a rest. sep ▹ nameIn text a.0 ▹ parameters (nameIn text) a.1 (" := " ▸ rest);
+        words = λ a rest. name_words (λ n. n.span) a.0 (seq_words (binding_words (λ n. n.span)) a.1 rest);
+        print = λ a rest. sep ▹ name_in text a.0 ▹ parameters (name_in text) a.1 (" := " ▸ rest);
       }
 
   -- between a closure's bindings and its properties
-  abbrev pub closureResult : Part
-  closureResult =
+  abbrev pub closure_result : Part
+  closure_result =
       record {
         Tree = N × N;
         given = λ _ _. Unit {0};
-        words = λ a rest. nameWords (λ n. n.span) a.0 (nameWords (λ n. n.span) a.1 rest);
-        print = λ a rest. " into " ▸ nameIn text a.0 ▹ ": " ▸ nameIn text a.1 ▹ " by { " ▸ rest;
+        words = λ a rest. name_words (λ n. n.span) a.0 (name_words (λ n. n.span) a.1 rest);
+        print = λ a rest. " into " ▸ name_in text a.0 ▹ ": " ▸ name_in text a.1 ▹ " by { " ▸ rest;
       }

@@ -1,20 +1,20 @@
 -- What `render` does, once over the root of a table's tree.
 use Rattle.std.specs.Prelude.{ℕ, ◌≤◌, ◌≡◌, List, [], length, take, leb}
 use Rattle.lexing.specs.Answer.{pick}
-use Rattle.tree.specs.Limits.{mostWords}
+use Rattle.tree.specs.Limits.{most_words}
 use Rattle.tree.specs.Check.{NameIn}
-use Rattle.tree.specs.Tally.{expressionCounts, programCounts}
+use Rattle.tree.specs.Tally.{expression_counts, program_counts}
 use Rattle.tree.specs.Counted.{CountedExpr, CountedProgram}
 use Rattle.rendering.specs.declared.Rendered.{Rendered}
 use Rattle.rendering.specs.declared.Rendered.TheVariants.{Bytes, Refused}
 use Rattle.rendering.specs.declared.Root.{Root}
 use Rattle.rendering.specs.declared.Root.TheVariants.{AnExpression, AProgram}
-use Rattle.layout.specs.PrintUtil.{startIndent, Init}
+use Rattle.layout.specs.PrintUtil.{start_indent, Init}
 use Rattle.tree.specs.Held.{Held, held, refused}
-use Rattle.rendering.specs.Tables.{Printable, expressions, programs, heldFor}
+use Rattle.rendering.specs.Tables.{Printable, expressions, programs, held_for}
 use Rattle.rendering.specs.Parts.{Part}
-use Rattle.rendering.specs.ExprParts.{anExpr}
-use Rattle.rendering.specs.DeclParts.{aProgram}
+use Rattle.rendering.specs.ExprParts.{an_expr}
+use Rattle.rendering.specs.DeclParts.{a_program}
 
 -- the trees of a root with their words and their prints by a step
 abbrev pub rooted : (step : ℕ) (text : List ℕ) → Root → Printable
@@ -22,20 +22,20 @@ rooted step text (AnExpression format) = expressions step text format
 rooted step text AProgram = programs step text
 
 -- its start indent
-abbrev pub rootIndent : Root → ℕ
-rootIndent (AnExpression format) = startIndent format
-rootIndent AProgram = 0
+abbrev pub root_indent : Root → ℕ
+root_indent (AnExpression format) = start_indent format
+root_indent AProgram = 0
 
 -- the numbers of items that the check of a table notes
-abbrev pub rootCounts : Root → (table : List ℕ) (len : ℕ) (before : List ℕ) → List ℕ
-rootCounts (AnExpression format) table len before = expressionCounts table len before
-rootCounts AProgram table len before = programCounts table len before
+abbrev pub root_counts : Root → (table : List ℕ) (len : ℕ) (before : List ℕ) → List ℕ
+root_counts (AnExpression format) table len before = expression_counts table len before
+root_counts AProgram table len before = program_counts table len before
 
 module _ (text table counts : List ℕ) (step : ℕ) where
   -- a table's tree as a part of it
-  abbrev pub rootPart : Root → Part
-  rootPart (AnExpression format) = anExpr text table counts step 0 Init format
-  rootPart AProgram = aProgram text table counts step
+  abbrev pub root_part : Root → Part
+  root_part (AnExpression format) = an_expr text table counts step 0 Init format
+  root_part AProgram = a_program text table counts step
 
   -- the numbers of a tree's sequences
   abbrev pub RootCounted : (root : Root) → (rooted step text root).Tree → Type 0
@@ -44,16 +44,16 @@ module _ (text table counts : List ℕ) (step : ℕ) where
 
   -- what the print of a table needs: as many words as a checked table has at most, and the numbers of its tree
   pub record Numbered (root : Root) : Type 0 where
-    pub few : length table ≤ mostWords
+    pub few : length table ≤ most_words
     pub counted : (t : (rooted step text root).Tree) → (rooted step text root).words t ≡ table → RootCounted root t
 
 -- The number of a refusal of a print: it is longer than where it is to stand, or than a print may be.
-abbrev pub printTooLong : ℕ
-printTooLong = 8
+abbrev pub print_too_long : ℕ
+print_too_long = 8
 
 -- a print stands at the start of the buffer b, which became b', and its length is answered; or it is longer than the buffer
 pub record Made (print b : List ℕ) (r : Rendered) (b' : List ℕ) : Type 0 where
-  pub answers : r ≡ pick (leb (length print) (length b)) (Bytes (length print)) (Refused printTooLong 0)
+  pub answers : r ≡ pick (leb (length print) (length b)) (Bytes (length print)) (Refused print_too_long 0)
   pub bytes : (n : ℕ) → r ≡ Bytes n → take n b' ≡ print
 
 -- the answer and the buffer by what the table holds
@@ -64,7 +64,7 @@ Gives P b r b' (refused number place) = r ≡ Refused number place
 -- What `render` ensures of its answer r and the buffer b, which becomes b'. The buffer's bytes that no print occupies are free, after a refusal
 -- all of them.
 pub record Renders (P : Printable) (text words b : List ℕ) (r : Rendered) (b' : List ℕ) : Type 0 where
-  pub gives : Gives P b r b' (heldFor P text words)
+  pub gives : Gives P b r b' (held_for P text words)
 
 -- the same by the tree whose words a checked table has
 pub record Makes (P : Printable) (words b : List ℕ) (r : Rendered) (b' : List ℕ) : Type 0 where

@@ -4,9 +4,9 @@ use Rattle.std.proofs.Math.Option.{Option}
 use Rattle.lexing.specs.Answer.{pick}
 use Rattle.lexing.specs.Bytes.{bytes}
 use Rattle.tree.specs.Ast.{Expr, CallArgument, FParameter, PParameter, Variable, Stmt, VarDecl, Block, AForall, Choose, If, IfCase, Loop, LabeledStmt, Stmts, Cases, AExpr, AExprs}
-use Rattle.tree.specs.Words.{nameWords, optionWords, seqWords, exprWords, variableWords, callArgumentWords, fParameterWords, pParameterWords}
-use Rattle.tree.specs.Words.{stmtWords, stmtsWords, casesWords, aExprWords, aExprsWords}
-use Rattle.tree.specs.Counted.{Noted, stmtCount, CountedOption, CountedItems, CountedExpr, CountedStmt, CountedStmts, CountedCases, CountedAExpr, CountedAExprs}
+use Rattle.tree.specs.Words.{name_words, option_words, seq_words, expr_words, variable_words, call_argument_words, f_parameter_words, p_parameter_words}
+use Rattle.tree.specs.Words.{stmt_words, stmts_words, cases_words, a_expr_words, a_exprs_words}
+use Rattle.tree.specs.Counted.{Noted, stmt_count, CountedOption, CountedItems, CountedExpr, CountedStmt, CountedStmts, CountedCases, CountedAExpr, CountedAExprs}
 use Rattle.tree.specs.Check.{NameIn}
 use Rattle.rendering.specs.declared.items.Item.{Item}
 use Rattle.rendering.specs.declared.items.Item.TheVariants.{Name, Argument, Formal, Parameter}
@@ -15,19 +15,19 @@ use Rattle.layout.specs.Printer.{IdTypeDecl}
 use Rattle.layout.specs.Statements.{Before, Shown, optional, separated, mutability, inline, OptionalAutoInvariant, argument, shown, BlockAsStatementList, StmtAsBlock}
 use Rattle.layout.specs.Statements.{StatementList, choices, case_list, aexpr, PrintAExprs}
 use Rattle.layout.specs.Program.{formal, parameter}
-use Rattle.rendering.specs.Tables.{nameIn}
+use Rattle.rendering.specs.Tables.{name_in}
 use Rattle.rendering.specs.ExprParts.{Ready}
 use Rattle.rendering.specs.Parts.{Part}
 
 -- ---- words that choose a text
 
 -- `ParameterMode` by the mode's word
-abbrev pub modeBytes : ℕ → List ℕ
-modeBytes w = pick (eqb w 2) (bytes "inout ") (pick (eqb w 3) (bytes "out ") [])
+abbrev pub mode_bytes : ℕ → List ℕ
+mode_bytes w = pick (eqb w 2) (bytes "inout ") (pick (eqb w 3) (bytes "out ") [])
 
 -- the word of a statement of `ExpressionStmt` by the statement's word
-abbrev pub keywordBytes : ℕ → List ℕ
-keywordBytes w =
+abbrev pub keyword_bytes : ℕ → List ℕ
+keyword_bytes w =
     pick (eqb w 26) (bytes "check ")
     (pick (eqb w 27) (bytes "assume ") (pick (eqb w 28) (bytes "reach ") (pick (eqb w 29) (bytes "assert ") (bytes "probe "))))
 
@@ -51,7 +51,7 @@ pub record NextName (table : List ℕ) (at next : ℕ) : Type 0 where
 
 -- what a test says of the statement at a place
 pub record Tells (table : List ℕ) (at : ℕ) (test : Shown → Bool) (r : Bool) : Type 0 where
-  pub tells : (text : List ℕ) (step : ℕ) (t : Stmt (NameIn (length text))) (rest : List ℕ) → drop at table ≡ stmtWords (λ n. n.span) t rest → r ≡ test (shown (nameIn text) step t)
+  pub tells : (text : List ℕ) (step : ℕ) (t : Stmt (NameIn (length text))) (rest : List ℕ) → drop at table ≡ stmt_words (λ n. n.span) t rest → r ≡ test (shown (name_in text) step t)
 
 -- ---- parts that need nothing
 
@@ -63,35 +63,35 @@ module _ (text : List ℕ) where
   N = NameIn (length text)
 
   abbrev pub named : N → Before
-  named n rest = nameIn text n ▹ rest
+  named n rest = name_in text n ▹ rest
 
   -- a name and text after it
-  abbrev pub nameHead : List ℕ → Part
-  nameHead suffix = free (nameWords (λ n. n.span)) (λ (n : N) rest. nameIn text n ▹ suffix ▹ rest)
+  abbrev pub name_head : List ℕ → Part
+  name_head suffix = free (name_words (λ n. n.span)) (λ (n : N) rest. name_in text n ▹ suffix ▹ rest)
 
   -- an optional name after text
-  abbrev pub optionalName : List ℕ → Part
-  optionalName prefix = free (optionWords (nameWords (λ n. n.span))) (λ (o : Option N) rest. optional named prefix o rest)
+  abbrev pub optional_name : List ℕ → Part
+  optional_name prefix = free (option_words (name_words (λ n. n.span))) (λ (o : Option N) rest. optional named prefix o rest)
 
   -- a name and its type, with one word between them
-  abbrev pub typedApart : Part
-  typedApart =
-      free (λ (a : N × ℕ × N) rest. nameWords (λ n. n.span) a.0 (a.1 ∷ nameWords (λ n. n.span) a.2 rest))
-      (λ a rest. nameIn text a.0 ▹ ": " ▸ nameIn text a.2 ▹ rest)
+  abbrev pub typed_apart : Part
+  typed_apart =
+      free (λ (a : N × ℕ × N) rest. name_words (λ n. n.span) a.0 (a.1 ∷ name_words (λ n. n.span) a.2 rest))
+      (λ a rest. name_in text a.0 ▹ ": " ▸ name_in text a.2 ▹ rest)
 
   -- a function's parameter
-  abbrev pub formalPart : Part
-  formalPart = free (fParameterWords (λ n. n.span)) (λ (a : FParameter N) rest. formal (nameIn text) a rest)
+  abbrev pub formal_part : Part
+  formal_part = free (f_parameter_words (λ n. n.span)) (λ (a : FParameter N) rest. formal (name_in text) a rest)
 
   -- the label of an Exit
-  abbrev pub anExit : Part
-  anExit = free (optionWords (nameWords (λ n. n.span))) (λ (o : Option N) rest. "exit" ▸ optional named (bytes " ") o ("\n" ▸ rest))
+  abbrev pub an_exit : Part
+  an_exit = free (option_words (name_words (λ n. n.span))) (λ (o : Option N) rest. "exit" ▸ optional named (bytes " ") o ("\n" ▸ rest))
 
   -- of a `forall`, before its body
-  abbrev pub forHead : Part
-  forHead =
-      free (λ (a : N × N) rest. nameWords (λ n. n.span) a.0 (nameWords (λ n. n.span) a.1 rest))
-      (λ a rest. "forall " ▸ nameIn text a.0 ▹ ": " ▸ nameIn text a.1 ▹ " " ▸ rest)
+  abbrev pub for_head : Part
+  for_head =
+      free (λ (a : N × N) rest. name_words (λ n. n.span) a.0 (name_words (λ n. n.span) a.1 rest))
+      (λ a rest. "forall " ▸ name_in text a.0 ▹ ": " ▸ name_in text a.1 ▹ " " ▸ rest)
 
   -- ---- parts with counted sequences, at a place and an indent
 
@@ -101,20 +101,20 @@ module _ (text : List ℕ) where
     counted {A} Counted words print =
         record { Tree = A; given = λ a rest. Ready table step at indent × Counted a rest; words = words; print = print }
 
-    abbrev pub exprCounted : Expr N → List ℕ → Type 0
-    exprCounted = CountedExpr (λ n. n.span) counts (length table)
+    abbrev pub expr_counted : Expr N → List ℕ → Type 0
+    expr_counted = CountedExpr (λ n. n.span) counts (length table)
 
-    abbrev pub stmtCounted : Stmt N → List ℕ → Type 0
-    stmtCounted = CountedStmt (λ n. n.span) counts (length table)
+    abbrev pub stmt_counted : Stmt N → List ℕ → Type 0
+    stmt_counted = CountedStmt (λ n. n.span) counts (length table)
 
     -- an expression on one line
-    abbrev pub oneLine : Part
-    oneLine = counted exprCounted (exprWords (λ n. n.span)) (λ e rest. inline (nameIn text) step e rest)
+    abbrev pub one_line : Part
+    one_line = counted expr_counted (expr_words (λ n. n.span)) (λ e rest. inline (name_in text) step e rest)
 
     -- an optional expression after text
-    abbrev pub optionalExpr : List ℕ → Part
-    optionalExpr prefix =
-        counted (CountedOption exprCounted) (optionWords (exprWords (λ n. n.span))) (λ o rest. optional (inline (nameIn text) step) prefix o rest)
+    abbrev pub optional_expr : List ℕ → Part
+    optional_expr prefix =
+        counted (CountedOption expr_counted) (option_words (expr_words (λ n. n.span))) (λ o rest. optional (inline (name_in text) step) prefix o rest)
 
     -- ---- lists of names, arguments and parameters
 
@@ -124,158 +124,158 @@ module _ (text : List ℕ) where
     ItemTree Formal = FParameter N
     ItemTree Parameter = PParameter N
 
-    abbrev pub itemWords : (k : Item) → ItemTree k → List ℕ → List ℕ
-    itemWords Name = nameWords (λ n. n.span)
-    itemWords Argument = callArgumentWords (λ n. n.span)
-    itemWords Formal = fParameterWords (λ n. n.span)
-    itemWords Parameter = pParameterWords (λ n. n.span)
+    abbrev pub item_words : (k : Item) → ItemTree k → List ℕ → List ℕ
+    item_words Name = name_words (λ n. n.span)
+    item_words Argument = call_argument_words (λ n. n.span)
+    item_words Formal = f_parameter_words (λ n. n.span)
+    item_words Parameter = p_parameter_words (λ n. n.span)
 
-    abbrev pub itemPrint : (k : Item) → ItemTree k → Before
-    itemPrint Name = named
-    itemPrint Argument = argument (nameIn text) step
-    itemPrint Formal = formal (nameIn text)
-    itemPrint Parameter = parameter (nameIn text) step
+    abbrev pub item_print : (k : Item) → ItemTree k → Before
+    item_print Name = named
+    item_print Argument = argument (name_in text) step
+    item_print Formal = formal (name_in text)
+    item_print Parameter = parameter (name_in text) step
 
     abbrev pub ItemCounted : (k : Item) → ItemTree k → List ℕ → Type 0
     ItemCounted Name a rest = Unit {0}
-    ItemCounted Argument a rest = exprCounted a.arg rest
+    ItemCounted Argument a rest = expr_counted a.arg rest
     ItemCounted Formal a rest = Unit {0}
-    ItemCounted Parameter a rest = CountedOption exprCounted a.optionalAutoInv rest
+    ItemCounted Parameter a rest = CountedOption expr_counted a.optional_auto_inv rest
 
-    abbrev pub anItem : Item → Part
-    anItem k = counted (ItemCounted k) (itemWords k) (itemPrint k)
+    abbrev pub an_item : Item → Part
+    an_item k = counted (ItemCounted k) (item_words k) (item_print k)
 
-    abbrev pub itemList : Item → List ℕ → Part
-    itemList k first =
-        counted (CountedItems (itemWords k) (ItemCounted k)) (seqWords (itemWords k)) (λ l rest. separated (itemPrint k) first (bytes ", ") l rest)
+    abbrev pub item_list : Item → List ℕ → Part
+    item_list k first =
+        counted (CountedItems (item_words k) (ItemCounted k)) (seq_words (item_words k)) (λ l rest. separated (item_print k) first (bytes ", ") l rest)
 
     -- ---- statements without statements in them, after their word
 
-    abbrev pub anAssign : Part
-    anAssign =
-        counted (λ (a : N × Expr N) rest. exprCounted a.1 rest) (λ a rest. nameWords (λ n. n.span) a.0 (exprWords (λ n. n.span) a.1 rest))
-        (λ a rest. nameIn text a.0 ▹ " := " ▸ inline (nameIn text) step a.1 ("\n" ▸ rest))
+    abbrev pub an_assign : Part
+    an_assign =
+        counted (λ (a : N × Expr N) rest. expr_counted a.1 rest) (λ a rest. name_words (λ n. n.span) a.0 (expr_words (λ n. n.span) a.1 rest))
+        (λ a rest. name_in text a.0 ▹ " := " ▸ inline (name_in text) step a.1 ("\n" ▸ rest))
 
-    abbrev pub aReinit : Part
-    aReinit = counted (λ (l : List N) rest. Unit {0}) (seqWords (nameWords (λ n. n.span))) (λ l rest. "reinit " ▸ separated named [] (bytes ", ") l ("\n" ▸ rest))
+    abbrev pub a_reinit : Part
+    a_reinit = counted (λ (l : List N) rest. Unit {0}) (seq_words (name_words (λ n. n.span))) (λ l rest. "reinit " ▸ separated named [] (bytes ", ") l ("\n" ▸ rest))
 
-    abbrev pub aCallStmt : Part
-    aCallStmt =
-        counted (λ (a : N × List (CallArgument N)) rest. CountedItems (itemWords Argument) (ItemCounted Argument) a.1 rest)
-        (λ a rest. nameWords (λ n. n.span) a.0 (seqWords (callArgumentWords (λ n. n.span)) a.1 rest))
-        (λ a rest. nameIn text a.0 ▹ "(" ▸ separated (argument (nameIn text) step) [] (bytes ", ") a.1 (")\n" ▸ rest))
+    abbrev pub a_call_stmt : Part
+    a_call_stmt =
+        counted (λ (a : N × List (CallArgument N)) rest. CountedItems (item_words Argument) (ItemCounted Argument) a.1 rest)
+        (λ a rest. name_words (λ n. n.span) a.0 (seq_words (call_argument_words (λ n. n.span)) a.1 rest))
+        (λ a rest. name_in text a.0 ▹ "(" ▸ separated (argument (name_in text) step) [] (bytes ", ") a.1 (")\n" ▸ rest))
 
     -- with its word
-    abbrev pub anExpressionStmt : Part
-    anExpressionStmt =
-        counted (λ (a : ℕ × Expr N) rest. exprCounted a.1 rest) (λ a rest. a.0 ∷ exprWords (λ n. n.span) a.1 rest)
-        (λ a rest. keywordBytes a.0 ▹ inline (nameIn text) step a.1 ("\n" ▸ rest))
+    abbrev pub an_expression_stmt : Part
+    an_expression_stmt =
+        counted (λ (a : ℕ × Expr N) rest. expr_counted a.1 rest) (λ a rest. a.0 ∷ expr_words (λ n. n.span) a.1 rest)
+        (λ a rest. keyword_bytes a.0 ▹ inline (name_in text) step a.1 ("\n" ▸ rest))
 
     -- ---- statements
 
     -- a statement without its initial indent
-    abbrev pub aStmt : (followed : Bool) → Part
-    aStmt followed = counted stmtCounted (stmtWords (λ n. n.span)) (λ s rest. (shown (nameIn text) step s).print indent followed rest)
+    abbrev pub a_stmt : (followed : Bool) → Part
+    a_stmt followed = counted stmt_counted (stmt_words (λ n. n.span)) (λ s rest. (shown (name_in text) step s).print indent followed rest)
 
     -- the statements that are made in one way
-    abbrev pub madeStmt : {A : Type 0} → (A → Stmt N) → (followed : Bool) → Part
-    madeStmt {A} make followed =
-        counted (λ (a : A) rest. stmtCounted (make a) rest) (λ a rest. stmtWords (λ n. n.span) (make a) rest)
-        (λ a rest. (shown (nameIn text) step (make a)).print indent followed rest)
+    abbrev pub made_stmt : {A : Type 0} → (A → Stmt N) → (followed : Bool) → Part
+    made_stmt {A} make followed =
+        counted (λ (a : A) rest. stmt_counted (make a) rest) (λ a rest. stmt_words (λ n. n.span) (make a) rest)
+        (λ a rest. (shown (name_in text) step (make a)).print indent followed rest)
 
     -- a statement without statements in it
-    abbrev pub simplePart : (followed : Bool) → Part
-    simplePart followed =
+    abbrev pub simple_part : (followed : Bool) → Part
+    simple_part followed =
         record {
           Tree = Stmt N;
-          given = λ s rest. Simple (get_or table at 0) × Ready table step at 0 × stmtCounted s rest;
-          words = stmtWords (λ n. n.span);
-          print = λ s rest. (shown (nameIn text) step s).print indent followed rest;
+          given = λ s rest. Simple (get_or table at 0) × Ready table step at 0 × stmt_counted s rest;
+          words = stmt_words (λ n. n.span);
+          print = λ s rest. (shown (name_in text) step s).print indent followed rest;
         }
 
     -- a variable's declaration before its body
-    abbrev pub variableHead : Part
-    variableHead =
+    abbrev pub variable_head : Part
+    variable_head =
         counted
         (λ (a : Variable N × Option (Expr N)) rest.
-        CountedOption exprCounted a.0.optionalAutoInv (optionWords (exprWords (λ n. n.span)) a.1 rest) × CountedOption exprCounted a.1 rest)
-        (λ a rest. variableWords (λ n. n.span) a.0 (optionWords (exprWords (λ n. n.span)) a.1 rest))
-        (λ a rest. IdTypeDecl (nameIn text) (bytes (mutability a.0.isMutable)) a.0.name a.0.optionalType
-        (OptionalAutoInvariant (nameIn text) step a.0.optionalAutoInv (optional (inline (nameIn text) step) (bytes " := ") a.1 ("\n" ▸ rest))))
+        CountedOption expr_counted a.0.optional_auto_inv (option_words (expr_words (λ n. n.span)) a.1 rest) × CountedOption expr_counted a.1 rest)
+        (λ a rest. variable_words (λ n. n.span) a.0 (option_words (expr_words (λ n. n.span)) a.1 rest))
+        (λ a rest. IdTypeDecl (name_in text) (bytes (mutability a.0.is_mutable)) a.0.name a.0.optional_type
+        (OptionalAutoInvariant (name_in text) step a.0.optional_auto_inv (optional (inline (name_in text) step) (bytes " := ") a.1 ("\n" ▸ rest))))
 
     -- the statements with statements in them
-    abbrev pub aVariable : (followed : Bool) → Part
-    aVariable followed = madeStmt (λ (a : Variable N × Option (Expr N) × Stmt N). VarDecl a.0 a.1 a.2) followed
+    abbrev pub a_variable : (followed : Bool) → Part
+    a_variable followed = made_stmt (λ (a : Variable N × Option (Expr N) × Stmt N). VarDecl a.0 a.1 a.2) followed
 
-    abbrev pub aBraces : Part
-    aBraces = madeStmt (λ (a : Stmts N). Block a) false
+    abbrev pub a_braces : Part
+    a_braces = made_stmt (λ (a : Stmts N). Block a) false
 
-    abbrev pub aForall : Part
-    aForall = madeStmt (λ (a : N × N × Stmt N). AForall a.0 a.1 a.2) false
+    abbrev pub a_forall : Part
+    a_forall = made_stmt (λ (a : N × N × Stmt N). AForall a.0 a.1 a.2) false
 
-    abbrev pub aChoose : Part
-    aChoose = madeStmt (λ (a : Stmts N). Choose a) false
+    abbrev pub a_choose : Part
+    a_choose = made_stmt (λ (a : Stmts N). Choose a) false
 
-    abbrev pub anIf : Part
-    anIf = madeStmt (λ (a : Expr N × Stmt N × Stmt N). If a.0 a.1 a.2) false
+    abbrev pub an_if : Part
+    an_if = made_stmt (λ (a : Expr N × Stmt N × Stmt N). If a.0 a.1 a.2) false
 
-    abbrev pub anIfCase : Part
-    anIfCase = madeStmt (λ (a : Cases N). IfCase a) false
+    abbrev pub an_if_case : Part
+    an_if_case = made_stmt (λ (a : Cases N). IfCase a) false
 
-    abbrev pub aLoop : Part
-    aLoop = madeStmt (λ (a : AExprs N × Stmt N). Loop a.0 a.1) false
+    abbrev pub a_loop : Part
+    a_loop = made_stmt (λ (a : AExprs N × Stmt N). Loop a.0 a.1) false
 
-    abbrev pub aLabelled : Part
-    aLabelled = madeStmt (λ (a : N × Stmt N). LabeledStmt a.0 a.1) false
+    abbrev pub a_labelled : Part
+    a_labelled = made_stmt (λ (a : N × Stmt N). LabeledStmt a.0 a.1) false
 
     -- `BlockAsStatementList`
-    abbrev pub anInner : (followed : Bool) → Part
-    anInner followed = counted stmtCounted (stmtWords (λ n. n.span)) (λ s rest. BlockAsStatementList (nameIn text) step (shown (nameIn text) step s) indent followed rest)
+    abbrev pub an_inner : (followed : Bool) → Part
+    an_inner followed = counted stmt_counted (stmt_words (λ n. n.span)) (λ s rest. BlockAsStatementList (name_in text) step (shown (name_in text) step s) indent followed rest)
 
     -- `StmtAsBlock` without its suffix
-    abbrev pub aBlock : Part
-    aBlock =
+    abbrev pub a_block : Part
+    a_block =
         record {
           Tree = Stmt N;
-          given = λ s rest. Ready table step at (indent + step) × stmtCounted s rest;
-          words = stmtWords (λ n. n.span);
-          print = λ s rest. StmtAsBlock (nameIn text) step (shown (nameIn text) step s) indent "" rest;
+          given = λ s rest. Ready table step at (indent + step) × stmt_counted s rest;
+          words = stmt_words (λ n. n.span);
+          print = λ s rest. StmtAsBlock (name_in text) step (shown (name_in text) step s) indent "" rest;
         }
 
     -- a statement after `else` or a label
-    abbrev pub anOnward : (stays : Bool) → Part
-    anOnward stays =
+    abbrev pub an_onward : (stays : Bool) → Part
+    an_onward stays =
         record {
           Tree = Stmt N;
-          given = λ s rest. Ready table step at (indent + step) × stmtCounted s rest;
-          words = stmtWords (λ n. n.span);
-          print = λ s rest. let e = shown (nameIn text) step s in pick stays (e.print indent false rest) (StmtAsBlock (nameIn text) step e indent "\n" rest);
+          given = λ s rest. Ready table step at (indent + step) × stmt_counted s rest;
+          words = stmt_words (λ n. n.span);
+          print = λ s rest. let e = shown (name_in text) step s in pick stays (e.print indent false rest) (StmtAsBlock (name_in text) step e indent "\n" rest);
         }
 
     -- ---- sequences of statements
 
     -- `StatementList`
-    abbrev pub statementList : Part
-    statementList =
+    abbrev pub statement_list : Part
+    statement_list =
         counted
-        (λ (ss : Stmts N) rest. Noted {N = N} (λ n. n.span) counts (length table) (stmtsWords (λ n. n.span) ss rest) (stmtCount ss) × CountedStmts (λ n. n.span) counts (length table) ss rest)
-        (stmtsWords (λ n. n.span)) (λ ss rest. StatementList (nameIn text) step ss indent rest)
+        (λ (ss : Stmts N) rest. Noted {N = N} (λ n. n.span) counts (length table) (stmts_words (λ n. n.span) ss rest) (stmt_count ss) × CountedStmts (λ n. n.span) counts (length table) ss rest)
+        (stmts_words (λ n. n.span)) (λ ss rest. StatementList (name_in text) step ss indent rest)
 
     -- the last so many statements of a list
-    abbrev pub lastStatements : (left : ℕ) → Part
-    lastStatements left =
-        counted (λ (ss : Stmts N) rest. (left ≡ stmtCount ss) × CountedStmts (λ n. n.span) counts (length table) ss rest)
-        (stmtsWords (λ n. n.span)) (λ ss rest. StatementList (nameIn text) step ss indent rest)
+    abbrev pub last_statements : (left : ℕ) → Part
+    last_statements left =
+        counted (λ (ss : Stmts N) rest. (left ≡ stmt_count ss) × CountedStmts (λ n. n.span) counts (length table) ss rest)
+        (stmts_words (λ n. n.span)) (λ ss rest. StatementList (name_in text) step ss indent rest)
 
-    abbrev pub branchList : Part
-    branchList = counted (CountedStmts (λ n. n.span) counts (length table)) (stmtsWords (λ n. n.span)) (λ ss rest. choices (nameIn text) step ss indent rest)
+    abbrev pub branch_list : Part
+    branch_list = counted (CountedStmts (λ n. n.span) counts (length table)) (stmts_words (λ n. n.span)) (λ ss rest. choices (name_in text) step ss indent rest)
 
-    abbrev pub caseSequence : Part
-    caseSequence = counted (CountedCases (λ n. n.span) counts (length table)) (casesWords (λ n. n.span)) (λ cs rest. case_list (nameIn text) step cs indent rest)
+    abbrev pub case_sequence : Part
+    case_sequence = counted (CountedCases (λ n. n.span) counts (length table)) (cases_words (λ n. n.span)) (λ cs rest. case_list (name_in text) step cs indent rest)
 
-    abbrev pub anAExpr : Part
-    anAExpr = counted (CountedAExpr (λ n. n.span) counts (length table)) (aExprWords (λ n. n.span)) (λ a rest. aexpr (nameIn text) step a indent rest)
+    abbrev pub an_a_expr : Part
+    an_a_expr = counted (CountedAExpr (λ n. n.span) counts (length table)) (a_expr_words (λ n. n.span)) (λ a rest. aexpr (name_in text) step a indent rest)
 
     -- `PrintAExprs`
-    abbrev pub aExprList : List ℕ → Part
-    aExprList prefix = counted (CountedAExprs (λ n. n.span) counts (length table)) (aExprsWords (λ n. n.span)) (λ es rest. PrintAExprs (nameIn text) step es prefix indent rest)
+    abbrev pub a_expr_list : List ℕ → Part
+    a_expr_list prefix = counted (CountedAExprs (λ n. n.span) counts (length table)) (a_exprs_words (λ n. n.span)) (λ es rest. PrintAExprs (name_in text) step es prefix indent rest)

@@ -2,11 +2,11 @@
 ghost use Rattle.std.specs.Prelude.{◌-◌, ◌≡◌, ◌++◌, get_or};
 ghost use Rattle.lexing.specs.Answer.{pick};
 ghost use Rattle.lexing.specs.Bytes.{bytes};
-ghost use Rattle.layout.specs.PrintUtil.{Indent, deeperBy};
+ghost use Rattle.layout.specs.PrintUtil.{Indent, deeper_by};
 ghost use Rattle.layout.specs.Text.{unless};
 ghost use Rattle.rendering.specs.Wrote.{Wrote};
 ghost use Rattle.rendering.specs.Parts.{Prints};
-ghost use Rattle.rendering.specs.StmtParts.{variableHead, forHead, Tells};
+ghost use Rattle.rendering.specs.StmtParts.{variable_head, for_head, Tells};
 
 use crate::items::{after_name, optional_expr, optional_name};
 use crate::parts::{Advance, after, put_name, typed};
@@ -25,7 +25,7 @@ pub(crate) fn variable(
     out: &mut [u8],
     pos: usize,
 ) -> Advance
-    ensures { Prints (variableHead text.now words.now counts.now step at 0) words.now at out.old pos out.new result }
+    ensures { Prints (variable_head text.now words.now counts.now step at 0) words.now at out.old pos out.new result }
 {
     let third = after_name(words, at);
     let a = put_either(out, pos, get(words, third) == FALSE, b"val ", b"var ");
@@ -41,7 +41,7 @@ pub(crate) fn variable(
 
 // The indent of a declaration: one step deeper in braces of its own.
 pub(crate) fn indent_inside(followed: bool, indent: usize, step: usize) -> usize
-    ensures { result ≡ pick followed indent (deeperBy step indent) }
+    ensures { result ≡ pick followed indent (deeper_by step indent) }
 {
     if followed {
         return indent;
@@ -67,7 +67,7 @@ pub(crate) fn close_own(out: &mut [u8], pos: usize, followed: bool, indent: usiz
 
 // What stands before the body of a `forall`.
 pub(crate) fn for_head(text: &[u8], words: &[u32], at: usize, out: &mut [u8], pos: usize) -> Advance
-    ensures { Prints (forHead text.now) words.now at out.old pos out.new result }
+    ensures { Prints (for_head text.now) words.now at out.old pos out.new result }
 {
     let a = put(out, pos, b"forall ");
     let s = typed(text, words, at, out, a);
@@ -88,7 +88,7 @@ pub(crate) fn no_cases(out: &mut [u8], pos: usize, skip: bool, indent: usize) ->
 }
 
 pub(crate) fn is_empty_block(words: &[u32], at: usize) -> bool
-    ensures { Tells words.now at (λ s. s.isEmptyBlock) result }
+    ensures { Tells words.now at (λ s. s.is_empty_block) result }
 {
     if get(words, at) == BLOCK {
         return get(words, after(words, at)) == NO_MORE;
@@ -98,7 +98,7 @@ pub(crate) fn is_empty_block(words: &[u32], at: usize) -> bool
 
 // `If? || IfCase?`
 pub(crate) fn is_conditional(words: &[u32], at: usize) -> bool
-    ensures { Tells words.now at (λ s. s.isIf) result }
+    ensures { Tells words.now at (λ s. s.is_if) result }
 {
     if get(words, at) == IF {
         return true;
@@ -107,7 +107,7 @@ pub(crate) fn is_conditional(words: &[u32], at: usize) -> bool
 }
 
 pub(crate) fn is_loop(words: &[u32], at: usize) -> bool
-    ensures { Tells words.now at (λ s. s.isLoop) result }
+    ensures { Tells words.now at (λ s. s.is_loop) result }
 {
     get(words, at) == LOOP
 }

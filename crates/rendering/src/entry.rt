@@ -1,10 +1,10 @@
 // The print of the tree that a table holds, in a buffer: refusals 6 to 8 (REFERENCE, "The refusals"), once for whatever tree.
 ghost use Rattle.std.specs.Prelude.{◌≤◌, ◌≡◌, length};
-ghost use Rattle.tree.specs.Limits.{mostText, mostWords};
+ghost use Rattle.tree.specs.Limits.{most_text, most_words};
 ghost use Rattle.tree.specs.Check.{refusal};
-ghost use Rattle.rendering.specs.Tables.{mostIndent};
+ghost use Rattle.rendering.specs.Tables.{most_indent};
 ghost use Rattle.rendering.specs.Parts.{Prints};
-ghost use Rattle.rendering.specs.Render.{rooted, rootIndent, rootCounts, rootPart, Numbered, Renders, Makes};
+ghost use Rattle.rendering.specs.Render.{rooted, root_indent, root_counts, root_part, Numbered, Renders, Makes};
 
 use crate::expression::expr;
 use crate::parts::Advance;
@@ -41,7 +41,7 @@ pub fn render(text: &[u8], words: &[u32], root: Root, buffer: &mut [u8]) -> Rend
 
 // The start indent of a root's print.
 fn start_indent(root: Root) -> usize
-    ensures { result ≡ rootIndent root }
+    ensures { result ≡ root_indent root }
 {
     match root {
         Root::AnExpression(format) => format.start_indent(),
@@ -57,7 +57,7 @@ fn render_counted(
     root: Root,
     buffer: &mut [u8],
 ) -> Rendered
-    requires { (length text.now ≤ mostText) × (rootIndent root ≤ mostIndent) × (length words.now ≤ mostWords → length words.now ≤ length counts.old) }
+    requires { (length text.now ≤ most_text) × (root_indent root ≤ most_indent) × (length words.now ≤ most_words → length words.now ≤ length counts.old) }
     ensures { Renders (rooted 2 text.now root) text.now words.now buffer.old result buffer.new }
 {
     let found = count_root(text, words, counts, root);
@@ -70,7 +70,7 @@ fn render_counted(
 
 // The check of a table by its root.
 fn count_root(text: &[u8], words: &[u32], counts: &mut [u16], root: Root) -> Checked
-    ensures { (refusal result ≡ (rooted 2 text.now root).refused words.now) × (counts.new ≡ rootCounts root words.now (length text.now) counts.old) }
+    ensures { (refusal result ≡ (rooted 2 text.now root).refused words.now) × (counts.new ≡ root_counts root words.now (length text.now) counts.old) }
 {
     match root {
         Root::AnExpression(_) => count_expression(words, text.len(), counts),
@@ -80,7 +80,7 @@ fn count_root(text: &[u8], words: &[u32], counts: &mut [u16], root: Root) -> Che
 
 // The print of a checked table's tree, by the numbers of items.
 fn render_by(text: &[u8], words: &[u32], counts: &[u16], root: Root, buffer: &mut [u8]) -> Rendered
-    requires { (rootIndent root ≤ mostIndent) × Numbered text.now words.now counts.now 2 root }
+    requires { (root_indent root ≤ most_indent) × Numbered text.now words.now counts.now 2 root }
     ensures { Makes (rooted 2 text.now root) words.now buffer.old result buffer.new }
 {
     let s = print_root(text, words, counts, root, buffer);
@@ -92,7 +92,7 @@ fn render_by(text: &[u8], words: &[u32], counts: &[u16], root: Root, buffer: &mu
 
 // The print of a table's tree from a buffer's first byte on, by its root.
 fn print_root(text: &[u8], words: &[u32], counts: &[u16], root: Root, buffer: &mut [u8]) -> Advance
-    ensures { Prints (rootPart text.now words.now counts.now 2 root) words.now 0 buffer.old 0 buffer.new result }
+    ensures { Prints (root_part text.now words.now counts.now 2 root) words.now 0 buffer.old 0 buffer.new result }
 {
     match root {
         Root::AnExpression(format) => {

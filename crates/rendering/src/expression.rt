@@ -4,7 +4,7 @@ mod list;
 
 ghost use Rattle.std.specs.Prelude.{◌<◌, length};
 ghost use Rattle.rendering.specs.Parts.{Prints};
-ghost use Rattle.rendering.specs.ExprParts.{anExpr, anOperatorExpr, aCall, aLabel, aLet, aQuantifier, aClosure, aForm, aListed, aUnary, aBinary, aConditional};
+ghost use Rattle.rendering.specs.ExprParts.{an_expr, an_operator_expr, a_call, a_label, a_let, a_quantifier, a_closure, a_form, a_listed, a_unary, a_binary, a_conditional};
 
 use crate::expression::list::{closures, exprs, patterns, properties};
 use crate::forms::{
@@ -34,7 +34,7 @@ pub(crate) fn expr(
     out: &mut [u8],
     pos: usize,
 ) -> Advance
-    ensures { Prints (anExpr text.now words.now counts.now step at context format) words.now at out.old pos out.new result }
+    ensures { Prints (an_expr text.now words.now counts.now step at context format) words.now at out.old pos out.new result }
 {
     match get(words, at) {
         OPERATOR_EXPR => oper(text, words, counts, step, at, context, format, out, pos),
@@ -61,7 +61,7 @@ fn oper(
     pos: usize,
 ) -> Advance
     requires { at < length words.now }
-    ensures { Prints (anOperatorExpr text.now words.now counts.now step at context format) words.now at out.old pos out.new result }
+    ensures { Prints (an_operator_expr text.now words.now counts.now step at context format) words.now at out.old pos out.new result }
 {
     let strength = binding_strength(get(words, at + 1));
     let a = parenthesis(strength, Side::Left, context, out, pos);
@@ -86,7 +86,7 @@ fn form(
     pos: usize,
 ) -> Advance
     requires { at < length words.now }
-    ensures { Prints (aForm text.now words.now counts.now step at context format) words.now at out.old pos out.new result }
+    ensures { Prints (a_form text.now words.now counts.now step at context format) words.now at out.old pos out.new result }
 {
     match operator_form(words, counts, at) {
         1 => unary(text, words, counts, step, at, context, out, pos),
@@ -108,7 +108,7 @@ fn unary(
     pos: usize,
 ) -> Advance
     requires { at < length words.now }
-    ensures { Prints (aUnary text.now words.now counts.now step at context) words.now at out.old pos out.new result }
+    ensures { Prints (a_unary text.now words.now counts.now step at context) words.now at out.old pos out.new result }
 {
     let op = at + 1;
     let right = operand_power(words, op, Side::Right, context);
@@ -143,7 +143,7 @@ fn binary(
     pos: usize,
 ) -> Advance
     requires { at < length words.now }
-    ensures { Prints (aBinary text.now words.now counts.now step at context format) words.now at out.old pos out.new result }
+    ensures { Prints (a_binary text.now words.now counts.now step at context format) words.now at out.old pos out.new result }
 {
     let op = at + 1;
     let left = operand_power(words, op, Side::Left, context);
@@ -183,7 +183,7 @@ fn cond(
     pos: usize,
 ) -> Advance
     requires { at < length words.now }
-    ensures { Prints (aConditional text.now words.now counts.now step at context format) words.now at out.old pos out.new result }
+    ensures { Prints (a_conditional text.now words.now counts.now step at context format) words.now at out.old pos out.new result }
 {
     let a = put(out, pos, b"if ");
     let s = expr(
@@ -243,7 +243,7 @@ fn listed(
     pos: usize,
 ) -> Advance
     requires { at < length words.now }
-    ensures { Prints (aListed text.now words.now counts.now step at) words.now at out.old pos out.new result }
+    ensures { Prints (a_listed text.now words.now counts.now step at) words.now at out.old pos out.new result }
 {
     let a = listed_head(words, at + 1, out, pos);
     let s = exprs(text, words, counts, step, at + 2, true, out, a);
@@ -265,7 +265,7 @@ fn call(
     pos: usize,
 ) -> Advance
     requires { at < length words.now }
-    ensures { Prints (aCall text.now words.now counts.now step at) words.now at out.old pos out.new result }
+    ensures { Prints (a_call text.now words.now counts.now step at) words.now at out.old pos out.new result }
 {
     let s = call_head(text, words, at + 1, out, pos);
     let t = exprs(text, words, counts, step, s.next, true, out, s.pos);
@@ -289,7 +289,7 @@ fn label(
     pos: usize,
 ) -> Advance
     requires { at < length words.now }
-    ensures { Prints (aLabel text.now words.now counts.now step at context format) words.now at out.old pos out.new result }
+    ensures { Prints (a_label text.now words.now counts.now step at context format) words.now at out.old pos out.new result }
 {
     let s = label_head(text, words, at + 1, context, out, pos);
     let right = BindingPower::ENDLESS_OPERATOR.subexpression_power(Side::Right, context);
@@ -314,7 +314,7 @@ fn let_expr(
     pos: usize,
 ) -> Advance
     requires { at < length words.now }
-    ensures { Prints (aLet text.now words.now counts.now step at context format) words.now at out.old pos out.new result }
+    ensures { Prints (a_let text.now words.now counts.now step at context format) words.now at out.old pos out.new result }
 {
     let s = let_head(text, words, at + 1, context, out, pos);
     let t = expr(
@@ -351,7 +351,7 @@ fn quant(
     pos: usize,
 ) -> Advance
     requires { at < length words.now }
-    ensures { Prints (aQuantifier text.now words.now counts.now step at context format) words.now at out.old pos out.new result }
+    ensures { Prints (a_quantifier text.now words.now counts.now step at context format) words.now at out.old pos out.new result }
 {
     let s = quantifier_head(text, words, at + 1, context, out, pos);
     let ind = format.more(step);
@@ -377,7 +377,7 @@ fn lift(
     pos: usize,
 ) -> Advance
     requires { at < length words.now }
-    ensures { Prints (aClosure text.now words.now counts.now step at) words.now at out.old pos out.new result }
+    ensures { Prints (a_closure text.now words.now counts.now step at) words.now at out.old pos out.new result }
 {
     let a = put(out, pos, b"lift ");
     let s = closures(text, words, counts, step, at + 1, true, out, a);

@@ -4,8 +4,8 @@ ghost use Rattle.lexing.specs.Answer.{pick};
 ghost use Rattle.lexing.specs.Bytes.{bytes};
 ghost use Rattle.layout.specs.declared.format.ExprFormatOption.TheVariants.{SingleLine};
 ghost use Rattle.layout.specs.PrintUtil.{Space, SubexpressionPower, ToString, BindingStrength};
-ghost use Rattle.layout.specs.Printer.{breaksLine};
-ghost use Rattle.rendering.specs.OperatorWords.{operatorOf};
+ghost use Rattle.layout.specs.Printer.{breaks_line};
+ghost use Rattle.rendering.specs.OperatorWords.{operator_of};
 ghost use Rattle.rendering.specs.Wrote.{Wrote};
 ghost use Rattle.rendering.specs.ExprParts.{FormIs, ElseFormat, ElseHead};
 
@@ -36,14 +36,14 @@ pub(crate) fn operand_power(
     side: Side,
     context: BindingPower,
 ) -> BindingPower
-    ensures { result ≡ SubexpressionPower (BindingStrength (operatorOf (get_or words.now at 0))) side context }
+    ensures { result ≡ SubexpressionPower (BindingStrength (operator_of (get_or words.now at 0))) side context }
 {
     binding_strength(get(words, at)).subexpression_power(side, context)
 }
 
 // The format after an operator: the line may be broken after some.
 pub(crate) fn format_after(words: &[u32], at: usize, format: ExprFormatOption) -> ExprFormatOption
-    ensures { result ≡ pick (breaksLine (operatorOf (get_or words.now at 0))) format SingleLine }
+    ensures { result ≡ pick (breaks_line (operator_of (get_or words.now at 0))) format SingleLine }
 {
     if breaks_line(get(words, at)) {
         return format;
@@ -59,7 +59,7 @@ pub(crate) fn put_sign(
     out: &mut [u8],
     pos: usize,
 ) -> usize
-    ensures { Wrote (λ rest. bytes " " ++ (bytes (ToString (operatorOf (get_or words.now at 0))) ++ (Space format ++ rest))) out.old pos out.new result }
+    ensures { Wrote (λ rest. bytes " " ++ (bytes (ToString (operator_of (get_or words.now at 0))) ++ (Space format ++ rest))) out.old pos out.new result }
 {
     let a = put(out, pos, b" ");
     let b = put_operator(out, a, get(words, at));
@@ -68,7 +68,7 @@ pub(crate) fn put_sign(
 
 // What stands before the operands of `op(args)`.
 pub(crate) fn listed_head(words: &[u32], at: usize, out: &mut [u8], pos: usize) -> usize
-    ensures { Wrote (λ rest. bytes (ToString (operatorOf (get_or words.now at 0))) ++ (bytes "(" ++ rest)) out.old pos out.new result }
+    ensures { Wrote (λ rest. bytes (ToString (operator_of (get_or words.now at 0))) ++ (bytes "(" ++ rest)) out.old pos out.new result }
 {
     let a = put_operator(out, pos, get(words, at));
     put(out, a, b"(")

@@ -4,7 +4,7 @@ ghost use Rattle.std.specs.Prelude.{◌++◌, get_or};
 ghost use Rattle.rendering.specs.declared.items.Item.TheVariants.{Argument, Parameter};
 ghost use Rattle.rendering.specs.Wrote.{Wrote};
 ghost use Rattle.rendering.specs.Parts.{Prints};
-ghost use Rattle.rendering.specs.StmtParts.{oneLine, optionalName, optionalExpr, modeBytes, nameHead, itemList, anItem, typedApart, NextName, formalPart};
+ghost use Rattle.rendering.specs.StmtParts.{one_line, optional_name, optional_expr, mode_bytes, name_head, item_list, an_item, typed_apart, NextName, formal_part};
 
 use crate::expression::expr;
 use crate::parts::{Advance, after, put_name};
@@ -23,7 +23,7 @@ pub(crate) fn inline(
     out: &mut [u8],
     pos: usize,
 ) -> Advance
-    ensures { Prints (oneLine text.now words.now counts.now step at 0) words.now at out.old pos out.new result }
+    ensures { Prints (one_line text.now words.now counts.now step at 0) words.now at out.old pos out.new result }
 {
     expr(
         text,
@@ -47,7 +47,7 @@ pub(crate) fn optional_name(
     out: &mut [u8],
     pos: usize,
 ) -> Advance
-    ensures { Prints (optionalName text.now prefix.now) words.now at out.old pos out.new result }
+    ensures { Prints (optional_name text.now prefix.now) words.now at out.old pos out.new result }
 {
     let inside = after(words, at);
     if get(words, at) == NO_MORE {
@@ -68,7 +68,7 @@ pub(crate) fn optional_expr(
     out: &mut [u8],
     pos: usize,
 ) -> Advance
-    ensures { Prints (optionalExpr text.now words.now counts.now step at 0 prefix.now) words.now at out.old pos out.new result }
+    ensures { Prints (optional_expr text.now words.now counts.now step at 0 prefix.now) words.now at out.old pos out.new result }
 {
     let inside = after(words, at);
     if get(words, at) == NO_MORE {
@@ -80,7 +80,7 @@ pub(crate) fn optional_expr(
 
 // `ParameterMode`.
 pub(crate) fn put_mode(words: &[u32], at: usize, out: &mut [u8], pos: usize) -> usize
-    ensures { Wrote (λ rest. modeBytes (get_or words.now at 0) ++ rest) out.old pos out.new result }
+    ensures { Wrote (λ rest. mode_bytes (get_or words.now at 0) ++ rest) out.old pos out.new result }
 {
     match get(words, at) {
         IN_OUT => put(out, pos, b"inout "),
@@ -98,7 +98,7 @@ pub(crate) fn name_head(
     out: &mut [u8],
     pos: usize,
 ) -> Advance
-    ensures { Prints (nameHead text.now suffix.now) words.now at out.old pos out.new result }
+    ensures { Prints (name_head text.now suffix.now) words.now at out.old pos out.new result }
 {
     let s = put_name(text, words, at, out, pos);
     Advance {
@@ -130,7 +130,7 @@ pub(crate) fn separated(
     out: &mut [u8],
     pos: usize,
 ) -> Advance
-    ensures { Prints (itemList text.now words.now counts.now step at 0 kind first.now) words.now at out.old pos out.new result }
+    ensures { Prints (item_list text.now words.now counts.now step at 0 kind first.now) words.now at out.old pos out.new result }
 {
     let inside = after(words, at);
     if get(words, at) == NO_MORE {
@@ -151,7 +151,7 @@ fn one(
     out: &mut [u8],
     pos: usize,
 ) -> Advance
-    ensures { Prints (anItem text.now words.now counts.now step at 0 kind) words.now at out.old pos out.new result }
+    ensures { Prints (an_item text.now words.now counts.now step at 0 kind) words.now at out.old pos out.new result }
 {
     match kind {
         Item::Name => put_name(text, words, at, out, pos),
@@ -170,7 +170,7 @@ fn argument(
     out: &mut [u8],
     pos: usize,
 ) -> Advance
-    ensures { Prints (anItem text.now words.now counts.now step at 0 Argument) words.now at out.old pos out.new result }
+    ensures { Prints (an_item text.now words.now counts.now step at 0 Argument) words.now at out.old pos out.new result }
 {
     let a = put_mode(words, at, out, pos);
     inline(text, words, counts, step, after(words, at), out, a)
@@ -178,7 +178,7 @@ fn argument(
 
 // A name and its type, with one word between them.
 fn typed_apart(text: &[u8], words: &[u32], at: usize, out: &mut [u8], pos: usize) -> Advance
-    ensures { Prints (typedApart text.now) words.now at out.old pos out.new result }
+    ensures { Prints (typed_apart text.now) words.now at out.old pos out.new result }
 {
     let s = name_head(text, words, at, b": ", out, pos);
     put_name(text, words, after(words, s.next), out, s.pos)
@@ -193,7 +193,7 @@ pub(crate) fn after_name(words: &[u32], at: usize) -> usize
 }
 
 fn formal(text: &[u8], words: &[u32], at: usize, out: &mut [u8], pos: usize) -> Advance
-    ensures { Prints (formalPart text.now) words.now at out.old pos out.new result }
+    ensures { Prints (formal_part text.now) words.now at out.old pos out.new result }
 {
     let third = after_name(words, at);
     let a = put_unless(out, pos, get(words, third) == FALSE, b"injective ");
@@ -209,7 +209,7 @@ fn parameter(
     out: &mut [u8],
     pos: usize,
 ) -> Advance
-    ensures { Prints (anItem text.now words.now counts.now step at 0 Parameter) words.now at out.old pos out.new result }
+    ensures { Prints (an_item text.now words.now counts.now step at 0 Parameter) words.now at out.old pos out.new result }
 {
     let third = after_name(words, at);
     let a = put_mode(words, third, out, pos);

@@ -3,9 +3,9 @@ ghost use Rattle.tree.specs.Ast.{ArgumentCount};
 ghost use Rattle.std.specs.Prelude.{◌≡◌, ◌++◌, ◌<◌, ◌≤◌};
 ghost use Rattle.lexing.specs.Bytes.{bytes as text};
 ghost use Rattle.rendering.specs.Wrote.{Wrote};
-ghost use Rattle.rendering.specs.OperatorWords.{operatorOf};
+ghost use Rattle.rendering.specs.OperatorWords.{operator_of};
 ghost use Rattle.layout.specs.PrintUtil.{ToString, BindingStrength};
-ghost use Rattle.layout.specs.Printer.{breaksLine};
+ghost use Rattle.layout.specs.Printer.{breaks_line};
 
 use crate::write::put;
 use layout::{BindingPower, TieBreaker};
@@ -15,7 +15,7 @@ use tree::word::{
 };
 
 pub(crate) fn argument_count(op: u32) -> usize
-    ensures { result ≡ ArgumentCount (operatorOf op) }
+    ensures { result ≡ ArgumentCount (operator_of op) }
 {
     if op < EQUIV {
         return 3;
@@ -28,7 +28,7 @@ pub(crate) fn argument_count(op: u32) -> usize
 
 // Whether the format may break the line after the operator: LogicalImp, LogicalAnd, LogicalOr.
 pub(crate) fn breaks_line(op: u32) -> bool
-    ensures { result ≡ breaksLine (operatorOf op) }
+    ensures { result ≡ breaks_line (operator_of op) }
 {
     if op < LOGICAL_IMP {
         return false;
@@ -37,7 +37,7 @@ pub(crate) fn breaks_line(op: u32) -> bool
 }
 
 pub(crate) fn binding_strength(op: u32) -> BindingPower
-    ensures { result ≡ BindingStrength (operatorOf op) }
+    ensures { result ≡ BindingStrength (operator_of op) }
 {
     if op < EQ {
         return logical_strength(op);
@@ -51,7 +51,7 @@ pub(crate) fn binding_strength(op: u32) -> BindingPower
 // IfThenElse to LogicalOr.
 fn logical_strength(op: u32) -> BindingPower
     requires { op < 6 }
-    ensures { result ≡ BindingStrength (operatorOf op) }
+    ensures { result ≡ BindingStrength (operator_of op) }
 {
     match op {
         EQUIV => BindingPower::new(20, 20, TieBreaker::OperatorWins),
@@ -65,7 +65,7 @@ fn logical_strength(op: u32) -> BindingPower
 // Plus to UnaryMinus.
 fn arithmetic_strength(op: u32) -> BindingPower
     requires { 10 ≤ op }
-    ensures { result ≡ BindingStrength (operatorOf op) }
+    ensures { result ≡ BindingStrength (operator_of op) }
 {
     match op {
         PLUS => BindingPower::new(60, 60, TieBreaker::OperatorWins),
@@ -79,7 +79,7 @@ fn arithmetic_strength(op: u32) -> BindingPower
 
 // Writes the operator's spelling.
 pub(crate) fn put_operator(out: &mut [u8], pos: usize, op: u32) -> usize
-    ensures { Wrote (λ rest. text (ToString (operatorOf op)) ++ rest) out.old pos out.new result }
+    ensures { Wrote (λ rest. text (ToString (operator_of op)) ++ rest) out.old pos out.new result }
 {
     if op < EQ {
         return put_logical(out, pos, op);
@@ -93,7 +93,7 @@ pub(crate) fn put_operator(out: &mut [u8], pos: usize, op: u32) -> usize
 // IfThenElse to LogicalOr.
 fn put_logical(out: &mut [u8], pos: usize, op: u32) -> usize
     requires { op < 6 }
-    ensures { Wrote (λ rest. text (ToString (operatorOf op)) ++ rest) out.old pos out.new result }
+    ensures { Wrote (λ rest. text (ToString (operator_of op)) ++ rest) out.old pos out.new result }
 {
     match op {
         EQUIV => put(out, pos, b"<==>"),
@@ -107,7 +107,7 @@ fn put_logical(out: &mut [u8], pos: usize, op: u32) -> usize
 // Eq to AtMost.
 fn put_comparison(out: &mut [u8], pos: usize, op: u32) -> usize
     requires { (6 ≤ op) × (op < 10) }
-    ensures { Wrote (λ rest. text (ToString (operatorOf op)) ++ rest) out.old pos out.new result }
+    ensures { Wrote (λ rest. text (ToString (operator_of op)) ++ rest) out.old pos out.new result }
 {
     match op {
         EQ => put(out, pos, b"=="),
@@ -120,7 +120,7 @@ fn put_comparison(out: &mut [u8], pos: usize, op: u32) -> usize
 // Plus to UnaryMinus.
 fn put_arithmetic(out: &mut [u8], pos: usize, op: u32) -> usize
     requires { 10 ≤ op }
-    ensures { Wrote (λ rest. text (ToString (operatorOf op)) ++ rest) out.old pos out.new result }
+    ensures { Wrote (λ rest. text (ToString (operator_of op)) ++ rest) out.old pos out.new result }
 {
     match op {
         PLUS => put(out, pos, b"+"),

@@ -2,9 +2,9 @@
 // after them and the place in the output.
 ghost use Rattle.lexing.specs.Bytes.{bytes};
 ghost use Rattle.layout.specs.Text.{unless};
-ghost use Rattle.rendering.specs.Parts.{Prints, Next, IsIf, aName, typedName, idType, bindings, quantified as quantifiedPart, closureParameters};
-ghost use Rattle.rendering.specs.Parts.{aBool, aNatural, customLiteral, identifier, leaf as leafPart};
-ghost use Rattle.rendering.specs.Parts.{labelHead, letHead, quantifierHead, callHead, closureHead, closureResult};
+ghost use Rattle.rendering.specs.Parts.{Prints, Next, IsIf, a_name, typed_name, id_type, bindings, quantified as quantified_part, closure_parameters};
+ghost use Rattle.rendering.specs.Parts.{a_bool, a_natural, custom_literal, identifier, leaf as leaf_part};
+ghost use Rattle.rendering.specs.Parts.{label_head, let_head, quantifier_head, call_head, closure_head, closure_result};
 
 use crate::write::{endless_parenthesis, put, put_decimal, put_separator, put_unless};
 use layout::{BindingPower, Side};
@@ -32,7 +32,7 @@ pub(crate) fn after(words: &[u32], at: usize) -> usize
 }
 
 pub(crate) fn put_name(text: &[u8], words: &[u32], at: usize, out: &mut [u8], pos: usize) -> Advance
-    ensures { Prints (aName text.now) words.now at out.old pos out.new result }
+    ensures { Prints (a_name text.now) words.now at out.old pos out.new result }
 {
     let second = after(words, at);
     let next = after(words, second);
@@ -45,7 +45,7 @@ pub(crate) fn put_name(text: &[u8], words: &[u32], at: usize, out: &mut [u8], po
 
 // A name and its type.
 pub(crate) fn typed(text: &[u8], words: &[u32], at: usize, out: &mut [u8], pos: usize) -> Advance
-    ensures { Prints (typedName text.now) words.now at out.old pos out.new result }
+    ensures { Prints (typed_name text.now) words.now at out.old pos out.new result }
 {
     let s = put_name(text, words, at, out, pos);
     let a = put(out, s.pos, b": ");
@@ -54,7 +54,7 @@ pub(crate) fn typed(text: &[u8], words: &[u32], at: usize, out: &mut [u8], pos: 
 
 // `IdTypeDecl` of a name and an optional type.
 fn id_type(text: &[u8], words: &[u32], at: usize, out: &mut [u8], pos: usize) -> Advance
-    ensures { Prints (idType text.now) words.now at out.old pos out.new result }
+    ensures { Prints (id_type text.now) words.now at out.old pos out.new result }
 {
     let s = put_name(text, words, at, out, pos);
     let inner = after(words, s.next);
@@ -90,7 +90,7 @@ fn binds(
 
 // A quantifier's Bool and bindings.
 fn quantified(text: &[u8], words: &[u32], at: usize, out: &mut [u8], pos: usize) -> Advance
-    ensures { Prints (quantifiedPart text.now) words.now at out.old pos out.new result }
+    ensures { Prints (quantified_part text.now) words.now at out.old pos out.new result }
 {
     let inner = after(words, at);
     if get(words, at) == FALSE {
@@ -101,7 +101,7 @@ fn quantified(text: &[u8], words: &[u32], at: usize, out: &mut [u8], pos: usize)
 
 // A closure binding's parameters.
 fn parameters(text: &[u8], words: &[u32], at: usize, out: &mut [u8], pos: usize) -> Advance
-    ensures { Prints (closureParameters text.now) words.now at out.old pos out.new result }
+    ensures { Prints (closure_parameters text.now) words.now at out.old pos out.new result }
 {
     if get(words, at) == NO_MORE {
         return Advance {
@@ -118,7 +118,7 @@ fn parameters(text: &[u8], words: &[u32], at: usize, out: &mut [u8], pos: usize)
 }
 
 fn put_bool(words: &[u32], at: usize, out: &mut [u8], pos: usize) -> Advance
-    ensures { Prints aBool words.now at out.old pos out.new result }
+    ensures { Prints a_bool words.now at out.old pos out.new result }
 {
     let next = after(words, at);
     if get(words, at) == FALSE {
@@ -134,7 +134,7 @@ fn put_bool(words: &[u32], at: usize, out: &mut [u8], pos: usize) -> Advance
 }
 
 fn put_natural(words: &[u32], at: usize, out: &mut [u8], pos: usize) -> Advance
-    ensures { Prints aNatural words.now at out.old pos out.new result }
+    ensures { Prints a_natural words.now at out.old pos out.new result }
 {
     let second = after(words, at);
     Advance {
@@ -144,7 +144,7 @@ fn put_natural(words: &[u32], at: usize, out: &mut [u8], pos: usize) -> Advance
 }
 
 fn custom_literal(text: &[u8], words: &[u32], at: usize, out: &mut [u8], pos: usize) -> Advance
-    ensures { Prints (customLiteral text.now) words.now at out.old pos out.new result }
+    ensures { Prints (custom_literal text.now) words.now at out.old pos out.new result }
 {
     let a = put(out, pos, b"|");
     let s = typed(text, words, at, out, a);
@@ -170,7 +170,7 @@ fn id_expr(text: &[u8], words: &[u32], at: usize, out: &mut [u8], pos: usize) ->
 
 // An expression without expressions in it: words 1 to 4.
 pub(crate) fn leaf(text: &[u8], words: &[u32], at: usize, out: &mut [u8], pos: usize) -> Advance
-    ensures { Prints (leafPart text.now words.now at) words.now at out.old pos out.new result }
+    ensures { Prints (leaf_part text.now words.now at) words.now at out.old pos out.new result }
 {
     let inner = after(words, at);
     match get(words, at) {
@@ -201,7 +201,7 @@ pub(crate) fn label_head(
     out: &mut [u8],
     pos: usize,
 ) -> Advance
-    ensures { Prints (labelHead text.now context) words.now at out.old pos out.new result }
+    ensures { Prints (label_head text.now context) words.now at out.old pos out.new result }
 {
     let a = endless_parenthesis(Side::Left, context, out, pos);
     let s = put_name(text, words, at, out, a);
@@ -220,7 +220,7 @@ pub(crate) fn let_head(
     out: &mut [u8],
     pos: usize,
 ) -> Advance
-    ensures { Prints (letHead text.now context) words.now at out.old pos out.new result }
+    ensures { Prints (let_head text.now context) words.now at out.old pos out.new result }
 {
     let a = endless_parenthesis(Side::Left, context, out, pos);
     let b = put(out, a, b"val ");
@@ -240,7 +240,7 @@ pub(crate) fn quantifier_head(
     out: &mut [u8],
     pos: usize,
 ) -> Advance
-    ensures { Prints (quantifierHead text.now context) words.now at out.old pos out.new result }
+    ensures { Prints (quantifier_head text.now context) words.now at out.old pos out.new result }
 {
     let a = endless_parenthesis(Side::Left, context, out, pos);
     quantified(text, words, at, out, a)
@@ -254,7 +254,7 @@ pub(crate) fn call_head(
     out: &mut [u8],
     pos: usize,
 ) -> Advance
-    ensures { Prints (callHead text.now) words.now at out.old pos out.new result }
+    ensures { Prints (call_head text.now) words.now at out.old pos out.new result }
 {
     let s = put_name(text, words, at, out, pos);
     Advance {
@@ -272,7 +272,7 @@ pub(crate) fn closure_head(
     out: &mut [u8],
     pos: usize,
 ) -> Advance
-    ensures { Prints (closureHead text.now (unless first (bytes ", "))) words.now at out.old pos out.new result }
+    ensures { Prints (closure_head text.now (unless first (bytes ", "))) words.now at out.old pos out.new result }
 {
     let a = put_separator(out, pos, first);
     let s = put_name(text, words, at, out, a);
@@ -291,7 +291,7 @@ pub(crate) fn closure_result(
     out: &mut [u8],
     pos: usize,
 ) -> Advance
-    ensures { Prints (closureResult text.now) words.now at out.old pos out.new result }
+    ensures { Prints (closure_result text.now) words.now at out.old pos out.new result }
 {
     let a = put(out, pos, b" into ");
     let s = typed(text, words, at, out, a);

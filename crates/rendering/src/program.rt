@@ -2,7 +2,7 @@
 // the place after it and the place in the output.
 ghost use Rattle.rendering.specs.Parts.{Prints};
 ghost use Rattle.rendering.specs.declared.program.DeclKind.TheVariants.{Functions, Axioms, Procedures};
-ghost use Rattle.rendering.specs.DeclParts.{aProgram, declList, aDecl, aTypeDecl, aTaggerDecl, broken, whenList, optionalDefinition, optionalBody};
+ghost use Rattle.rendering.specs.DeclParts.{a_program, decl_list, a_decl, a_type_decl, a_tagger_decl, broken, when_list, optional_definition, optional_body};
 
 use crate::expression::expr;
 use crate::items::{Item, inline, name_head, optional_name, separated};
@@ -32,7 +32,7 @@ pub(crate) fn program(
     out: &mut [u8],
     pos: usize,
 ) -> Advance
-    ensures { Prints (aProgram text.now words.now counts.now step) words.now 0 out.old pos out.new result }
+    ensures { Prints (a_program text.now words.now counts.now step) words.now 0 out.old pos out.new result }
 {
     let a = put(out, pos, b"// B3 program\n");
     let s = decls(text, words, counts, step, DeclKind::Types, 0, out, a);
@@ -89,7 +89,7 @@ fn decls(
     out: &mut [u8],
     pos: usize,
 ) -> Advance
-    ensures { Prints (declList text.now words.now counts.now step at kind) words.now at out.old pos out.new result }
+    ensures { Prints (decl_list text.now words.now counts.now step at kind) words.now at out.old pos out.new result }
 {
     let inside = after(words, at);
     if get(words, at) == NO_MORE {
@@ -110,7 +110,7 @@ fn declaration(
     out: &mut [u8],
     pos: usize,
 ) -> Advance
-    ensures { Prints (aDecl text.now words.now counts.now step at kind) words.now at out.old pos out.new result }
+    ensures { Prints (a_decl text.now words.now counts.now step at kind) words.now at out.old pos out.new result }
 {
     match kind {
         DeclKind::Types => type_decl(text, words, at, out, pos),
@@ -123,7 +123,7 @@ fn declaration(
 
 // `TypeDecl`.
 fn type_decl(text: &[u8], words: &[u32], at: usize, out: &mut [u8], pos: usize) -> Advance
-    ensures { Prints (aTypeDecl text.now) words.now at out.old pos out.new result }
+    ensures { Prints (a_type_decl text.now) words.now at out.old pos out.new result }
 {
     let a = put(out, pos, b"type ");
     name_head(text, words, at, b"\n", out, a)
@@ -131,7 +131,7 @@ fn type_decl(text: &[u8], words: &[u32], at: usize, out: &mut [u8], pos: usize) 
 
 // `TaggerDecl`.
 fn tagger_decl(text: &[u8], words: &[u32], at: usize, out: &mut [u8], pos: usize) -> Advance
-    ensures { Prints (aTaggerDecl text.now) words.now at out.old pos out.new result }
+    ensures { Prints (a_tagger_decl text.now) words.now at out.old pos out.new result }
 {
     let a = put(out, pos, b"tagger ");
     let s = name_head(text, words, at, b" for ", out, a);
@@ -148,7 +148,7 @@ fn function_decl(
     out: &mut [u8],
     pos: usize,
 ) -> Advance
-    ensures { Prints (aDecl text.now words.now counts.now step at Functions) words.now at out.old pos out.new result }
+    ensures { Prints (a_decl text.now words.now counts.now step at Functions) words.now at out.old pos out.new result }
 {
     let a = put(out, pos, b"function ");
     let s = call_head(text, words, at, out, a);
@@ -205,7 +205,7 @@ fn optional_definition(
     out: &mut [u8],
     pos: usize,
 ) -> Advance
-    ensures { Prints (optionalDefinition text.now words.now counts.now step at) words.now at out.old pos out.new result }
+    ensures { Prints (optional_definition text.now words.now counts.now step at) words.now at out.old pos out.new result }
 {
     let inside = after(words, at);
     if get(words, at) == NO_MORE {
@@ -230,7 +230,7 @@ fn whens(
     out: &mut [u8],
     pos: usize,
 ) -> Advance
-    ensures { Prints (whenList text.now words.now counts.now step at) words.now at out.old pos out.new result }
+    ensures { Prints (when_list text.now words.now counts.now step at) words.now at out.old pos out.new result }
 {
     let inside = after(words, at);
     if get(words, at) == NO_MORE {
@@ -253,7 +253,7 @@ fn axiom_decl(
     out: &mut [u8],
     pos: usize,
 ) -> Advance
-    ensures { Prints (aDecl text.now words.now counts.now step at Axioms) words.now at out.old pos out.new result }
+    ensures { Prints (a_decl text.now words.now counts.now step at Axioms) words.now at out.old pos out.new result }
 {
     let a = put(out, pos, b"axiom");
     let s = separated(
@@ -285,7 +285,7 @@ fn procedure(
     out: &mut [u8],
     pos: usize,
 ) -> Advance
-    ensures { Prints (aDecl text.now words.now counts.now step at Procedures) words.now at out.old pos out.new result }
+    ensures { Prints (a_decl text.now words.now counts.now step at Procedures) words.now at out.old pos out.new result }
 {
     let a = put(out, pos, b"procedure ");
     let s = call_head(text, words, at, out, a);
@@ -317,7 +317,7 @@ fn optional_body(
     out: &mut [u8],
     pos: usize,
 ) -> Advance
-    ensures { Prints (optionalBody text.now words.now counts.now step at) words.now at out.old pos out.new result }
+    ensures { Prints (optional_body text.now words.now counts.now step at) words.now at out.old pos out.new result }
 {
     let inside = after(words, at);
     if get(words, at) == NO_MORE {

@@ -3,7 +3,7 @@
 ghost use Rattle.std.specs.Prelude.{ℕ, Bool, ◌++◌, get_or};
 ghost use Rattle.rendering.specs.Wrote.{Wrote};
 ghost use Rattle.rendering.specs.Parts.{Prints};
-ghost use Rattle.rendering.specs.StmtParts.{keywordBytes, simplePart, anAssign, aReinit, aCallStmt, anExit, anExpressionStmt};
+ghost use Rattle.rendering.specs.StmtParts.{keyword_bytes, simple_part, an_assign, a_reinit, a_call_stmt, an_exit, an_expression_stmt};
 
 use crate::items::{Item, inline, name_head, optional_name, separated};
 use crate::parts::{Advance, after, call_head};
@@ -21,7 +21,7 @@ pub(crate) fn simple(
     out: &mut [u8],
     pos: usize,
 ) -> Advance
-    ensures { (indent : ℕ) (followed : Bool) → Prints (simplePart text.now words.now counts.now step at indent followed) words.now at out.old pos out.new result }
+    ensures { (indent : ℕ) (followed : Bool) → Prints (simple_part text.now words.now counts.now step at indent followed) words.now at out.old pos out.new result }
 {
     let inside = after(words, at);
     match get(words, at) {
@@ -46,7 +46,7 @@ fn assign(
     out: &mut [u8],
     pos: usize,
 ) -> Advance
-    ensures { Prints (anAssign text.now words.now counts.now step at 0) words.now at out.old pos out.new result }
+    ensures { Prints (an_assign text.now words.now counts.now step at 0) words.now at out.old pos out.new result }
 {
     let s = name_head(text, words, at, b" := ", out, pos);
     let t = inline(text, words, counts, step, s.next, out, s.pos);
@@ -65,7 +65,7 @@ fn reinit(
     out: &mut [u8],
     pos: usize,
 ) -> Advance
-    ensures { Prints (aReinit text.now words.now counts.now step at 0) words.now at out.old pos out.new result }
+    ensures { Prints (a_reinit text.now words.now counts.now step at 0) words.now at out.old pos out.new result }
 {
     let a = put(out, pos, b"reinit ");
     let s = separated(text, words, counts, step, Item::Name, at, b"", out, a);
@@ -84,7 +84,7 @@ fn call(
     out: &mut [u8],
     pos: usize,
 ) -> Advance
-    ensures { Prints (aCallStmt text.now words.now counts.now step at 0) words.now at out.old pos out.new result }
+    ensures { Prints (a_call_stmt text.now words.now counts.now step at 0) words.now at out.old pos out.new result }
 {
     let s = call_head(text, words, at, out, pos);
     let t = separated(
@@ -105,7 +105,7 @@ fn call(
 }
 
 fn exit(text: &[u8], words: &[u32], at: usize, out: &mut [u8], pos: usize) -> Advance
-    ensures { Prints (anExit text.now) words.now at out.old pos out.new result }
+    ensures { Prints (an_exit text.now) words.now at out.old pos out.new result }
 {
     let a = put(out, pos, b"exit");
     let s = optional_name(text, words, at, b" ", out, a);
@@ -117,7 +117,7 @@ fn exit(text: &[u8], words: &[u32], at: usize, out: &mut [u8], pos: usize) -> Ad
 
 // The word of a statement of `ExpressionStmt`, with the space after it.
 fn put_keyword(words: &[u32], at: usize, out: &mut [u8], pos: usize) -> usize
-    ensures { Wrote (λ rest. keywordBytes (get_or words.now at 0) ++ rest) out.old pos out.new result }
+    ensures { Wrote (λ rest. keyword_bytes (get_or words.now at 0) ++ rest) out.old pos out.new result }
 {
     match get(words, at) {
         CHECK => put(out, pos, b"check "),
@@ -138,7 +138,7 @@ fn expression_stmt(
     out: &mut [u8],
     pos: usize,
 ) -> Advance
-    ensures { Prints (anExpressionStmt text.now words.now counts.now step at 0) words.now at out.old pos out.new result }
+    ensures { Prints (an_expression_stmt text.now words.now counts.now step at 0) words.now at out.old pos out.new result }
 {
     let a = put_keyword(words, at, out, pos);
     let s = inline(text, words, counts, step, after(words, at), out, a);

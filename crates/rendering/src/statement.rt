@@ -4,7 +4,7 @@ pub(crate) mod list;
 
 ghost use Rattle.std.specs.Prelude.{◌<◌, length};
 ghost use Rattle.rendering.specs.Parts.{Prints};
-ghost use Rattle.rendering.specs.StmtParts.{aStmt, aVariable, anInner, aBlock, aBraces, aForall, aChoose, anIf, anOnward, anIfCase, aLoop, aLabelled, anAExpr};
+ghost use Rattle.rendering.specs.StmtParts.{a_stmt, a_variable, an_inner, a_block, a_braces, a_forall, a_choose, an_if, an_onward, an_if_case, a_loop, a_labelled, an_a_expr};
 
 use crate::around::{
     close_own, for_head, indent_inside, is_conditional, is_empty_block, is_loop, no_cases,
@@ -35,7 +35,7 @@ pub(crate) fn stmt(
     out: &mut [u8],
     pos: usize,
 ) -> Advance
-    ensures { Prints (aStmt text.now words.now counts.now step at indent followed) words.now at out.old pos out.new result }
+    ensures { Prints (a_stmt text.now words.now counts.now step at indent followed) words.now at out.old pos out.new result }
 {
     match get(words, at) {
         VAR_DECL => var(text, words, counts, step, at, indent, followed, out, pos),
@@ -64,7 +64,7 @@ fn var(
     pos: usize,
 ) -> Advance
     requires { at < length words.now }
-    ensures { Prints (aVariable text.now words.now counts.now step at indent followed) words.now at out.old pos out.new result }
+    ensures { Prints (a_variable text.now words.now counts.now step at indent followed) words.now at out.old pos out.new result }
 {
     let own = indent_inside(followed, indent, step);
     let a = open_own(out, pos, followed, own);
@@ -89,7 +89,7 @@ fn inner(
     out: &mut [u8],
     pos: usize,
 ) -> Advance
-    ensures { Prints (anInner text.now words.now counts.now step at indent followed) words.now at out.old pos out.new result }
+    ensures { Prints (an_inner text.now words.now counts.now step at indent followed) words.now at out.old pos out.new result }
 {
     if get(words, at) == BLOCK {
         return list(text, words, counts, step, at + 1, indent, out, pos);
@@ -110,7 +110,7 @@ pub(crate) fn block(
     out: &mut [u8],
     pos: usize,
 ) -> Advance
-    ensures { Prints (aBlock text.now words.now counts.now step at indent) words.now at out.old pos out.new result }
+    ensures { Prints (a_block text.now words.now counts.now step at indent) words.now at out.old pos out.new result }
 {
     let a = put(out, pos, b"{\n");
     let s = inner(
@@ -144,7 +144,7 @@ fn braces(
     pos: usize,
 ) -> Advance
     requires { at < length words.now }
-    ensures { Prints (aBraces text.now words.now counts.now step at indent) words.now at out.old pos out.new result }
+    ensures { Prints (a_braces text.now words.now counts.now step at indent) words.now at out.old pos out.new result }
 {
     let a = put(out, pos, b"{\n");
     let s = list(
@@ -177,7 +177,7 @@ fn forall(
     pos: usize,
 ) -> Advance
     requires { at < length words.now }
-    ensures { Prints (aForall text.now words.now counts.now step at indent) words.now at out.old pos out.new result }
+    ensures { Prints (a_forall text.now words.now counts.now step at indent) words.now at out.old pos out.new result }
 {
     let s = for_head(text, words, at + 1, out, pos);
     let t = block(text, words, counts, step, s.next, indent, out, s.pos);
@@ -200,7 +200,7 @@ fn choose(
     pos: usize,
 ) -> Advance
     requires { at < length words.now }
-    ensures { Prints (aChoose text.now words.now counts.now step at indent) words.now at out.old pos out.new result }
+    ensures { Prints (a_choose text.now words.now counts.now step at indent) words.now at out.old pos out.new result }
 {
     let a = put(out, pos, b"choose ");
     let b = put_unless(out, a, get(words, at + 1) == MORE, b"{ }\n");
@@ -220,7 +220,7 @@ fn cond(
     pos: usize,
 ) -> Advance
     requires { at < length words.now }
-    ensures { Prints (anIf text.now words.now counts.now step at indent) words.now at out.old pos out.new result }
+    ensures { Prints (an_if text.now words.now counts.now step at indent) words.now at out.old pos out.new result }
 {
     let a = put(out, pos, b"if ");
     let s = expr(
@@ -261,7 +261,7 @@ fn onward(
     out: &mut [u8],
     pos: usize,
 ) -> Advance
-    ensures { Prints (anOnward text.now words.now counts.now step at indent stays) words.now at out.old pos out.new result }
+    ensures { Prints (an_onward text.now words.now counts.now step at indent stays) words.now at out.old pos out.new result }
 {
     if stays {
         return stmt(text, words, counts, step, at, indent, false, out, pos);
@@ -286,7 +286,7 @@ fn by_case(
     pos: usize,
 ) -> Advance
     requires { at < length words.now }
-    ensures { Prints (anIfCase text.now words.now counts.now step at indent) words.now at out.old pos out.new result }
+    ensures { Prints (an_if_case text.now words.now counts.now step at indent) words.now at out.old pos out.new result }
 {
     let a = put(out, pos, b"if ");
     let b = no_cases(out, a, get(words, at + 1) == MORE, indent);
@@ -306,7 +306,7 @@ fn looped(
     pos: usize,
 ) -> Advance
     requires { at < length words.now }
-    ensures { Prints (aLoop text.now words.now counts.now step at indent) words.now at out.old pos out.new result }
+    ensures { Prints (a_loop text.now words.now counts.now step at indent) words.now at out.old pos out.new result }
 {
     let bare = get(words, at + 1) == NO_MORE;
     let a = put(out, pos, b"loop");
@@ -343,7 +343,7 @@ fn label(
     pos: usize,
 ) -> Advance
     requires { at < length words.now }
-    ensures { Prints (aLabelled text.now words.now counts.now step at indent) words.now at out.old pos out.new result }
+    ensures { Prints (a_labelled text.now words.now counts.now step at indent) words.now at out.old pos out.new result }
 {
     let s = name_head(text, words, at + 1, b": ", out, pos);
     let stays = is_loop(words, s.next);
@@ -362,7 +362,7 @@ pub(crate) fn aexpr(
     out: &mut [u8],
     pos: usize,
 ) -> Advance
-    ensures { Prints (anAExpr text.now words.now counts.now step at indent) words.now at out.old pos out.new result }
+    ensures { Prints (an_a_expr text.now words.now counts.now step at indent) words.now at out.old pos out.new result }
 {
     let inside = after(words, at);
     if get(words, at) == A_ASSERTION {

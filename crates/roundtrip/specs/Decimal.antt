@@ -1,7 +1,7 @@
 -- The print of a natural is a run of digits that stand for it.
 use Rattle.std.specs.Prelude.{ℕ, zero, suc, ◌+◌, ◌*◌, ◌-◌, ◌/◌, ◌%◌, ◌≤◌, ◌<◌, ◌≡◌, refl, Bool, true, false, List, [], ◌∷◌, ◌++◌, ltb, length}
 use Rattle.std.proofs.Common.{sym, ◌∙◌, append_assoc, arith, length-append, ltb-true, ltb-false, le-leb}
-use Rattle.lexing.specs.Bytes.{isDigit, run}
+use Rattle.lexing.specs.Bytes.{is_digit, run}
 use Rattle.lexing.specs.Tokens.{decimal}
 use Rattle.grammar.specs.Proofs.Laws.Pieces.{run-append}
 use Rattle.layout.specs.Text.{digits}
@@ -14,7 +14,7 @@ decimal-append v (d ∷ w) u = decimal-append (v * 10 + (d - 48)) w u
 -- a run of digits w that stands for n
 pub record Stands (w : List ℕ) (n : ℕ) : Type 0 where
   pub some : 0 < length w
-  pub all : run isDigit w ≡ length w
+  pub all : run is_digit w ≡ length w
   pub value : decimal 0 w ≡ n
 
 -- what `digits` writes before the rest
@@ -23,11 +23,11 @@ pub record Written (k n : ℕ) : Type 0 where
   pub stands : Stands text n
   pub written : (rest : List ℕ) → digits k n rest ≡ text ++ rest
 
-digit-is : (d : ℕ) → d < 10 → isDigit (48 + d) ≡ true
-unfolding isDigit
+digit-is : (d : ℕ) → d < 10 → is_digit (48 + d) ≡ true
+unfolding is_digit
 digit-is d h = rw (le-leb 48 (48 + d) (omega arith), le-leb (48 + d) 57 (omega arith)) refl
 
-one-digit : (d : ℕ) → d < 10 → run isDigit ((48 + d) ∷ []) ≡ 1
+one-digit : (d : ℕ) → d < 10 → run is_digit ((48 + d) ∷ []) ≡ 1
 unfolding run
 one-digit d h = rw (digit-is d h, run) refl
 
@@ -41,7 +41,7 @@ write-more n w s =
     let d : n % 10 < 10 = omega arith in
     record {
       some = simp length-append (omega arith);
-      all = run-append isDigit w ((48 + n % 10) ∷ []) s.all ∙ rw (one-digit (n % 10) d, length-append w ((48 + n % 10) ∷ [])) refl;
+      all = run-append is_digit w ((48 + n % 10) ∷ []) s.all ∙ rw (one-digit (n % 10) d, length-append w ((48 + n % 10) ∷ [])) refl;
       value = decimal-append 0 w ((48 + n % 10) ∷ []) ∙ rw s.value (omega arith);
     }
 

@@ -2,7 +2,7 @@
 use Rattle.std.specs.Prelude.{ℕ, zero, suc, ◌≡◌, refl, List, [], ◌++◌}
 use Prim.Native.String.{String}
 use Rattle.lexing.specs.Bytes.{bytes}
-use Rattle.grammar.specs.Reading.{Outcome, refusal, readExpression, readProgram}
+use Rattle.grammar.specs.Reading.{Outcome, refusal, read_expression, read_program}
 use Rattle.grammar.specs.ProgramExamples.{computed}
 
 -- so many copies of one text before another
@@ -12,13 +12,13 @@ copies (suc n) w s = bytes w ++ copies n w s
 
 -- a procedure with so many declarations, each in the one before it, and a statement in the last
 abbrev nested : ℕ → String → Outcome
-nested n s = readProgram (bytes "procedure p() { " ++ copies n "var a " (bytes s)) 0
+nested n s = read_program (bytes "procedure p() { " ++ copies n "var a " (bytes s)) 0
 
-brackets-deep : readExpression (copies 200 "(" (bytes "a")) 0 ≡ refusal 3 200 []
+brackets-deep : read_expression (copies 200 "(" (bytes "a")) 0 ≡ refusal 3 200 []
 unfolding computed copies
 brackets-deep = refl
 
-brackets-ended : readExpression (copies 200 "(" (bytes ")")) 0 ≡ refusal 2 200 []
+brackets-ended : read_expression (copies 200 "(" (bytes ")")) 0 ≡ refusal 2 200 []
 unfolding computed copies
 brackets-ended = refl
 

@@ -2,7 +2,7 @@
 use Rattle.std.specs.Prelude.{◌≡◌, refl, false, [], ◌∷◌, map}
 use Rattle.lexing.specs.Bytes.{bytes}
 use Rattle.grammar.specs.Grammar.{Tree, single}
-use Rattle.tree.specs.Ast.{Operator, LogicalImp, Eq, Plus, Minus, UnaryMinus, IdExpr, OperatorExpr, FunctionCallExpr, noExprs, ◌then◌}
+use Rattle.tree.specs.Ast.{Operator, LogicalImp, Eq, Plus, Minus, UnaryMinus, IdExpr, OperatorExpr, FunctionCallExpr, no_exprs, ◌then◌}
 use Rattle.layout.specs.PrintUtil.{Init, WinsOver, SubexpressionPower}
 use Rattle.roundtrip.specs.Nesting.{nesting, nestings}
 
@@ -14,14 +14,14 @@ abbrev a : Tree
 a = IdExpr (bytes "a") false
 
 abbrev two : Operator → Tree → Tree → Tree
-two op t u = OperatorExpr op (◌then◌ t (◌then◌ u noExprs))
+two op t u = OperatorExpr op (◌then◌ t (◌then◌ u no_exprs))
 
 abbrev called : Tree → Tree
-called t = FunctionCallExpr (bytes "f") (◌then◌ t noExprs)
+called t = FunctionCallExpr (bytes "f") (◌then◌ t no_exprs)
 
 -- `a - a - a`, `a ==> a ==> a`, `--a`, `f()`
 flat : map (λ t. nesting t Init)
-    (two Minus (two Minus a a) a ∷ two LogicalImp a (two LogicalImp a a) ∷ single UnaryMinus (single UnaryMinus a) ∷ FunctionCallExpr (bytes "f") noExprs ∷ [])
+    (two Minus (two Minus a a) a ∷ two LogicalImp a (two LogicalImp a a) ∷ single UnaryMinus (single UnaryMinus a) ∷ FunctionCallExpr (bytes "f") no_exprs ∷ [])
     ≡ 0 ∷ 0 ∷ 0 ∷ 0 ∷ []
 unfolding computed
 flat = refl

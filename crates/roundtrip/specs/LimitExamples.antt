@@ -7,14 +7,14 @@ use Rattle.std.proofs.Math.ListN.{length-take}
 use Rattle.std.proofs.lemmas.List.{length-replicate}
 use Rattle.std.proofs.lemmas.Bool.{lt-leb}
 use Rattle.lexing.specs.Bytes.{bytes}
-use Rattle.tree.specs.Ast.{Expr, IdExpr, OperatorExpr, Plus, noExprs, ◌then◌}
+use Rattle.tree.specs.Ast.{Expr, IdExpr, OperatorExpr, Plus, no_exprs, ◌then◌}
 use Rattle.tree.specs.Check.{NameIn}
 use Rattle.tree.specs.Resolve.{part}
 use Rattle.layout.specs.declared.format.ExprFormatOption.TheVariants.{SingleLine, MultipleLines}
 use Rattle.layout.specs.Examples.{computed}
-use Rattle.tree.specs.Held.{heldBy}
-use Rattle.rendering.specs.Tables.{expressions, printOf}
-use Rattle.printing.specs.Entries.{mostPrint, written, refusal, stored, printTable, printExpression}
+use Rattle.tree.specs.Held.{held_by}
+use Rattle.rendering.specs.Tables.{expressions, print_of}
+use Rattle.printing.specs.Entries.{most_print, written, refusal, stored, print_table, print_expression}
 use Rattle.rendering.specs.TableLaws.{expression-laws}
 use Rattle.printing.specs.EntryLaws.{prints}
 
@@ -24,25 +24,25 @@ use Rattle.printing.specs.EntryLaws.{prints}
 abbrev name-words : List ℕ
 name-words = 4 ∷ 0 ∷ 1 ∷ 0 ∷ []
 
-indent-255 : printExpression 2 (bytes "a") name-words (MultipleLines 255) (bytes "~~") ≡ written 1 (bytes "a~")
-unfolding computed printOf stored part
+indent-255 : print_expression 2 (bytes "a") name-words (MultipleLines 255) (bytes "~~") ≡ written 1 (bytes "a~")
+unfolding computed print_of stored part
 indent-255 =
     prints (expressions 2 (bytes "a") (MultipleLines 255)) (bytes "a") name-words (bytes "~~") (expression-laws 2 (bytes "a") (MultipleLines 255))
     (IdExpr (record { span = record { start = 0; len = 1 }; inside = lit≤ tt }) false) refl (lit≤ tt) (lit≤ tt) (lit≤ tt)
 
-indent-256 : printExpression 2 (bytes "a") name-words (MultipleLines 256) (bytes "~~") ≡ refusal 6 0 (bytes "~~")
-unfolding printTable heldBy
+indent-256 : print_expression 2 (bytes "a") name-words (MultipleLines 256) (bytes "~~") ≡ refusal 6 0 (bytes "~~")
+unfolding print_table held_by
 indent-256 = refl
 
 -- ---- the bytes of a print
 
 -- a print that fits is stored
-fits : (print out : List ℕ) (n : ℕ) → length print ≡ n → n ≤ length out → n ≤ mostPrint → stored print out ≡ written n (print ++ drop n out)
+fits : (print out : List ℕ) (n : ℕ) → length print ≡ n → n ≤ length out → n ≤ most_print → stored print out ≡ written n (print ++ drop n out)
 unfolding stored
 fits print out n e h k = rw e (simp (le-leb _ _ h, le-leb _ _ k))
 
 -- one that is too long is not, whatever the output
-too_long : (print out : List ℕ) (n : ℕ) → length print ≡ n → mostPrint < n → stored print out ≡ refusal 8 0 out
+too_long : (print out : List ℕ) (n : ℕ) → length print ≡ n → most_print < n → stored print out ≡ refusal 8 0 out
 unfolding stored
 too_long print out n e h = rw e (simp (lt-leb _ _ h, not-both))
   where
@@ -60,7 +60,7 @@ module _ (text : List ℕ) (full : length text ≡ 32768) where
 
   -- the sum of the whole text and of its first n bytes
   abbrev sum : (n : ℕ) → n ≤ 32768 → Expr (NameIn (length text))
-  sum n h = OperatorExpr Plus (◌then◌ (name 32768 (lit≤ tt)) (◌then◌ (name n h) noExprs))
+  sum n h = OperatorExpr Plus (◌then◌ (name 32768 (lit≤ tt)) (◌then◌ (name n h) no_exprs))
 
   abbrev sum-words : ℕ → List ℕ
   sum-words n = 5 ∷ 10 ∷ 1 ∷ 4 ∷ 0 ∷ 32768 ∷ 0 ∷ 1 ∷ 4 ∷ 0 ∷ n ∷ 0 ∷ 0 ∷ []
@@ -73,17 +73,17 @@ module _ (text : List ℕ) (full : length text ≡ 32768) where
   sum-length n h = simp (length-append, length-take, length-drop) (omega arith)
 
   -- the sum's print is stored
-  sum-stored : (n : ℕ) → n ≤ 32768 → (out : List ℕ) → printExpression 2 text (sum-words n) SingleLine out ≡ stored (sum-print n) out
-  unfolding computed printOf
+  sum-stored : (n : ℕ) → n ≤ 32768 → (out : List ℕ) → print_expression 2 text (sum-words n) SingleLine out ≡ stored (sum-print n) out
+  unfolding computed print_of
   sum-stored n h out =
       prints (expressions 2 text SingleLine) text (sum-words n) out (expression-laws 2 text SingleLine) (sum n h) refl (omega arith) (lit≤ tt) (lit≤ tt)
       ∙ ap (λ (p : List ℕ). stored p out) (simp append-nil)
 
   print-65536 : (out : List ℕ) → 65536 ≤ length out
-      → printExpression 2 text (sum-words 32765) SingleLine out ≡ written 65536 (sum-print 32765 ++ drop 65536 out)
+      → print_expression 2 text (sum-words 32765) SingleLine out ≡ written 65536 (sum-print 32765 ++ drop 65536 out)
   print-65536 out h = sum-stored 32765 (lit≤ tt) out ∙ fits _ out 65536 (sum-length 32765 (lit≤ tt)) h (lit≤ tt)
 
-  print-65537 : (out : List ℕ) → printExpression 2 text (sum-words 32766) SingleLine out ≡ refusal 8 0 out
+  print-65537 : (out : List ℕ) → print_expression 2 text (sum-words 32766) SingleLine out ≡ refusal 8 0 out
   print-65537 out = sum-stored 32766 (lit≤ tt) out ∙ too_long _ out 65537 (sum-length 32766 (lit≤ tt)) (lit< tt)
 
 -- there is such a text

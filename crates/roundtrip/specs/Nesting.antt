@@ -3,23 +3,23 @@
 use Rattle.std.specs.Prelude.{ℕ, suc, max, List, [], ◌∷◌}
 use Rattle.lexing.specs.Answer.{pick}
 use Rattle.tree.specs.Ast.{BLiteral, ILiteral, CustomLiteral, IdExpr, OperatorExpr, FunctionCallExpr, LabeledExpr, LetExpr, QuantifierExpr}
-use Rattle.tree.specs.Ast.{ClosureExpr, Exprs, noExprs, ◌then◌}
+use Rattle.tree.specs.Ast.{ClosureExpr, Exprs, no_exprs, ◌then◌}
 use Rattle.grammar.specs.Grammar.{Tree}
 use Rattle.layout.specs.declared.power.BindingPower.{BindingPower}
 use Rattle.layout.specs.declared.power.Side.TheVariants.{Left, Right}
 use Rattle.layout.specs.PrintUtil.{Init, WinsOver, SubexpressionPower, BindingStrength}
 
 -- of the operands of a unary or binary operator, each in its context
-abbrev pub ofOperands : BindingPower → BindingPower → List (BindingPower → ℕ) → ℕ
-ofOperands op context [] = 0
-ofOperands op context (a ∷ []) = a (SubexpressionPower op Right context)
-ofOperands op context (a ∷ b ∷ []) = max (a (SubexpressionPower op Left context)) (b (SubexpressionPower op Right context))
-ofOperands op context (a ∷ b ∷ c ∷ es) = 0
+abbrev pub of_operands : BindingPower → BindingPower → List (BindingPower → ℕ) → ℕ
+of_operands op context [] = 0
+of_operands op context (a ∷ []) = a (SubexpressionPower op Right context)
+of_operands op context (a ∷ b ∷ []) = max (a (SubexpressionPower op Left context)) (b (SubexpressionPower op Right context))
+of_operands op context (a ∷ b ∷ c ∷ es) = 0
 
 -- of the arguments of a call
-abbrev pub ofArguments : List (BindingPower → ℕ) → ℕ
-ofArguments [] = 0
-ofArguments (a ∷ es) = max (suc (a Init)) (ofArguments es)
+abbrev pub of_arguments : List (BindingPower → ℕ) → ℕ
+of_arguments [] = 0
+of_arguments (a ∷ es) = max (suc (a Init)) (of_arguments es)
 
 unfoldable mutual
   -- of a tree in a context
@@ -29,8 +29,8 @@ unfoldable mutual
   nesting (CustomLiteral s t) context = 0
   nesting (IdExpr w o) context = 0
   nesting (OperatorExpr op es) context =
-      let n = ofOperands (BindingStrength op) context (nestings es) in pick (WinsOver (BindingStrength op) context) n (suc n)
-  nesting (FunctionCallExpr w es) context = ofArguments (nestings es)
+      let n = of_operands (BindingStrength op) context (nestings es) in pick (WinsOver (BindingStrength op) context) n (suc n)
+  nesting (FunctionCallExpr w es) context = of_arguments (nestings es)
   nesting (LabeledExpr w t) context = 0
   nesting (LetExpr w y t u) context = 0
   nesting (QuantifierExpr u bs ps t) context = 0
@@ -38,5 +38,5 @@ unfoldable mutual
 
   -- of trees, in the context that each is given
   pub nestings : Exprs (List ℕ) → List (BindingPower → ℕ)
-  nestings noExprs = []
+  nestings no_exprs = []
   nestings (◌then◌ t es) = (λ c. nesting t c) ∷ nestings es

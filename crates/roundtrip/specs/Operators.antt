@@ -2,88 +2,88 @@
 -- of the grammar, and a unary operator has no operand on its left: those entries are never used.
 use Rattle.std.specs.Prelude.{◌≡◌, List, ◌∷◌, ◌++◌}
 use Rattle.std.proofs.Math.Path.{refl}
-use Rattle.lexing.specs.Bytes.{sameBytes}
+use Rattle.lexing.specs.Bytes.{same_bytes}
 use Rattle.tree.specs.Ast.{Operator, IfThenElse, Equiv, LogicalImp, LogicalAnd, LogicalOr, Eq, Neq, Less, AtMost, Plus, Minus, Times, Div, Mod, ArgumentCount}
-use Rattle.tree.specs.Ast.{LogicalNot, UnaryMinus, OperatorExpr, noExprs, ◌then◌}
+use Rattle.tree.specs.Ast.{LogicalNot, UnaryMinus, OperatorExpr, no_exprs, ◌then◌}
 use Rattle.grammar.specs.Tokens.{Token, sign, illegal, '!', '-', '*', '+', '==', '!=', '<', '<=', '&&', '||', '==>', '<==>'}
-use Rattle.grammar.specs.Grammar.{Tree, Rule, single, word, signRole, wordRole, role, unary, binary, Left, Right, Once, prefixed}
+use Rattle.grammar.specs.Grammar.{Tree, Rule, single, word, sign_role, word_role, role, unary, binary, Left, Right, Once, prefixed}
 use Rattle.tree.specs.Clash.{impossible}
 use Rattle.layout.specs.declared.power.Side.{Side}
-use Rattle.layout.specs.declared.power.Side.TheVariants.{Left as onLeft, Right as onRight}
-use Rattle.roundtrip.specs.Levels.{Level, operand, prefixes, factor, term, juct, conjuncts, disjuncts, logical, implications, impExp, equiv, At}
+use Rattle.layout.specs.declared.power.Side.TheVariants.{Left as on_left, Right as on_right}
+use Rattle.roundtrip.specs.Levels.{Level, operand, prefixes, factor, term, juct, conjuncts, disjuncts, logical, implications, imp_exp, equiv, At}
 
 -- an operator's token
-abbrev pub tokenOf : Operator → Token
-tokenOf IfThenElse = illegal
-tokenOf Equiv = sign '<==>'
-tokenOf LogicalImp = sign '==>'
-tokenOf LogicalAnd = sign '&&'
-tokenOf LogicalOr = sign '||'
-tokenOf Eq = sign '=='
-tokenOf Neq = sign '!='
-tokenOf Less = sign '<'
-tokenOf AtMost = sign '<='
-tokenOf Plus = sign '+'
-tokenOf Minus = sign '-'
-tokenOf Times = sign '*'
-tokenOf Div = word "div"
-tokenOf Mod = word "mod"
-tokenOf LogicalNot = sign '!'
-tokenOf UnaryMinus = sign '-'
+abbrev pub token_of : Operator → Token
+token_of IfThenElse = illegal
+token_of Equiv = sign '<==>'
+token_of LogicalImp = sign '==>'
+token_of LogicalAnd = sign '&&'
+token_of LogicalOr = sign '||'
+token_of Eq = sign '=='
+token_of Neq = sign '!='
+token_of Less = sign '<'
+token_of AtMost = sign '<='
+token_of Plus = sign '+'
+token_of Minus = sign '-'
+token_of Times = sign '*'
+token_of Div = word "div"
+token_of Mod = word "mod"
+token_of LogicalNot = sign '!'
+token_of UnaryMinus = sign '-'
 
 -- the level of an operator's expression without brackets round it
-abbrev pub levelOf : Operator → Level
-levelOf IfThenElse = operand
-levelOf Equiv = equiv
-levelOf LogicalImp = implications
-levelOf LogicalAnd = conjuncts
-levelOf LogicalOr = disjuncts
-levelOf Eq = juct
-levelOf Neq = juct
-levelOf Less = juct
-levelOf AtMost = juct
-levelOf Plus = term
-levelOf Minus = term
-levelOf Times = factor
-levelOf Div = factor
-levelOf Mod = factor
-levelOf LogicalNot = prefixes
-levelOf UnaryMinus = prefixes
+abbrev pub level_of : Operator → Level
+level_of IfThenElse = operand
+level_of Equiv = equiv
+level_of LogicalImp = implications
+level_of LogicalAnd = conjuncts
+level_of LogicalOr = disjuncts
+level_of Eq = juct
+level_of Neq = juct
+level_of Less = juct
+level_of AtMost = juct
+level_of Plus = term
+level_of Minus = term
+level_of Times = factor
+level_of Div = factor
+level_of Mod = factor
+level_of LogicalNot = prefixes
+level_of UnaryMinus = prefixes
 
 -- the level that the operand at a side has to fit in
 abbrev pub place : Operator → Side → Level
 place IfThenElse side = equiv
-place Equiv onLeft = equiv
-place Equiv onRight = impExp
-place LogicalImp onLeft = logical
-place LogicalImp onRight = implications
-place LogicalAnd onLeft = conjuncts
-place LogicalAnd onRight = juct
-place LogicalOr onLeft = disjuncts
-place LogicalOr onRight = juct
+place Equiv on_left = equiv
+place Equiv on_right = imp_exp
+place LogicalImp on_left = logical
+place LogicalImp on_right = implications
+place LogicalAnd on_left = conjuncts
+place LogicalAnd on_right = juct
+place LogicalOr on_left = disjuncts
+place LogicalOr on_right = juct
 place Eq side = term
 place Neq side = term
 place Less side = term
 place AtMost side = term
-place Plus onLeft = term
-place Plus onRight = factor
-place Minus onLeft = term
-place Minus onRight = factor
-place Times onLeft = factor
-place Times onRight = prefixes
-place Div onLeft = factor
-place Div onRight = prefixes
-place Mod onLeft = factor
-place Mod onRight = prefixes
+place Plus on_left = term
+place Plus on_right = factor
+place Minus on_left = term
+place Minus on_right = factor
+place Times on_left = factor
+place Times on_right = prefixes
+place Div on_left = factor
+place Div on_right = prefixes
+place Mod on_left = factor
+place Mod on_right = prefixes
 place LogicalNot side = prefixes
 place UnaryMinus side = prefixes
 
 module _ {E : Rule} where
   -- an operator between operands that fit
   pub join : (op : Operator) → ArgumentCount op ≡ 2 → {ts us : List Token} {t u : Tree}
-      → At (place op onLeft) E ts t → At (place op onRight) E us u
-      → At (levelOf op) E (ts ++ tokenOf op ∷ us) (OperatorExpr op (◌then◌ t (◌then◌ u noExprs)))
-  unfolding binary role signRole wordRole sameBytes
+      → At (place op on_left) E ts t → At (place op on_right) E us u
+      → At (level_of op) E (ts ++ token_of op ∷ us) (OperatorExpr op (◌then◌ t (◌then◌ u no_exprs)))
+  unfolding binary role sign_role word_role same_bytes
   join IfThenElse n x y = impossible (cc)
   join Equiv n x y = record { derived = Left.more x.derived (sign '<==>') refl y.derived }
   join LogicalImp n x y = record { derived = Right.more x.derived (sign '==>') refl y.derived }
@@ -121,11 +121,11 @@ unary-operators P p q LogicalNot n = p
 unary-operators P p q UnaryMinus n = q
 
 -- an operator before an operand that fits
-pub prefix : {E : Rule} (op : Operator) → ArgumentCount op ≡ 1 → {ts : List Token} {t : Tree} → At (place op onRight) E ts t
-    → At (levelOf op) E (tokenOf op ∷ ts) (single op t)
-unfolding unary role signRole
+pub prefix : {E : Rule} (op : Operator) → ArgumentCount op ≡ 1 → {ts : List Token} {t : Tree} → At (place op on_right) E ts t
+    → At (level_of op) E (token_of op ∷ ts) (single op t)
+unfolding unary role sign_role
 prefix {E} op n {ts} {t} =
-    unary-operators (λ op. At (place op onRight) E ts t → At (levelOf op) E (tokenOf op ∷ ts) (single op t))
+    unary-operators (λ op. At (place op on_right) E ts t → At (level_of op) E (token_of op ∷ ts) (single op t))
     (λ x. record { derived = prefixed refl x.derived })
     (λ x. record { derived = prefixed refl x.derived })
     op n

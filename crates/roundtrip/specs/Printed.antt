@@ -3,25 +3,25 @@
 use Rattle.std.specs.Prelude.{ℕ, zero, suc, ◌≤◌, ◌<◌, ◌≡◌, refl, Bool, true, false, List, [], ◌∷◌, ◌++◌}
 use Rattle.std.proofs.Common.{sym, ap, ◌∙◌, append_assoc, arith}
 use Rattle.lexing.specs.Answer.{pick}
-use Rattle.lexing.specs.Bytes.{isSpace, canStartIdentifierChar, identifierChar, run, bytes}
-use Rattle.lexing.specs.Tokens.{identifierLength}
+use Rattle.lexing.specs.Bytes.{is_space, can_start_identifier_char, identifier_char, run, bytes}
+use Rattle.lexing.specs.Tokens.{identifier_length}
 use Rattle.tree.specs.Ast.{ILiteral, IdExpr}
-use Rattle.grammar.specs.Words.{isIdentifier}
+use Rattle.grammar.specs.Words.{is_identifier}
 use Rattle.grammar.specs.Tokens.{Token, name, nat, mark, lparen, rparen, cut}
-use Rattle.grammar.specs.Grammar.{Tree, Rule, word, Operand, natural, oldVariable, bracketed, Whole}
+use Rattle.grammar.specs.Grammar.{Tree, Rule, word, Operand, natural, old_variable, bracketed, Whole}
 use Rattle.grammar.specs.Proofs.Laws.Cut.{cut-space}
 use Rattle.grammar.specs.Proofs.Laws.Pieces.{Ends, lengthens, cut-name, cut-mark}
 use Rattle.layout.specs.declared.power.Side.TheVariants.{Left, Right}
 use Rattle.layout.specs.declared.format.ExprFormatOption.{ExprFormatOption}
 use Rattle.layout.specs.Text.{◌▹◌, ◌▸◌, decimal}
 use Rattle.layout.specs.PrintUtil.{parenthesis}
-use Rattle.roundtrip.specs.Levels.{Level, operand, At, fits_in, fits_whole}
+use Rattle.roundtrip.specs.Levels.{Level, operand, At, fits_in_lem, fits_whole}
 use Rattle.roundtrip.specs.Cutting.{name-starts, natural-starts, cut-natural}
 
 -- A text that a print writes before a rest, in a format: cut into `tokens`, which are derived at a level over expressions of depth n.
 pub record Printed (text : ExprFormatOption → List ℕ → List ℕ) (n : ℕ) (l : Level) (t : Tree) : Type 0 where
   pub tokens : List Token
-  pub cuts : (f : ExprFormatOption) (rest : List ℕ) → Ends identifierChar rest → cut (text f rest) ≡ tokens ++ cut rest
+  pub cuts : (f : ExprFormatOption) (rest : List ℕ) → Ends identifier_char rest → cut (text f rest) ≡ tokens ++ cut rest
   pub begins : (f : ExprFormatOption) (rest : List ℕ) → Ends lengthens (text f rest)
   pub derives : (d : ℕ) → n ≤ d → At l (Whole d) tokens t
 
@@ -30,12 +30,12 @@ pub whole-printed : {text : ExprFormatOption → List ℕ → List ℕ} {n : ℕ
     → Whole d p.tokens t
 unfolding Whole
 whole-printed p zero h = absurd (omega arith)
-whole-printed {l} p (suc d) h = (fits_in (fits_whole l) (p.derives d (omega arith))).derived
+whole-printed {l} p (suc d) h = (fits_in_lem (fits_whole l) (p.derives d (omega arith))).derived
 
 -- ---- operands
 
 -- a word that is an operand
-pub word-printed : (w : List ℕ) {t : Tree} → isIdentifier w ≡ true → ((E : Rule) → Operand E (name w ∷ []) t) → Printed (λ f r. w ++ r) 0 operand t
+pub word-printed : (w : List ℕ) {t : Tree} → is_identifier w ≡ true → ((E : Rule) → Operand E (name w ∷ []) t) → Printed (λ f r. w ++ r) 0 operand t
 word-printed w i x =
     record {
       tokens = name w ∷ [];
@@ -55,14 +55,14 @@ natural-printed n =
     }
 
 -- a name after `old`
-pub old-printed : (w : List ℕ) → isIdentifier w ≡ true → Printed (λ f r. "old " ▸ w ▹ r) 0 operand (IdExpr w true)
-unfolding isSpace isIdentifier identifierLength canStartIdentifierChar identifierChar run lengthens
+pub old-printed : (w : List ℕ) → is_identifier w ≡ true → Printed (λ f r. "old " ▸ w ▹ r) 0 operand (IdExpr w true)
+unfolding is_space is_identifier identifier_length can_start_identifier_char identifier_char run lengthens
 old-printed w i =
     record {
       tokens = word "old" ∷ name w ∷ [];
       cuts = λ f r h. cut-name (bytes "old") (32 ∷ w ++ r) refl refl ∙ ap (λ l. word "old" ∷ l) (cut-space 32 (w ++ r) refl ∙ cut-name w r i h);
       begins = λ f r. refl;
-      derives = λ d h. record { derived = oldVariable };
+      derives = λ d h. record { derived = old_variable };
     }
 
 -- ---- brackets
@@ -70,7 +70,7 @@ old-printed w i =
 -- an expression in brackets
 pub brackets-printed : {text : ExprFormatOption → List ℕ → List ℕ} {n : ℕ} {l : Level} {t : Tree} → Printed text n l t
     → Printed (λ f r. 40 ∷ text f (41 ∷ r)) (suc n) operand t
-unfolding identifierChar lengthens
+unfolding identifier_char lengthens
 brackets-printed {text} p =
     record {
       tokens = mark lparen ∷ p.tokens ++ mark rparen ∷ [];

@@ -1,9 +1,9 @@
 -- The print of a call, from its arguments' prints.
 use Rattle.std.specs.Prelude.{ℕ, suc, max, ◌≤◌, ◌≡◌, refl, true, List, [], ◌∷◌, ◌++◌}
 use Rattle.std.proofs.Common.{sym, ap, ◌∙◌, append_assoc, append-nil, arith}
-use Rattle.lexing.specs.Bytes.{isSpace, identifierChar, bytes}
-use Rattle.tree.specs.Ast.{FunctionCallExpr, Exprs, noExprs, ◌then◌}
-use Rattle.grammar.specs.Words.{isName, isIdentifier}
+use Rattle.lexing.specs.Bytes.{is_space, identifier_char, bytes}
+use Rattle.tree.specs.Ast.{FunctionCallExpr, Exprs, no_exprs, ◌then◌}
+use Rattle.grammar.specs.Words.{is_name, is_identifier}
 use Rattle.grammar.specs.Tokens.{Token, name, mark, lparen, rparen, comma, cut}
 use Rattle.grammar.specs.Grammar.{Tree, Series, last, also, Items, empty, series, call, Whole}
 use Rattle.grammar.specs.Proofs.Laws.Cut.{cut-space}
@@ -19,18 +19,18 @@ use Rattle.roundtrip.specs.Printed.{Printed, whole-printed}
 -- the arguments after the first one
 pub record PrintedRest (items : List Operand) (n : ℕ) (es : Exprs (List ℕ)) : Type 0 where
   pub tokens : List Token
-  pub cuts : (r : List ℕ) → Ends identifierChar r → cut (ExpressionList (bytes ", ") items r) ≡ tokens ++ cut r
-  pub ends : (r : List ℕ) → Ends identifierChar r → Ends identifierChar (ExpressionList (bytes ", ") items r)
+  pub cuts : (r : List ℕ) → Ends identifier_char r → cut (ExpressionList (bytes ", ") items r) ≡ tokens ++ cut r
+  pub ends : (r : List ℕ) → Ends identifier_char r → Ends identifier_char (ExpressionList (bytes ", ") items r)
   pub derives : (d : ℕ) → n ≤ d → (ts : List Token) (t : Tree) → Whole d ts t → Series (Whole d) (ts ++ tokens) (◌then◌ t es)
 
 -- all of them
 pub record PrintedItems (items : List Operand) (n : ℕ) (es : Exprs (List ℕ)) : Type 0 where
   pub tokens : List Token
-  pub cuts : (r : List ℕ) → Ends identifierChar r → cut (ExpressionList [] items r) ≡ tokens ++ cut r
+  pub cuts : (r : List ℕ) → Ends identifier_char r → cut (ExpressionList [] items r) ≡ tokens ++ cut r
   pub derives : (d : ℕ) → n ≤ d → Items (Whole d) tokens es
 
 -- no further arguments
-pub no-rest : PrintedRest [] 0 noExprs
+pub no-rest : PrintedRest [] 0 no_exprs
 unfolding ExpressionList
 no-rest =
     record {
@@ -43,7 +43,7 @@ no-rest =
 -- an argument and those after it
 pub more-rest : (a : Operand) (items : List Operand) {n m : ℕ} {l : Level} {t : Tree} {es : Exprs (List ℕ)} → Printed (a.print Init) n l t
     → PrintedRest items m es → PrintedRest (a ∷ items) (max (suc n) m) (◌then◌ t es)
-unfolding ExpressionList isSpace identifierChar
+unfolding ExpressionList is_space identifier_char
 more-rest a items p q =
     record {
       tokens = mark comma ∷ p.tokens ++ q.tokens;
@@ -60,7 +60,7 @@ more-rest a items p q =
     }
 
 -- no arguments
-pub no_items : PrintedItems [] 0 noExprs
+pub no_items : PrintedItems [] 0 no_exprs
 unfolding ExpressionList
 no_items = record { tokens = []; cuts = λ r h. refl; derives = λ d h. empty }
 
@@ -79,9 +79,9 @@ more-items a items p q =
     }
 
 -- a call
-pub call-printed : (w : List ℕ) (items : List Operand) {n : ℕ} {es : Exprs (List ℕ)} → isIdentifier w ≡ true → isName w ≡ true → PrintedItems items n es
+pub call-printed : (w : List ℕ) (items : List Operand) {n : ℕ} {es : Exprs (List ℕ)} → is_identifier w ≡ true → is_name w ≡ true → PrintedItems items n es
     → Printed (λ f r. w ▹ "(" ▸ ExpressionList [] items (")" ▸ r)) n operand (FunctionCallExpr w es)
-unfolding identifierChar
+unfolding identifier_char
 call-printed w items i k p =
     record {
       tokens = name w ∷ mark lparen ∷ p.tokens ++ mark rparen ∷ [];

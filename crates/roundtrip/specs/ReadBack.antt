@@ -6,13 +6,13 @@ use Rattle.std.proofs.Common.{subst, ◌∙◌, arith, length-take}
 use Rattle.std.proofs.Math.ListN.{length, take, drop}
 use Rattle.std.proofs.Math.Seq.{take-append_seam}
 use Rattle.tree.specs.Ast.{Expr}
-use Rattle.tree.specs.Limits.{mostText, mostWords}
-use Rattle.tree.specs.Resolve.{mapExpr}
+use Rattle.tree.specs.Limits.{most_text, most_words}
+use Rattle.tree.specs.Resolve.{map_expr}
 use Rattle.tree.specs.Check.{NameIn}
 use Rattle.tree.specs.Claims.{expression-count}
 use Rattle.grammar.specs.Tokens.{cut}
 use Rattle.grammar.specs.Grammar.{Tree, Derives}
-use Rattle.grammar.specs.OperatorTrees.{Faithful, mostDepth, wordCount, DerivesWithin}
+use Rattle.grammar.specs.OperatorTrees.{Faithful, most_depth, word_count, DerivesWithin}
 use Rattle.grammar.specs.Claims.{derivations-agree}
 use Rattle.reading.specs.TreeRead.{Answered, Leaves}
 use Rattle.reading.specs.Claims.{read-expression-exact}
@@ -22,7 +22,7 @@ use Rattle.layout.specs.declared.format.ExprFormatOption.{ExprFormatOption}
 use Rattle.layout.specs.PrintUtil.{Init}
 use Rattle.layout.specs.Printer.{Expression}
 use Rattle.tree.specs.Held.{Holds}
-use Rattle.rendering.specs.Tables.{nameIn, expressions, printOf}
+use Rattle.rendering.specs.Tables.{name_in, expressions, print_of}
 use Rattle.printing.specs.Entries.{PrintAnswered}
 use Rattle.tree.specs.HeldLaws.{same-tree}
 use Rattle.rendering.specs.TableLaws.{expression-laws}
@@ -48,66 +48,66 @@ module _ (step : ℕ) (format : ExprFormatOption) where
 
   -- So a print that keeps the reading limits has a derivation with its own tree that keeps them.
   pub print-within : (table : ℕ) (t t' : Tree) → Faithful t → DerivesWithin table (print t) t' → DerivesWithin table (print t) t
-  print-within table t t' x y = subst (DerivesWithin table (print t)) (print-determines t t' mostDepth x y.derives) y
+  print-within table t t' x y = subst (DerivesWithin table (print t)) (print-determines t t' most_depth x y.derives) y
 
   -- What keeps them, said of the tree and the print.
-  pub print-keeps : (table : ℕ) (t : Tree) → Faithful t → SmallTree t → length (print t) ≤ mostText → nesting t Init < mostDepth → wordCount t ≤ table
-      → wordCount t ≤ mostWords → DerivesWithin table (print t) t
+  pub print-keeps : (table : ℕ) (t : Tree) → Faithful t → SmallTree t → length (print t) ≤ most_text → nesting t Init < most_depth → word_count t ≤ table
+      → word_count t ≤ most_words → DerivesWithin table (print t) t
   print-keeps table t x s l n f w =
-      let d = print-derives t mostDepth x n in
-      record { short = l; derives = d; naturals = derived-small mostDepth (cut (print t)) t d s; fits = f; few = w }
+      let d = print-derives t most_depth x n in
+      record { short = l; derives = d; naturals = derived-small most_depth (cut (print t)) t d s; fits = f; few = w }
 
 -- ---- what the code answers
 
 -- the tree that a table holds over its text, its names as bytes
-abbrev pub treeIn : (text : List ℕ) → Expr (NameIn (length text)) → Tree
-treeIn text e = mapExpr (nameIn text) e
+abbrev pub tree_in : (text : List ℕ) → Expr (NameIn (length text)) → Tree
+tree_in text e = map_expr (name_in text) e
 
 module _ (text words out out' : List ℕ) (format : ExprFormatOption) (n : ℕ) (e : Expr (NameIn (length text))) (holds : Holds text words e)
-    (x : Faithful (treeIn text e)) (a : PrintAnswered text words format out (Written n) out') where
+    (x : Faithful (tree_in text e)) (a : PrintAnswered text words format out (Written n) out') where
   -- what was written is the print of the tree that the table holds, with its names as bytes
-  is-print : print 2 format (treeIn text e) ≡ take n out'
-  unfolding printOf print
+  is-print : print 2 format (tree_in text e) ≡ take n out'
+  unfolding print_of print
   is-print =
       let w = written-tree (expressions 2 text format) (expression-laws 2 text format) text words out (Written n) out' a n refl in
       let t : Expr (NameIn (length text)) = w.1.0 in
-      let p = printOf 2 text format t in
+      let p = print_of 2 text format t in
       let q = tree-printed (expressions 2 text format) (expression-laws 2 text format) text words out (Written n) out' a t w.1.1.0 w.0 w.1.1.1 in
       let k : length p ≡ n = cc q.0 in
       let same : t ≡ e = same-tree text words t e w.1.1.0 holds in
-      sym (print-named (nameIn text) 2 e Init format [])
-      ∙ ap (printOf 2 text format) (sym same)
+      sym (print-named (name_in text) 2 e Init format [])
+      ∙ ap (print_of 2 text format) (sym same)
       ∙ sym (take-append_seam p (drop (length p) out))
       ∙ ap (λ m. take m (p ++ drop (length p) out)) k
       ∙ ap (take n) (sym q.1)
 
   -- what was written is derived
-  pub written-derives : (d : ℕ) → nesting (treeIn text e) Init < d → Derives d (take n out') (treeIn text e)
-  written-derives d h = subst (λ p. Derives d p (treeIn text e)) is-print (print-derives 2 format (treeIn text e) d x h)
+  pub written-derives : (d : ℕ) → nesting (tree_in text e) Init < d → Derives d (take n out') (tree_in text e)
+  written-derives d h = subst (λ p. Derives d p (tree_in text e)) is-print (print-derives 2 format (tree_in text e) d x h)
 
   -- and is read back where it keeps the reading limits
   pub written_read : (m : ℕ) (t : Tree) → DerivesWithin m (take n out') t → (r : Reading) (table : List ℕ) → Answered (take n out') m r table
-      → Leaves (take n out') m (treeIn text e) r table
+      → Leaves (take n out') m (tree_in text e) r table
   written_read m t y r table b =
-      let z : DerivesWithin m (print 2 format (treeIn text e)) t = rw is-print y in
-      let w : DerivesWithin m (take n out') (treeIn text e) = subst (λ p. DerivesWithin m p (treeIn text e)) is-print (print-within 2 format m (treeIn text e) t x z) in
-      ((read-expression-exact (take n out') m r table (treeIn text e) b).1 w).0
+      let z : DerivesWithin m (print 2 format (tree_in text e)) t = rw is-print y in
+      let w : DerivesWithin m (take n out') (tree_in text e) = subst (λ p. DerivesWithin m p (tree_in text e)) is-print (print-within 2 format m (tree_in text e) t x z) in
+      ((read-expression-exact (take n out') m r table (tree_in text e) b).1 w).0
 
   -- The same from plain limits: those on the print's length and nesting. The tree's words are the table's, so they fit where these fit, and the
   -- table's naturals are small.
-  module _ (w : Words32 words) (short : n ≤ mostText) (flat : nesting (treeIn text e) Init < mostDepth) where
-    counted : wordCount (treeIn text e) ≡ length words
-    counted = expression-count (nameIn text) _ _ e ∙ ap length holds
+  module _ (w : Words32 words) (short : n ≤ most_text) (flat : nesting (tree_in text e) Init < most_depth) where
+    counted : word_count (tree_in text e) ≡ length words
+    counted = expression-count (name_in text) _ _ e ∙ ap length holds
 
-    keeps : (m : ℕ) → length words ≤ m → DerivesWithin m (take n out') (treeIn text e)
+    keeps : (m : ℕ) → length words ≤ m → DerivesWithin m (take n out') (tree_in text e)
     keeps m h =
-        let t = treeIn text e in
-        let c : wordCount t ≡ length words = counted in
-        let few : length words ≤ mostWords = (written-tree (expressions 2 text format) (expression-laws 2 text format) text words out (Written n) out' a n refl).0.words-fit in
-        let k : length (print 2 format t) ≤ mostText = rw is-print (omega (arith, length-take n out')) in
+        let t = tree_in text e in
+        let c : word_count t ≡ length words = counted in
+        let few : length words ≤ most_words = (written-tree (expressions 2 text format) (expression-laws 2 text format) text words out (Written n) out' a n refl).0.words-fit in
+        let k : length (print 2 format t) ≤ most_text = rw is-print (omega (arith, length-take n out')) in
         subst (λ p. DerivesWithin m p t) is-print
-        (print-keeps 2 format m t x (words_small (nameIn text) e [] (subst Words32 (sym holds) w)) k flat (omega arith) (omega arith))
+        (print-keeps 2 format m t x (words_small (name_in text) e [] (subst Words32 (sym holds) w)) k flat (omega arith) (omega arith))
 
     pub written-read-plainly : (m : ℕ) → length words ≤ m → (r : Reading) (table : List ℕ) → Answered (take n out') m r table
-        → Leaves (take n out') m (treeIn text e) r table
-    written-read-plainly m h = written_read m (treeIn text e) (keeps m h)
+        → Leaves (take n out') m (tree_in text e) r table
+    written-read-plainly m h = written_read m (tree_in text e) (keeps m h)

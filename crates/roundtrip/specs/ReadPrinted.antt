@@ -3,15 +3,15 @@ use Rattle.std.specs.Prelude.{ℕ, ◌≤◌, ◌≡◌, refl, Bool, true, false
 use Rattle.std.proofs.Math.Option.{none}
 use Rattle.std.proofs.Common.{lit≤, leb-true}
 use Rattle.tree.specs.Check.{oversized, misfitting}
-use Rattle.lexing.specs.Answer.{Answer, refused, pick, textTooLong}
+use Rattle.lexing.specs.Answer.{Answer, refused, pick, text_too_long}
 use Rattle.tree.specs.Clash.{impossible}
-use Rattle.tree.specs.Limits.{mostText}
-use Rattle.tree.specs.Words.{programWords}
-use Rattle.grammar.specs.Reading.{words, unlessLong, outcomeBy, readTreeOfProgram, parseProgram, readProgram}
+use Rattle.tree.specs.Limits.{most_text}
+use Rattle.tree.specs.Words.{program_words}
+use Rattle.grammar.specs.Reading.{words, unless_long, outcome_by, read_tree_of_program, parse_program, read_program}
 use Rattle.grammar.specs.Claims as Grammar
 use Rattle.printing.specs.declared.Printed.{Printed}
 use Rattle.printing.specs.declared.Printed.TheVariants.{Refused}
-use Rattle.rendering.specs.Tables.{mostIndent, Printable, Within, programs}
+use Rattle.rendering.specs.Tables.{most_indent, Printable, Within, programs}
 use Rattle.printing.specs.Entries.{Answered, ProgramAnswered}
 use Rattle.rendering.specs.TableLaws.{Lawful, program-laws}
 use Rattle.printing.specs.Claims as Printer
@@ -22,16 +22,16 @@ pub record Unrefused (r : Printed) : Type 0 where
   pub one-tree : (place : ℕ) → r ≡ Refused misfitting place → ⊥
 
 -- a text that was read is not too long
-pub read_fits : {A : Type 0} (words_of : A → List ℕ) (text : List ℕ) (a : Answer A) (n : ℕ) {k : ℕ} {l : List ℕ} → outcomeBy words_of n (unlessLong text a) ≡ words k l
-    → length text ≤ mostText
-read_fits words_of text a n {k} {l} p = by_length (leb (length text) mostText) refl p
+pub read_fits : {A : Type 0} (words_of : A → List ℕ) (text : List ℕ) (a : Answer A) (n : ℕ) {k : ℕ} {l : List ℕ} → outcome_by words_of n (unless_long text a) ≡ words k l
+    → length text ≤ most_text
+read_fits words_of text a n {k} {l} p = by_length (leb (length text) most_text) refl p
   where
-    by_length : (b : Bool) → leb (length text) mostText ≡ b → outcomeBy words_of n (pick b a (refused textTooLong mostText)) ≡ words k l → length text ≤ mostText
-    by_length true q p = leb-true (length text) mostText q
+    by_length : (b : Bool) → leb (length text) most_text ≡ b → outcome_by words_of n (pick b a (refused text_too_long most_text)) ≡ words k l → length text ≤ most_text
+    by_length true q p = leb-true (length text) most_text q
     by_length false q p = impossible cc
 
 -- a table that the check accepts, over a text that is not too long
-pub accepted-unrefused : (P : Printable) (L : Lawful P) (text table out out' : List ℕ) (r : Printed) → Answered P text table out r out' → length text ≤ mostText → P.indent ≤ mostIndent
+pub accepted-unrefused : (P : Printable) (L : Lawful P) (text table out out' : List ℕ) (r : Printed) → Answered P text table out r out' → length text ≤ most_text → P.indent ≤ most_indent
     → P.refused table ≡ none → Unrefused r
 accepted-unrefused P L text table out out' r a t i e =
     let w : Within P text table = record { text-fits = t; words-fit = ((P.unrefused table).0 e).0; indent-fits = i } in
@@ -41,9 +41,9 @@ accepted-unrefused P L text table out out' r a t i e =
     }
 
 -- the table of a program
-pub program-unrefused : (text : List ℕ) (n k : ℕ) (table out out' : List ℕ) (r : Printed) → readProgram text n ≡ words k table → ProgramAnswered text (take k table) out r out'
+pub program-unrefused : (text : List ℕ) (n k : ℕ) (table out out' : List ℕ) (r : Printed) → read_program text n ≡ words k table → ProgramAnswered text (take k table) out r out'
     → Unrefused r
-unfolding readProgram readTreeOfProgram
+unfolding read_program read_tree_of_program
 program-unrefused text n k table out out' r e a =
     accepted-unrefused (programs 2 text) (program-laws 2 text) text (take k table) out out' r a
-    (read_fits (λ p. programWords (λ s. s) p []) text (parseProgram text) n e) (lit≤ tt) (Grammar.read-program-accepted text n k table e)
+    (read_fits (λ p. program_words (λ s. s) p []) text (parse_program text) n e) (lit≤ tt) (Grammar.read-program-accepted text n k table e)

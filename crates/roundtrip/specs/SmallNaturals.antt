@@ -1,25 +1,25 @@
 -- A table's naturals keep the limit, since each has two words; and where a derivation's tree has no natural past the limit, its tokens have none.
 use Rattle.std.specs.Prelude.{ℕ, suc, ◌/◌, ◌^◌, ◌≤◌, ◌<◌, ◌≡◌, refl, Bool, true, false, ◌&&◌, List, [], ◌∷◌, ◌++◌, leb, get_or}
 use Rattle.std.proofs.Common.{subst, arith, le-leb}
-use Rattle.lexing.specs.Tokens.{mostNatural}
+use Rattle.lexing.specs.Tokens.{most_natural}
 use Rattle.tree.specs.Ast.{Expr, BLiteral, ILiteral, CustomLiteral, IdExpr, OperatorExpr, FunctionCallExpr, LabeledExpr, LetExpr, QuantifierExpr, ClosureExpr}
-use Rattle.tree.specs.Ast.{Exprs, noExprs, ◌then◌}
-use Rattle.tree.specs.Resolve.{mapExpr, mapExprs}
-use Rattle.tree.specs.Words.{exprWords, exprsWords}
+use Rattle.tree.specs.Ast.{Exprs, no_exprs, ◌then◌}
+use Rattle.tree.specs.Resolve.{map_expr, map_exprs}
+use Rattle.tree.specs.Words.{expr_words, exprs_words}
 use Rattle.tree.specs.Check.{NameIn}
 use Rattle.tree.specs.Kind.{expr}
-use Rattle.tree.specs.Trees.{namesIn}
+use Rattle.tree.specs.Trees.{names_in}
 use Rattle.tree.specs.Walk.{words_append}
 use Rattle.grammar.specs.Tokens.{Token, name, nat, mark, sign, illegal, rparen, comma}
-use Rattle.grammar.specs.Grammar.{Tree, Build, straight, swapped, build, asUnary, asBinary, unary, binary, Whole}
-use Rattle.grammar.specs.OperatorTrees.{smallNaturals}
+use Rattle.grammar.specs.Grammar.{Tree, Build, straight, swapped, build, as_unary, as_binary, unary, binary, Whole}
+use Rattle.grammar.specs.OperatorTrees.{small_naturals}
 use Rattle.grammar.specs.Proofs.Laws.Every.{Invariant, whole-kept, WordOrSign, word-or-sign}
 
 -- each natural of an operator tree is at most 18446744073709551615; other trees are not looked into
 abbrev mutual
   pub SmallTree : Tree → Type 0
   SmallTree (BLiteral b) = Unit {0}
-  SmallTree (ILiteral n) = n ≤ mostNatural
+  SmallTree (ILiteral n) = n ≤ most_natural
   SmallTree (CustomLiteral s t) = Unit {0}
   SmallTree (IdExpr w o) = Unit {0}
   SmallTree (OperatorExpr op es) = SmallTrees es
@@ -30,25 +30,25 @@ abbrev mutual
   SmallTree (ClosureExpr bs w y ps) = Unit {0}
 
   pub SmallTrees : Exprs (List ℕ) → Type 0
-  SmallTrees noExprs = Unit {0}
+  SmallTrees no_exprs = Unit {0}
   SmallTrees (◌then◌ t es) = SmallTree t × SmallTrees es
 
 and_assoc : (a b c : Bool) → (a && (b && c)) ≡ ((a && b) && c)
 and_assoc true b c = refl
 and_assoc false b c = refl
 
-small-append : (ts us : List Token) → smallNaturals (ts ++ us) ≡ (smallNaturals ts && smallNaturals us)
-unfolding smallNaturals
+small-append : (ts us : List Token) → small_naturals (ts ++ us) ≡ (small_naturals ts && small_naturals us)
+unfolding small_naturals
 small-append [] us = refl
 small-append (name w ∷ ts) us = small-append ts us
-small-append (nat n ∷ ts) us = rw (small-append ts us) (and_assoc (leb n mostNatural) (smallNaturals ts) (smallNaturals us))
+small-append (nat n ∷ ts) us = rw (small-append ts us) (and_assoc (leb n most_natural) (small_naturals ts) (small_naturals us))
 small-append (mark k ∷ ts) us = small-append ts us
 small-append (sign g ∷ ts) us = small-append ts us
 small-append (illegal ∷ ts) us = small-append ts us
 
 -- an operator is no natural
-small-operator : (o : Token) (ts : List Token) → WordOrSign o → smallNaturals (o ∷ ts) ≡ smallNaturals ts
-unfolding smallNaturals
+small-operator : (o : Token) (ts : List Token) → WordOrSign o → small_naturals (o ∷ ts) ≡ small_naturals ts
+unfolding small_naturals
 small-operator (name w) ts x = refl
 small-operator (nat n) ts x = absurd x
 small-operator (mark k) ts x = refl
@@ -60,13 +60,13 @@ operands-small : (b : Build) (t u : Tree) → SmallTree (build b t u) → SmallT
 operands-small (straight op) t u s = (s.0, s.1.0)
 operands-small (swapped op) t u s = (s.1.0, s.0)
 
-naturals-kept : Invariant (λ ts t. SmallTree t → smallNaturals ts ≡ true) (λ ts es. SmallTrees es → smallNaturals ts ≡ true)
-unfolding smallNaturals unary binary
+naturals-kept : Invariant (λ ts t. SmallTree t → small_naturals ts ≡ true) (λ ts es. SmallTrees es → small_naturals ts ≡ true)
+unfolding small_naturals unary binary
 naturals-kept =
     record {
       false-kept = λ s. refl;
       true-kept = λ s. refl;
-      nat-kept = λ n s. rw (le-leb n mostNatural s) refl;
+      nat-kept = λ n s. rw (le-leb n most_natural s) refl;
       name-kept = λ w n s. refl;
       old-kept = λ w s. refl;
       call_kept = λ w ts es n h s. rw (small-append ts (mark rparen ∷ []), h s) refl;
@@ -74,12 +74,12 @@ naturals-kept =
       empty-kept = λ s. refl;
       last-kept = λ ts t h s. h s.0;
       also_kept = λ ts us t es h i s. rw (small-append ts (mark comma ∷ us), h s.0) (i s.1);
-      unary_kept = λ o op ts t l h s. rw (small-operator o ts (word-or-sign asUnary refl o l)) (h s.0);
+      unary_kept = λ o op ts t l h s. rw (small-operator o ts (word-or-sign as_unary refl o l)) (h s.0);
       binary-kept = λ o c b ts us t u l h i s.
-          let (x, y) = operands-small b t u s in rw (small-append ts (o ∷ us), h x, small-operator o us (word-or-sign asBinary refl o l)) (i y);
+          let (x, y) = operands-small b t u s in rw (small-append ts (o ∷ us), h x, small-operator o us (word-or-sign as_binary refl o l)) (i y);
     }
 
-pub derived-small : (d : ℕ) (ts : List Token) (t : Tree) → Whole d ts t → SmallTree t → smallNaturals ts ≡ true
+pub derived-small : (d : ℕ) (ts : List Token) (t : Tree) → Whole d ts t → SmallTree t → small_naturals ts ≡ true
 derived-small = whole-kept naturals-kept
 
 -- ---- the naturals of a table
@@ -94,13 +94,13 @@ later-words [] rest h = h
 later-words (w ∷ ws) rest h = later-words ws rest (λ i. h (suc i))
 
 -- a natural in two words keeps the limit
-natural-small : (n : ℕ) → n / 2 ^ 32 < 2 ^ 32 → n ≤ mostNatural
+natural-small : (n : ℕ) → n / 2 ^ 32 < 2 ^ 32 → n ≤ most_natural
 natural-small n h = omega arith
 
 module _ {len : ℕ} (name : NameIn len → List ℕ) where
   -- an item of a list stands before the others
   mutual
-    pub words_small : (e : Expr (NameIn len)) (rest : List ℕ) → Words32 (exprWords (λ n. n.span) e rest) → SmallTree (mapExpr name e)
+    pub words_small : (e : Expr (NameIn len)) (rest : List ℕ) → Words32 (expr_words (λ n. n.span) e rest) → SmallTree (map_expr name e)
     words_small (BLiteral b) rest h = tt
     words_small (ILiteral n) rest h = natural-small n (h 1)
     words_small (CustomLiteral s t) rest h = tt
@@ -112,12 +112,12 @@ module _ {len : ℕ} (name : NameIn len → List ℕ) where
     words_small (QuantifierExpr u bs ps e) rest h = tt
     words_small (ClosureExpr bs n t ps) rest h = tt
 
-    all-words-small : (es : Exprs (NameIn len)) (rest : List ℕ) → Words32 (exprsWords (λ n. n.span) es rest) → SmallTrees (mapExprs name es)
-    all-words-small noExprs rest h = tt
+    all-words-small : (es : Exprs (NameIn len)) (rest : List ℕ) → Words32 (exprs_words (λ n. n.span) es rest) → SmallTrees (map_exprs name es)
+    all-words-small no_exprs rest h = tt
     all-words-small (◌then◌ e es) rest h =
-        let more = exprsWords (λ (n : NameIn len). n.span) es rest in
-        let after : Words32 (exprWords (λ n. n.span) e more) = λ i. h (suc i) in (
+        let more = exprs_words (λ (n : NameIn len). n.span) es rest in
+        let after : Words32 (expr_words (λ n. n.span) e more) = λ i. h (suc i) in (
           words_small e more after,
           all-words-small es rest
-              (later-words (exprWords (λ n. n.span) e []) more (subst Words32 (words_append (namesIn len) expr e more) after)),
+              (later-words (expr_words (λ n. n.span) e []) more (subst Words32 (words_append (names_in len) expr e more) after)),
         )

@@ -3,18 +3,18 @@
 use Rattle.std.specs.Prelude.{◌≡◌, refl, ℕ, ◌+◌, ◌≤◌, false, List, [], ◌∷◌, length}
 use Prim.Native.String.{String}
 use Rattle.std.proofs.Common.{lit≤}
-use Rattle.tree.specs.Ast.{Expr, IdExpr, Operator, OperatorExpr, noExprs, ◌then◌, LogicalAnd, LogicalOr, Minus, Times, Div}
-use Rattle.tree.specs.Words.{exprWords}
+use Rattle.tree.specs.Ast.{Expr, IdExpr, Operator, OperatorExpr, no_exprs, ◌then◌, LogicalAnd, LogicalOr, Minus, Times, Div}
+use Rattle.tree.specs.Words.{expr_words}
 use Rattle.tree.specs.Check.{NameIn}
 use Rattle.tree.specs.Resolve.{part}
 use Rattle.lexing.specs.Bytes.{bytes}
 use Rattle.grammar.specs.ProgramExamples.{computed as read-computed}
-use Rattle.grammar.specs.Reading.{words, refusal, readExpression, readProgram}
+use Rattle.grammar.specs.Reading.{words, refusal, read_expression, read_program}
 use Rattle.grammar.specs.Reading as Reading
 use Rattle.layout.specs.declared.format.ExprFormatOption.TheVariants.{SingleLine}
 use Rattle.layout.specs.Examples.{computed as print-computed}
-use Rattle.rendering.specs.Tables.{expressions, printOf}
-use Rattle.printing.specs.Entries.{written, stored, printExpression}
+use Rattle.rendering.specs.Tables.{expressions, print_of}
+use Rattle.printing.specs.Entries.{written, stored, print_expression}
 use Rattle.printing.specs.Entries as Printing
 use Rattle.printing.specs.EntryLaws as Entry
 use Rattle.rendering.specs.TableLaws.{expression-laws}
@@ -22,15 +22,15 @@ use Rattle.rendering.specs.TableLaws.{expression-laws}
 -- a row of the list
 pub data Trial : Type 0 where
   reads : String → ℕ → Reading.Outcome → Trial
-  readsProgram : String → ℕ → Reading.Outcome → Trial
+  reads_program : String → ℕ → Reading.Outcome → Trial
   prints : String → List ℕ → String → Printing.Outcome → Trial
 
 -- each row is what the definitions give
 abbrev pub Given : List Trial → Type 0
 Given [] = Unit {0}
-Given (reads s n o ∷ ts) = (readExpression (bytes s) n ≡ o) × Given ts
-Given (readsProgram s n o ∷ ts) = (readProgram (bytes s) n ≡ o) × Given ts
-Given (prints s ws out o ∷ ts) = (printExpression 2 (bytes s) ws SingleLine (bytes out) ≡ o) × Given ts
+Given (reads s n o ∷ ts) = (read_expression (bytes s) n ≡ o) × Given ts
+Given (reads_program s n o ∷ ts) = (read_program (bytes s) n ≡ o) × Given ts
+Given (prints s ws out o ∷ ts) = (print_expression 2 (bytes s) ws SingleLine (bytes out) ≡ o) × Given ts
 
 -- the list
 abbrev pub trials : List Trial
@@ -46,7 +46,7 @@ trials =
     ∷ prints "abc" (5 ∷ 12 ∷ 1 ∷ 4 ∷ 0 ∷ 1 ∷ 0 ∷ 1 ∷ 5 ∷ 13 ∷ 1 ∷ 4 ∷ 1 ∷ 1 ∷ 0 ∷ 1 ∷ 4 ∷ 2 ∷ 1 ∷ 0 ∷ 0 ∷ 0 ∷ []) "~~~~~~~~~~~~~~~~" (written 11 (bytes "a * b div c~~~~~"))  -- P9
     ∷ prints "abc" (5 ∷ 4 ∷ 1 ∷ 5 ∷ 5 ∷ 1 ∷ 4 ∷ 0 ∷ 1 ∷ 0 ∷ 1 ∷ 4 ∷ 1 ∷ 1 ∷ 0 ∷ 0 ∷ 1 ∷ 4 ∷ 2 ∷ 1 ∷ 0 ∷ 0 ∷ []) "~~~~~~~~~~~~~~~~" (written 13 (bytes "(a || b) && c~~~"))  -- P10
     ∷ reads "a + 1" 14 (words 12 (5 ∷ 10 ∷ 1 ∷ 4 ∷ 0 ∷ 1 ∷ 0 ∷ 1 ∷ 2 ∷ 0 ∷ 1 ∷ 0 ∷ 0 ∷ 0 ∷ []))  -- P11
-    ∷ readsProgram "/* q" 6 (words 5 (0 ∷ 0 ∷ 0 ∷ 0 ∷ 0 ∷ 0 ∷ []))  -- P12
+    ∷ reads_program "/* q" 6 (words 5 (0 ∷ 0 ∷ 0 ∷ 0 ∷ 0 ∷ 0 ∷ []))  -- P12
     ∷ []
 
 -- the trees of the tables over `abc`
@@ -54,7 +54,7 @@ abbrev name : (at : ℕ) → at + 1 ≤ 3 → Expr (NameIn 3)
 name at h = IdExpr (record { span = record { start = at; len = 1 }; inside = h }) false
 
 abbrev two : Operator → Expr (NameIn 3) → Expr (NameIn 3) → Expr (NameIn 3)
-two op a b = OperatorExpr op (◌then◌ a (◌then◌ b noExprs))
+two op a b = OperatorExpr op (◌then◌ a (◌then◌ b no_exprs))
 
 abbrev a : Expr (NameIn 3)
 a = name 0 (lit≤ tt)
@@ -65,13 +65,13 @@ b = name 1 (lit≤ tt)
 abbrev c : Expr (NameIn 3)
 c = name 2 (lit≤ tt)
 
-printed : (e : Expr (NameIn 3)) (ws : List ℕ) → exprWords (λ n. n.span) e [] ≡ ws → length ws ≤ 16384
-    → printExpression 2 (bytes "abc") ws SingleLine (bytes "~~~~~~~~~~~~~~~~") ≡ stored (printOf 2 (bytes "abc") SingleLine e) (bytes "~~~~~~~~~~~~~~~~")
+printed : (e : Expr (NameIn 3)) (ws : List ℕ) → expr_words (λ n. n.span) e [] ≡ ws → length ws ≤ 16384
+    → print_expression 2 (bytes "abc") ws SingleLine (bytes "~~~~~~~~~~~~~~~~") ≡ stored (print_of 2 (bytes "abc") SingleLine e) (bytes "~~~~~~~~~~~~~~~~")
 printed e ws h l = Entry.prints (expressions 2 (bytes "abc") SingleLine) (bytes "abc") ws (bytes "~~~~~~~~~~~~~~~~") (expression-laws 2 (bytes "abc") SingleLine) e h (lit≤ tt) l (lit≤ tt)
 
 -- the theorem
 pub trials-given : Given trials
-unfolding read-computed print-computed printOf stored part
+unfolding read-computed print-computed print_of stored part
 trials-given = (
   refl,
   (

@@ -2,7 +2,7 @@
 -- output after it.
 use Rattle.std.specs.Prelude.{ℕ, ◌≤◌, ◌<◌, List}
 use Rattle.std.proofs.Common.{sym, subst}
-use Rattle.printing.specs.Entries.{mostPrint}
+use Rattle.printing.specs.Entries.{most_print}
 use Rattle.tidy.specs.Tidy.{Tidied}
 use Rattle.tidy.specs.Cases.{Cases, tidied-cases, below-is-count, Refusal, above-is-refusal}
 
@@ -13,7 +13,7 @@ module _ (text out : List ℕ) (r : ℕ) (out' : List ℕ) (a : Tidied text out 
   answer-cases = subst (Cases text out) (sym a) (tidied-cases text out)
 
   -- Below 2^32 the answer is a byte count of at most 65,536.
-  pub counted : r < 4294967296 → r ≤ mostPrint
+  pub counted : r < 4294967296 → r ≤ most_print
   counted = below-is-count text answer-cases
 
   -- From 2^32 on it is a refusal by 1, 2, 3, 4, 5 or 8 with a place of at most 32,768, and the output is as it was.

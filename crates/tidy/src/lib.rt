@@ -1,12 +1,12 @@
 // Tidy (REFERENCE, "The entries"): a program is read and printed in one call, for a host in C (include/tidy.h).
 ghost use Rattle.std.specs.Prelude.{◌≤◌, ◌≡◌, length};
 ghost use Rattle.std.proofs.Math.Option.{none};
-ghost use Rattle.tree.specs.Limits.{mostText};
-ghost use Rattle.tree.specs.Check.{programRefusal};
-ghost use Rattle.grammar.specs.Reading.{readProgram};
+ghost use Rattle.tree.specs.Limits.{most_text};
+ghost use Rattle.tree.specs.Check.{program_refusal};
+ghost use Rattle.grammar.specs.Reading.{read_program};
 ghost use Rattle.reading.specs.TreeRead.{ProgramAnswered};
-ghost use Rattle.printing.specs.Entries.{printProgram};
-ghost use Rattle.tidy.specs.Tidy.{Tidied, refusalNumber, ofPrint, ofReading};
+ghost use Rattle.printing.specs.Entries.{print_program};
+ghost use Rattle.tidy.specs.Tidy.{Tidied, refusal_number, of_print, of_reading};
 
 use printing::{Printed, print_program};
 use reading::{Reading, read_program};
@@ -47,7 +47,7 @@ fn tidy_any(text: &[u8], out: &mut [u8]) -> u64
 // The print of what a reading left in a table, or its refusal.
 fn answer(text: &[u8], read: Reading, table: &[u32], out: &mut [u8]) -> u64
     requires { ProgramAnswered text.now (length table.now) read table.now }
-    ensures { record { answer = result; output = out.new } ≡ ofReading text.now out.old (readProgram text.now (length table.now)) }
+    ensures { record { answer = result; output = out.new } ≡ of_reading text.now out.old (read_program text.now (length table.now)) }
 {
     match read {
         Reading::Words(n) => print(text, &table[..n], out),
@@ -57,8 +57,8 @@ fn answer(text: &[u8], read: Reading, table: &[u32], out: &mut [u8]) -> u64
 
 // The print of a table's words.
 fn print(text: &[u8], words: &[u32], out: &mut [u8]) -> u64
-    requires { (length text.now ≤ mostText) × (programRefusal words.now (length text.now) ≡ none) }
-    ensures { record { answer = result; output = out.new } ≡ ofPrint (printProgram 2 text.now words.now out.old) }
+    requires { (length text.now ≤ most_text) × (program_refusal words.now (length text.now) ≡ none) }
+    ensures { record { answer = result; output = out.new } ≡ of_print (print_program 2 text.now words.now out.old) }
 {
     match print_program(text, words, out) {
         Printed::Written(n) => n as u64,
@@ -68,8 +68,8 @@ fn print(text: &[u8], words: &[u32], out: &mut [u8]) -> u64
 
 // A refusal as one number.
 fn refusal(number: u64, place: usize) -> u64
-    requires { (number ≤ 8) × (place ≤ mostText) }
-    ensures { result ≡ refusalNumber number place }
+    requires { (number ≤ 8) × (place ≤ most_text) }
+    ensures { result ≡ refusal_number number place }
 {
     number * 4294967296 + place as u64
 }

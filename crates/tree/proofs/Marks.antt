@@ -11,23 +11,23 @@ use lib.Seq.{get_or-append-add, set_out}
 use lib.Dec.{eqb, leb}
 use borrow.Author.Tests.{eq-eqb, ne_eqb, leb-true, leb-false}
 use Rattle.tree.specs.Kind.{Kind, bool, operator, mode, natural, name, expr, stmt, aexpr, option, seq}
-use Rattle.tree.specs.Kind.{ofName, ofExpr, ofBinding, ofPattern, ofClosureBinding, ofClosureProperty, ofStmt, ofCallArgument, ofCase, ofAExpr, ofTagger, ofFParameter, ofFunction, ofAxiom, ofPParameter, ofProcedure}
-use Rattle.tree.specs.Kind.{aName, anExpr, aStmt, aDefinition}
-use Rattle.tree.specs.Tally.{Mark, sequence, opened, markAt, more, noted}
+use Rattle.tree.specs.Kind.{of_name, of_expr, of_binding, of_pattern, of_closure_binding, of_closure_property, of_stmt, of_call_argument, of_case, of_a_expr, of_tagger, of_f_parameter, of_function, of_axiom, of_p_parameter, of_procedure}
+use Rattle.tree.specs.Kind.{a_name, an_expr, a_stmt, a_definition}
+use Rattle.tree.specs.Tally.{Mark, sequence, opened, mark_at, more, noted}
 use Rattle.tree.specs.Trees.{◌▸◌}
 use Rattle.tree.specs.KindNumbers.{kind_of}
-use Rattle.tree.specs.Rows.{kindsOf, asMark, ownMark, Opens, MarkIs, FrameIs}
+use Rattle.tree.specs.Rows.{kinds_of, as_mark, own_mark, Opens, MarkIs, FrameIs}
 use Rattle.tree.proofs.Entries.{row_cons, row-none}
 
 -- ---- marks
 
 -- a number that is not 0
-mark-some : (m : ℕ) → 0 < m → asMark m ≡ some (record { start = (m - 1) % 65536; passed = (m - 1) / 65536 })
+mark-some : (m : ℕ) → 0 < m → as_mark m ≡ some (record { start = (m - 1) % 65536; passed = (m - 1) / 65536 })
 mark-some zero h = absurd (not-suc-le-zero h)
 mark-some (suc n) h = let e : suc n - 1 ≡ n = omega arith in rw e
 
 -- the mark of a sequence that starts at a place
-mark-start : (at : ℕ) → at < 65535 → asMark (at + 1) ≡ some (record { start = at; passed = 0 })
+mark-start : (at : ℕ) → at < 65535 → as_mark (at + 1) ≡ some (record { start = at; passed = 0 })
 mark-start at h =
     let s : (at + 1 - 1) % 65536 ≡ at = omega arith in
     let p : (at + 1 - 1) / 65536 ≡ 0 = omega arith in
@@ -37,21 +37,21 @@ mark-start at h =
 pub opens-behind : (mark after at : ℕ) → at < 65535 → 0 < after → Opens mark after at (at + 1)
 opens-behind mark after at h a =
     record {
-      is = mark-start at h ∙ ap (λ (b : Bool). some (opened (cond b (asMark mark) none) at)) (sym (ne_eqb after 0 (λ z. omega arith)));
+      is = mark-start at h ∙ ap (λ (b : Bool). some (opened (cond b (as_mark mark) none) at)) (sym (ne_eqb after 0 (λ z. omega arith)));
       small = λ b l m. m;
     }
 
 pub opens-first : (mark after at : ℕ) → at < 65535 → after ≡ 0 → mark ≡ 0 → Opens mark after at (at + 1)
 opens-first mark after at h a m =
     record {
-      is = mark-start at h ∙ sym ((λ i. some (opened (cond (eq-eqb after 0 a i) (asMark (m i)) none) at)));
+      is = mark-start at h ∙ sym ((λ i. some (opened (cond (eq-eqb after 0 a i) (as_mark (m i)) none) at)));
       small = λ b l n. n;
     }
 
 -- the rest of a sequence has its mark
 pub opens-rest : (mark after at : ℕ) → after ≡ 0 → (mark ≡ 0 → ⊥) → Opens mark after at mark
 opens-rest mark after at a m =
-    let e : asMark mark ≡ some (record { start = (mark - 1) % 65536; passed = (mark - 1) / 65536 }) = mark-some mark (omega arith) in
+    let e : as_mark mark ≡ some (record { start = (mark - 1) % 65536; passed = (mark - 1) / 65536 }) = mark-some mark (omega arith) in
     record {
       is = e ∙ sym ((λ i. some (opened (cond (eq-eqb after 0 a i) (e i) none) at)));
       small = λ b l n. l;
@@ -63,8 +63,8 @@ pub mark-sequence : {frame at row r : ℕ} {b : Bool} → row ≡ frame % 2 ^ 32
 mark-sequence {frame} {at} {row} e f t o =
     record {
       is = o.is
-          ∙ ap (λ (x : ℕ). some (opened (cond (eqb (x / 32) 0) (asMark (frame / 2 ^ 32)) none) at)) e
-          ∙ sym (ap (λ (x : Bool). cond x (some (opened (ownMark frame) at)) none) (ap (λ (x : ℕ). sequence (kind_of (x % 32))) (sym e) ∙ sym f ∙ t));
+          ∙ ap (λ (x : ℕ). some (opened (cond (eqb (x / 32) 0) (as_mark (frame / 2 ^ 32)) none) at)) e
+          ∙ sym (ap (λ (x : Bool). cond x (some (opened (own_mark frame) at)) none) (ap (λ (x : ℕ). sequence (kind_of (x % 32))) (sym e) ∙ sym f ∙ t));
       small = o.small;
     }
 
@@ -72,7 +72,7 @@ mark-sequence {frame} {at} {row} e f t o =
 pub mark-none : {frame at row : ℕ} {b : Bool} → row ≡ frame % 2 ^ 32 → b ≡ sequence (kind_of (row % 32)) → b ≡ false → MarkIs frame at 0
 mark-none {frame} {at} {row} e f t =
     record {
-      is = sym (ap (λ (x : Bool). cond x (some (opened (ownMark frame) at)) none) (ap (λ (x : ℕ). sequence (kind_of (x % 32))) (sym e) ∙ sym f ∙ t));
+      is = sym (ap (λ (x : Bool). cond x (some (opened (own_mark frame) at)) none) (ap (λ (x : ℕ). sequence (kind_of (x % 32))) (sym e) ∙ sym f ∙ t));
       small = λ b l m. omega arith;
     }
 
@@ -81,7 +81,7 @@ mark-none {frame} {at} {row} e f t =
 pub frame-plain : (fields mark : ℕ) → fields < 2 ^ 32 → mark ≡ 0 → FrameIs fields mark fields
 frame-plain fields mark h z =
     let e : fields / 2 ^ 32 ≡ 0 = omega arith in
-    record { row = omega arith; mark-is = ap asMark e ∙ sym (ap (λ (m : ℕ). more (asMark m)) z); small = omega arith }
+    record { row = omega arith; mark-is = ap as_mark e ∙ sym (ap (λ (m : ℕ). more (as_mark m)) z); small = omega arith }
 
 pub frame-marked : (fields mark : ℕ) → fields < 2 ^ 32 → (mark ≡ 0 → ⊥) → FrameIs fields mark ((mark + 65536) * 4294967296 + fields)
 frame-marked fields mark h n =
@@ -91,7 +91,7 @@ frame-marked fields mark h n =
     record {
       row = omega arith;
       mark-is =
-          ap asMark e ∙ mark-some (mark + 65536) (omega arith) ∙ (λ i. some (record { start = s i; passed = p i }))
+          ap as_mark e ∙ mark-some (mark + 65536) (omega arith) ∙ (λ i. some (record { start = s i; passed = p i }))
           ∙ sym (ap more (mark-some mark (omega arith)));
       small = omega arith;
     }
@@ -100,18 +100,18 @@ frame-marked fields mark h n =
 
 module _ (counts : List ℕ) (fields mark : ℕ) where
   -- a word with fields ends no sequence
-  pub noted-open : fields < 2 ^ 32 → (fields ≡ 0 → ⊥) → counts ≡ noted (kindsOf fields) (asMark mark) counts
-  noted-open h n = sym (ap (λ (ks : List Kind). noted ks (asMark mark) counts) (row_cons fields n h))
+  pub noted-open : fields < 2 ^ 32 → (fields ≡ 0 → ⊥) → counts ≡ noted (kinds_of fields) (as_mark mark) counts
+  noted-open h n = sym (ap (λ (ks : List Kind). noted ks (as_mark mark) counts) (row_cons fields n h))
 
   -- nor does one without a mark
-  pub noted-unmarked : fields ≡ 0 → mark ≤ 0 → counts ≡ noted (kindsOf fields) (asMark mark) counts
-  noted-unmarked z h = let m : mark ≡ 0 = omega arith in sym (λ i. noted (row-none fields z i) (asMark (m i)) counts)
+  pub noted-unmarked : fields ≡ 0 → mark ≤ 0 → counts ≡ noted (kinds_of fields) (as_mark mark) counts
+  noted-unmarked z h = let m : mark ≡ 0 = omega arith in sym (λ i. noted (row-none fields z i) (as_mark (m i)) counts)
 
   -- the number of one that ends is stored, where there is a place for it
-  pub noted-end : fields ≡ 0 → 0 < mark → set counts ((mark - 1) % 65536) ((mark - 1) / 65536) ≡ noted (kindsOf fields) (asMark mark) counts
+  pub noted-end : fields ≡ 0 → 0 < mark → set counts ((mark - 1) % 65536) ((mark - 1) / 65536) ≡ noted (kinds_of fields) (as_mark mark) counts
   noted-end z h = sym (λ i. noted (row-none fields z i) (mark-some mark h i) counts)
 
-  pub noted-past : fields ≡ 0 → 0 < mark → length counts ≤ (mark - 1) % 65536 → counts ≡ noted (kindsOf fields) (asMark mark) counts
+  pub noted-past : fields ≡ 0 → 0 < mark → length counts ≤ (mark - 1) % 65536 → counts ≡ noted (kinds_of fields) (as_mark mark) counts
   noted-past z h l = sym (set_out counts ((mark - 1) % 65536) ((mark - 1) / 65536) l) ∙ noted-end z h
 
 -- ---- which kinds are sequences
@@ -133,13 +133,13 @@ none-at (k ∷ ks) a zero = a.0
 none-at (k ∷ ks) a (suc n) = none-at ks a.1 n
 
 abbrev before : List Kind
-before = bool ∷ bool ∷ operator ∷ mode ∷ expr ∷ stmt ∷ aexpr ∷ option aName ∷ option anExpr ∷ option aStmt ∷ option aDefinition ∷ []
+before = bool ∷ bool ∷ operator ∷ mode ∷ expr ∷ stmt ∷ aexpr ∷ option a_name ∷ option an_expr ∷ option a_stmt ∷ option a_definition ∷ []
 
 abbrev sequences : List Kind
 sequences =
-    seq ofName ∷ seq ofExpr ∷ seq ofBinding ∷ seq ofPattern ∷ seq ofClosureBinding ∷ seq ofClosureProperty
-    ∷ seq ofStmt ∷ seq ofCallArgument ∷ seq ofCase ∷ seq ofAExpr
-    ∷ seq ofTagger ∷ seq ofFParameter ∷ seq ofFunction ∷ seq ofAxiom ∷ seq ofPParameter ∷ seq ofProcedure ∷ []
+    seq of_name ∷ seq of_expr ∷ seq of_binding ∷ seq of_pattern ∷ seq of_closure_binding ∷ seq of_closure_property
+    ∷ seq of_stmt ∷ seq of_call_argument ∷ seq of_case ∷ seq of_a_expr
+    ∷ seq of_tagger ∷ seq of_f_parameter ∷ seq of_function ∷ seq of_axiom ∷ seq of_p_parameter ∷ seq of_procedure ∷ []
 
 abbrev behind : List Kind
 behind = name ∷ natural ∷ natural ∷ natural ∷ natural ∷ []

@@ -1,4 +1,4 @@
--- The check over the words from a place on, one step: what stands there, and how `run`, `tally` and `kindNotes` go on.
+-- The check over the words from a place on, one step: what stands there, and how `run`, `tally` and `kind_notes` go on.
 use Prim.Native.Nat.{ℕ, suc, ◌+◌, ◌-◌, ◌≤◌, ◌<◌, ◌^◌}
 use native.Mathlib.Numerals.{add-one}
 use native.Mathlib.Omega.{arith}
@@ -10,12 +10,12 @@ use lib.ListN.{length, get_or, drop, set, drop_of_length-le}
 use lib.Dec.{ltb}
 use lib.Seq.{drop-cons}
 use borrow.Author.Tests.{le-leb, lt-leb, lt-ltb, le-ltb}
-use Rattle.tree.specs.Kind.{Kind, name, natural, low, lengthFrom, Turn, fits, misfit, turn}
+use Rattle.tree.specs.Kind.{Kind, name, natural, low, length_from, Turn, fits, misfit, turn}
 use Rattle.tree.specs.Check.{run, within}
-use Rattle.tree.specs.Rows.{digits, kindsOf, Went, Stopped}
-use Rattle.tree.specs.KindNumbers.{kindNumber, secondWord}
-use Rattle.tree.specs.Notes.{noteKind, kindNotes}
-use Rattle.tree.specs.Tally.{Mark, Expected, sequence, opened, markAt, more, marked, noted, tally}
+use Rattle.tree.specs.Rows.{digits, kinds_of, Went, Stopped}
+use Rattle.tree.specs.KindNumbers.{kind_number, second_word}
+use Rattle.tree.specs.Notes.{note_kind, kind_notes}
+use Rattle.tree.specs.Tally.{Mark, Expected, sequence, opened, mark_at, more, marked, noted, tally}
 use Rattle.tree.specs.declared.Checked.{Checked}
 use Rattle.tree.specs.declared.Checked.TheVariants.{Misfit}
 
@@ -49,7 +49,7 @@ module _ (len : ℕ) (ws : List ℕ) (at : ℕ) where
 
   module _ (k : Kind) (m : Option Mark) (es : List Expected) (c : List ℕ) where
     abbrev counting : Turn → List ℕ
-    counting (fits fs) = tally (within len) (marked fs (more (markAt k m at)) ++ es) (at + 1) (drop (at + 1) ws) (noted fs (markAt k m at) c)
+    counting (fits fs) = tally (within len) (marked fs (more (mark_at k m at)) ++ es) (at + 1) (drop (at + 1) ws) (noted fs (mark_at k m at) c)
     counting (misfit back) = c
 
     -- a word's turn is what `tally` does at it
@@ -60,7 +60,7 @@ module _ (len : ℕ) (ws : List ℕ) (at : ℕ) where
       where
         by_turn : (u : Turn)
             → elim u [
-              | fits fs ↦ tally (within len) (marked fs (more (markAt k m at)) ++ es) (suc at) (drop (at + 1) ws) (noted fs (markAt k m at) c)
+              | fits fs ↦ tally (within len) (marked fs (more (mark_at k m at)) ++ es) (suc at) (drop (at + 1) ws) (noted fs (mark_at k m at) c)
               | misfit b ↦ c
             ] ≡ counting u
         by_turn (fits fs) = rw add-one
@@ -75,39 +75,39 @@ module _ (len : ℕ) (ws : List ℕ) (at : ℕ) where
 
   module _ (k : Kind) (ks : List Kind) (n : List ℕ) where
     abbrev noting : Turn → List ℕ
-    noting (fits fs) = kindNotes (within len) (fs ++ ks) (at + 1) (drop (at + 1) ws) (set n at (kindNumber k))
+    noting (fits fs) = kind_notes (within len) (fs ++ ks) (at + 1) (drop (at + 1) ws) (set n at (kind_number k))
     noting (misfit back) = n
 
-    -- a word's turn is what `kindNotes` does at it
-    kind-turn : at < length ws → kindNotes (within len) (k ∷ ks) at (drop at ws) n ≡ noting (turn (within len) k (get_or ws at 0))
-    unfolding kindNotes
-    kind-turn h = ap (λ (l : List ℕ). kindNotes (within len) (k ∷ ks) at l n) (one_at ws at h) ∙ by_turn (turn (within len) k (get_or ws at 0))
+    -- a word's turn is what `kind_notes` does at it
+    kind-turn : at < length ws → kind_notes (within len) (k ∷ ks) at (drop at ws) n ≡ noting (turn (within len) k (get_or ws at 0))
+    unfolding kind_notes
+    kind-turn h = ap (λ (l : List ℕ). kind_notes (within len) (k ∷ ks) at l n) (one_at ws at h) ∙ by_turn (turn (within len) k (get_or ws at 0))
       where
         by_turn : (u : Turn)
-            → elim u [ fits fs ↦ kindNotes (within len) (fs ++ ks) (suc at) (drop (at + 1) ws) (set n at (kindNumber k)) | misfit b ↦ n ] ≡ noting u
+            → elim u [ fits fs ↦ kind_notes (within len) (fs ++ ks) (suc at) (drop (at + 1) ws) (set n at (kind_number k)) | misfit b ↦ n ] ≡ noting u
         by_turn (fits fs) = rw add-one
         by_turn (misfit b) = refl
 
     -- what a step notes
-    note-one : set n at (kindNumber k) ≡ noteKind at (at + 1) (kindNumber k) n
+    note-one : set n at (kind_number k) ≡ note_kind at (at + 1) (kind_number k) n
     note-one = let l : ltb (at + 1) (at + 1) ≡ false = le-ltb (at + 1) (at + 1) (omega arith) in rw l
 
-    note-two : set (set n at (kindNumber k)) (at + 1) secondWord ≡ noteKind at (at + 2) (kindNumber k) n
+    note-two : set (set n at (kind_number k)) (at + 1) second_word ≡ note_kind at (at + 2) (kind_number k) n
     note-two = let l : ltb (at + 1) (at + 2) ≡ true = lt-ltb (at + 1) (at + 2) (omega arith) in rw l
 
   -- ---- one word
 
   -- a word that fits goes on
-  one-fits : (k : Kind) (row : ℕ) → at < length ws → turn (within len) k (get_or ws at 0) ≡ fits (kindsOf row) → Went ws len at k (at + 1) row
+  one-fits : (k : Kind) (row : ℕ) → at < length ws → turn (within len) k (get_or ws at 0) ≡ fits (kinds_of row) → Went ws len at k (at + 1) row
   one-fits k row h e =
       record {
         forward = omega arith;
         inside = omega arith;
-        goes = step_fits k (kindsOf row) h e;
+        goes = step_fits k (kinds_of row) h e;
         counts = λ m es c. count_turn k m es c h ∙ ap (counting k m es c) e;
         kinds = λ ks n.
             kind-turn k ks n h ∙ ap (noting k ks n) e
-            ∙ ap (kindNotes (within len) (kindsOf row ++ ks) (at + 1) (drop (at + 1) ws)) (note-one k ks n);
+            ∙ ap (kind_notes (within len) (kinds_of row ++ ks) (at + 1) (drop (at + 1) ws)) (note-one k ks n);
       }
 
   -- a word that misfits ends the walk
@@ -125,14 +125,14 @@ module _ (len : ℕ) (ws : List ℕ) (at : ℕ) where
       }
 
 -- what is no sequence has no mark
-unmarked : (k : Kind) (m : Option Mark) (at : ℕ) (c : List ℕ) → sequence k ≡ false → noted [] (markAt k m at) c ≡ c
+unmarked : (k : Kind) (m : Option Mark) (at : ℕ) (c : List ℕ) → sequence k ≡ false → noted [] (mark_at k m at) c ≡ c
 unmarked k m at c e = ap (λ (b : Bool). noted [] (cond b (some (opened m at)) none) c) e
 
 module _ (len : ℕ) (ws : List ℕ) (at : ℕ) (k k' : Kind) where
   -- two words, each with its turn
   step-two : at + 1 < length ws → turn (within len) k (get_or ws at 0) ≡ fits (k' ∷ []) → turn (within len) k' (get_or ws (at + 1) 0) ≡ fits []
-      → sequence k ≡ false → sequence k' ≡ false → kindNumber k' ≡ secondWord → Went ws len at k (at + 2) 0
-  unfolding kindsOf digits
+      → sequence k ≡ false → sequence k' ≡ false → kind_number k' ≡ second_word → Went ws len at k (at + 2) 0
+  unfolding kinds_of digits
   step-two h e e' q q' z =
       let two : (at + 1) + 1 ≡ at + 2 = omega arith in
       record {
@@ -145,14 +145,14 @@ module _ (len : ℕ) (ws : List ℕ) (at : ℕ) (k k' : Kind) where
         counts = λ m es c.
             let i : at < length ws = omega arith in
             count_turn len ws at k m es c i ∙ ap (counting len ws at k m es c) e
-            ∙ count_turn len ws (at + 1) k' (more (markAt k m at)) es c h ∙ ap (counting len ws (at + 1) k' (more (markAt k m at)) es c) e'
-            ∙ ap (tally (within len) es (at + 1 + 1) (drop (at + 1 + 1) ws)) (unmarked k' (more (markAt k m at)) (at + 1) c q' ∙ sym (unmarked k m at c q))
-            ∙ ap (λ (n : ℕ). tally (within len) es n (drop n ws) (noted [] (markAt k m at) c)) two;
+            ∙ count_turn len ws (at + 1) k' (more (mark_at k m at)) es c h ∙ ap (counting len ws (at + 1) k' (more (mark_at k m at)) es c) e'
+            ∙ ap (tally (within len) es (at + 1 + 1) (drop (at + 1 + 1) ws)) (unmarked k' (more (mark_at k m at)) (at + 1) c q' ∙ sym (unmarked k m at c q))
+            ∙ ap (λ (n : ℕ). tally (within len) es n (drop n ws) (noted [] (mark_at k m at) c)) two;
         kinds = λ ks n.
             kind-turn len ws at k ks n (omega arith) ∙ ap (noting len ws at k ks n) e
-            ∙ kind-turn len ws (at + 1) k' ks (set n at (kindNumber k)) h ∙ ap (noting len ws (at + 1) k' ks (set n at (kindNumber k))) e'
-            ∙ ap (λ (x : ℕ). kindNotes (within len) ks x (drop x ws) (set (set n at (kindNumber k)) (at + 1) (kindNumber k'))) two
-            ∙ ap (kindNotes (within len) ks (at + 2) (drop (at + 2) ws)) (ap (set (set n at (kindNumber k)) (at + 1)) z ∙ note-two len ws at k ks n);
+            ∙ kind-turn len ws (at + 1) k' ks (set n at (kind_number k)) h ∙ ap (noting len ws (at + 1) k' ks (set n at (kind_number k))) e'
+            ∙ ap (λ (x : ℕ). kind_notes (within len) ks x (drop x ws) (set (set n at (kind_number k)) (at + 1) (kind_number k'))) two
+            ∙ ap (kind_notes (within len) ks (at + 2) (drop (at + 2) ws)) (ap (set (set n at (kind_number k)) (at + 1)) z ∙ note-two len ws at k ks n);
       }
 
   -- the second of two words ends the walk
@@ -161,7 +161,7 @@ module _ (len : ℕ) (ws : List ℕ) (at : ℕ) (k k' : Kind) where
       record {
         stops = λ ks. step_fits len ws at k (k' ∷ []) h e ks ∙ s.stops ks;
         keeps = λ m es c.
-            count_turn len ws at k m es c h ∙ ap (counting len ws at k m es c) e ∙ s.keeps (more (markAt k m at)) es c;
+            count_turn len ws at k m es c h ∙ ap (counting len ws at k m es c) e ∙ s.keeps (more (mark_at k m at)) es c;
       }
 
   -- the first of two words is the last of all
@@ -171,20 +171,20 @@ module _ (len : ℕ) (ws : List ℕ) (at : ℕ) (k k' : Kind) where
 module _ (len : ℕ) (ws : List ℕ) (at : ℕ) where
   -- a name's two words
   pub name-fits : at + 1 < length ws → get_or ws at 0 + get_or ws (at + 1) 0 ≤ len → Went ws len at name (at + 2) 0
-  name-fits h i = step-two len ws at name (lengthFrom (get_or ws at 0)) h refl (simp (le-leb (get_or ws at 0 + get_or ws (at + 1) 0) len i)) refl refl refl
+  name-fits h i = step-two len ws at name (length_from (get_or ws at 0)) h refl (simp (le-leb (get_or ws at 0 + get_or ws (at + 1) 0) len i)) refl refl refl
 
   pub name-outside : at + 1 < length ws → len < get_or ws at 0 + get_or ws (at + 1) 0 → Stopped ws len at name at
   name-outside h o =
       let back : (at + 1) - 1 ≡ at = omega arith in
-      let s = one-misfit len ws (at + 1) (lengthFrom (get_or ws at 0)) 1 h (simp (lt-leb (get_or ws at 0 + get_or ws (at + 1) 0) len o)) in
-      step-second len ws at name (lengthFrom (get_or ws at 0)) at (omega arith) refl (subst (Stopped ws len (at + 1) (lengthFrom (get_or ws at 0))) back s)
+      let s = one-misfit len ws (at + 1) (length_from (get_or ws at 0)) 1 h (simp (lt-leb (get_or ws at 0 + get_or ws (at + 1) 0) len o)) in
+      step-second len ws at name (length_from (get_or ws at 0)) at (omega arith) refl (subst (Stopped ws len (at + 1) (length_from (get_or ws at 0))) back s)
 
   -- a natural's two words
   pub natural-fits : at + 1 < length ws → get_or ws (at + 1) 0 < 2 ^ 32 → Went ws len at natural (at + 2) 0
   natural-fits h b = step-two len ws at natural low h refl (simp (lt-ltb (get_or ws (at + 1) 0) (2 ^ 32) b)) refl refl refl
 
   -- one word that is not the first of two
-  pub row_fits : (k : Kind) (row w : ℕ) → at < length ws → w ≡ get_or ws at 0 → fits (kindsOf row) ≡ turn (within len) k w → Went ws len at k (at + 1) row
+  pub row_fits : (k : Kind) (row w : ℕ) → at < length ws → w ≡ get_or ws at 0 → fits (kinds_of row) ≡ turn (within len) k w → Went ws len at k (at + 1) row
   row_fits k row w h e f = one-fits len ws at k row h (ap (turn (within len) k) (sym e) ∙ sym f)
 
   pub row-misfits : (k : Kind) (w : ℕ) → at < length ws → w ≡ get_or ws at 0 → misfit 0 ≡ turn (within len) k w → Stopped ws len at k at

@@ -11,14 +11,14 @@ use lib.Seq.{take-suc, take-suc-set, drop-cons, get_or-set_same, get_or-set_othe
 use lib.Dec.{eqb, ltb}
 use borrow.Author.Tests.{eqb-true, eqb-false}
 use Rattle.tree.specs.Clash.{impossible}
-use Rattle.tree.specs.Limits.{mostWords}
+use Rattle.tree.specs.Limits.{most_words}
 use Rattle.tree.specs.Kind.{Kind}
 use Rattle.tree.specs.Check.{run, within}
-use Rattle.tree.specs.Tally.{Mark, Expected, marked, markAt, more, noted, tally}
-use Rattle.tree.specs.ExpectedKinds.{kindsIn, marked-kinds, marked_append}
-use Rattle.tree.specs.KindNumbers.{kindNumber, secondWord, kind_of}
-use Rattle.tree.specs.Notes.{noteKind, kindNotes}
-use Rattle.tree.specs.Rows.{kindsOf, asMark, expectedOf, ownMark, MarkIs, FrameIs, Pushed, Went, Stopped, Stepped}
+use Rattle.tree.specs.Tally.{Mark, Expected, marked, mark_at, more, noted, tally}
+use Rattle.tree.specs.ExpectedKinds.{kinds_in, marked-kinds, marked_append}
+use Rattle.tree.specs.KindNumbers.{kind_number, second_word, kind_of}
+use Rattle.tree.specs.Notes.{note_kind, kind_notes}
+use Rattle.tree.specs.Rows.{kinds_of, as_mark, expected_of, own_mark, MarkIs, FrameIs, Pushed, Went, Stopped, Stepped}
 use Rattle.tree.specs.declared.walk.Step.{Step}
 use Rattle.tree.specs.declared.walk.Step.TheVariants.{Go, Stop}
 use Rattle.tree.specs.declared.Checked.TheVariants.{Tree, Misfit}
@@ -26,22 +26,22 @@ use Rattle.tree.proofs.Entries.{entry-cons, entry-none, entry_of, entry_first, r
 
 pend : List Expected → List ℕ → List Expected
 pend acc [] = acc
-pend acc (f ∷ fs) = pend (expectedOf f ++ acc) fs
+pend acc (f ∷ fs) = pend (expected_of f ++ acc) fs
 
-pend-snoc : (acc : List Expected) (fs : List ℕ) (f : ℕ) → pend acc (fs ++ (f ∷ [])) ≡ expectedOf f ++ pend acc fs
+pend-snoc : (acc : List Expected) (fs : List ℕ) (f : ℕ) → pend acc (fs ++ (f ∷ [])) ≡ expected_of f ++ pend acc fs
 unfolding pend
 pend-snoc acc [] f = refl
-pend-snoc acc (q ∷ fs) f = pend-snoc (expectedOf q ++ acc) fs f
+pend-snoc acc (q ∷ fs) f = pend-snoc (expected_of q ++ acc) fs f
 
 pub expected : ℕ → List ℕ → List Expected
 expected top stack = pend [] (take top stack)
 
-expected-suc : (j : ℕ) (stack : List ℕ) → j < length stack → expected (suc j) stack ≡ expectedOf (get_or stack j 0) ++ expected j stack
+expected-suc : (j : ℕ) (stack : List ℕ) → j < length stack → expected (suc j) stack ≡ expected_of (get_or stack j 0) ++ expected j stack
 unfolding expected
 expected-suc j stack h = ap (pend []) (take-suc stack j 0 h) ∙ pend-snoc [] (take j stack) (get_or stack j 0)
 
 -- the entry on the top and those below it
-expected-top : (top : ℕ) (stack : List ℕ) → 0 < top → top ≤ length stack → expected top stack ≡ expectedOf (get_or stack (top - 1) 0) ++ expected (top - 1) stack
+expected-top : (top : ℕ) (stack : List ℕ) → 0 < top → top ≤ length stack → expected top stack ≡ expected_of (get_or stack (top - 1) 0) ++ expected (top - 1) stack
 expected-top top stack h r =
     let n : top ≡ suc (top - 1) = omega arith in
     ap (λ (k : ℕ). expected k stack) n ∙ expected-suc (top - 1) stack (omega arith)
@@ -59,7 +59,7 @@ Bounded at frame = frame / 2 ^ 32 ≤ 65536 * (at + 1)
 module _ {stack : List ℕ} {top frame : ℕ} {stack' : List ℕ} {r : ℕ} (p : Pushed stack top frame stack' r) (h : top < length stack) where
   abbrev OnTop : Type 0
   OnTop =
-      (length stack' ≡ length stack) × (r ≤ top + 1) × (expected r stack' ≡ expectedOf frame ++ expected top stack)
+      (length stack' ≡ length stack) × (r ≤ top + 1) × (expected r stack' ≡ expected_of frame ++ expected top stack)
       × ((at : ℕ) → Bounded at frame → ((j : ℕ) → j < top → Bounded at (get_or stack j 0)) → (j : ℕ) → j < r → Bounded at (get_or stack' j 0))
 
   dropped : frame % 2 ^ 32 ≡ 0 → OnTop
@@ -112,10 +112,10 @@ noted-length [] (some m) counts = simp length-set
 noted-length (k ∷ ks) m counts = refl
 
 -- so does a kind
-kind-length : (at next number : ℕ) (kinds : List ℕ) → length (noteKind at next number kinds) ≡ length kinds
+kind-length : (at next number : ℕ) (kinds : List ℕ) → length (note_kind at next number kinds) ≡ length kinds
 kind-length at next number kinds = by-test (ltb (at + 1) next)
   where
-    by-test : (b : Bool) → length (cond b (set (set kinds at number) (at + 1) secondWord) (set kinds at number)) ≡ length kinds
+    by-test : (b : Bool) → length (cond b (set (set kinds at number) (at + 1) second_word) (set kinds at number)) ≡ length kinds
     by-test true = simp length-set
     by-test false = simp length-set
 
@@ -126,20 +126,20 @@ pub record Walking (len first : ℕ) (ws stack₀ counts₀ kinds₀ stack count
   pub kept : length counts ≡ length counts₀
   pub kinds_kept : length kinds ≡ length kinds₀
   pub big : length ws < length stack
-  pub few : length ws ≤ mostWords
+  pub few : length ws ≤ most_words
   pub room : top ≤ at + 1
   pub inside : at ≤ length ws
   pub small : (j : ℕ) → j < top → Bounded at (get_or stack j 0)
-  pub state : run (within len) (kindsIn (expected top stack)) at (drop at ws) ≡ run (within len) (kindsOf first) 0 ws
-  pub tallied : tally (within len) (expected top stack) at (drop at ws) counts ≡ tally (within len) (marked (kindsOf first) none) 0 ws counts₀
-  pub outlined : kindNotes (within len) (kindsIn (expected top stack)) at (drop at ws) kinds ≡ kindNotes (within len) (kindsOf first) 0 ws kinds₀
+  pub state : run (within len) (kinds_in (expected top stack)) at (drop at ws) ≡ run (within len) (kinds_of first) 0 ws
+  pub tallied : tally (within len) (expected top stack) at (drop at ws) counts ≡ tally (within len) (marked (kinds_of first) none) 0 ws counts₀
+  pub outlined : kind_notes (within len) (kinds_in (expected top stack)) at (drop at ws) kinds ≡ kind_notes (within len) (kinds_of first) 0 ws kinds₀
 
-pub started : (len first : ℕ) (ws stack counts kinds : List ℕ) → first < 2 ^ 32 → length ws < length stack → length ws ≤ mostWords
+pub started : (len first : ℕ) (ws stack counts kinds : List ℕ) → first < 2 ^ 32 → length ws < length stack → length ws ≤ most_words
     → Walking len first ws (set stack 0 first) counts kinds (set stack 0 first) counts kinds 1 0
 unfolding expected pend
 started len first ws stack counts kinds f h few =
-    let e : expected 1 (set stack 0 first) ≡ marked (kindsOf first) none =
-    ap (pend []) (take-suc-set stack 0 first (omega arith)) ∙ append-nil (expectedOf first) ∙ entry_first first f in
+    let e : expected 1 (set stack 0 first) ≡ marked (kinds_of first) none =
+    ap (pend []) (take-suc-set stack 0 first (omega arith)) ∙ append-nil (expected_of first) ∙ entry_first first f in
     record {
       same = refl;
       kept = refl;
@@ -152,11 +152,11 @@ started len first ws stack counts kinds f h few =
           let z : j ≡ 0 = omega arith in
           let g : get_or (set stack 0 first) 0 0 ≡ first = get_or-set_same stack 0 first 0 (omega arith) in
           rw z (omega (arith, g));
-      state = ap (λ (es : List Expected). run (within len) (kindsIn es) 0 ws) e ∙ ap (λ (ks : List Kind). run (within len) ks 0 ws) (marked-kinds (kindsOf first) none);
+      state = ap (λ (es : List Expected). run (within len) (kinds_in es) 0 ws) e ∙ ap (λ (ks : List Kind). run (within len) ks 0 ws) (marked-kinds (kinds_of first) none);
       tallied = ap (λ (es : List Expected). tally (within len) es 0 ws counts) e;
       outlined =
-          ap (λ (es : List Expected). kindNotes (within len) (kindsIn es) 0 ws kinds) e
-          ∙ ap (λ (ks : List Kind). kindNotes (within len) ks 0 ws kinds) (marked-kinds (kindsOf first) none);
+          ap (λ (es : List Expected). kind_notes (within len) (kinds_in es) 0 ws kinds) e
+          ∙ ap (λ (ks : List Kind). kind_notes (within len) ks 0 ws kinds) (marked-kinds (kinds_of first) none);
     }
 
 pub after-pop : {len first : ℕ} {ws stack₀ counts₀ kinds₀ stack counts kinds : List ℕ} {top at : ℕ} → Walking len first ws stack₀ counts₀ kinds₀ stack counts kinds top at
@@ -172,9 +172,9 @@ after-pop {len} {first} {ws} {stack₀} {counts₀} {kinds₀} {stack} {counts} 
       room = omega arith;
       inside = i.inside;
       small = λ j l. i.small j (omega arith);
-      state = ap (λ (es : List Expected). run (within len) (kindsIn es) at (drop at ws)) p ∙ i.state;
+      state = ap (λ (es : List Expected). run (within len) (kinds_in es) at (drop at ws)) p ∙ i.state;
       tallied = ap (λ (es : List Expected). tally (within len) es at (drop at ws) counts) p ∙ i.tallied;
-      outlined = ap (λ (es : List Expected). kindNotes (within len) (kindsIn es) at (drop at ws) kinds) p ∙ i.outlined;
+      outlined = ap (λ (es : List Expected). kind_notes (within len) (kinds_in es) at (drop at ws) kinds) p ∙ i.outlined;
     }
 
 -- what a step that goes on says, and one that stops
@@ -188,16 +188,16 @@ module _ {len first : ℕ} {ws stack₀ counts₀ kinds₀ stack counts kinds : 
     (h : 0 < top) {frame row : ℕ} (f : get_or stack (top - 1) 0 ≡ frame) (r₀ : row ≡ frame % 2 ^ 32) (ne : row ≡ 0 → ⊥) where
   -- what lies behind the first kind of the entry on the top
   behind : List Expected
-  behind = expectedOf (frame / 2 ^ 32 * 2 ^ 32 + frame % 2 ^ 32 / 32) ++ expected (top - 1) stack
+  behind = expected_of (frame / 2 ^ 32 * 2 ^ 32 + frame % 2 ^ 32 / 32) ++ expected (top - 1) stack
 
   -- the first kind of the entry on the top, and what lies behind it
-  expected-first : expected top stack ≡ record { kind = kind_of (row % 32); mark = ownMark frame } ∷ behind
+  expected-first : expected top stack ≡ record { kind = kind_of (row % 32); mark = own_mark frame } ∷ behind
   unfolding behind
   expected-first =
       expected-top top stack h (omega arith)
-      ∙ ap (λ (x : ℕ). expectedOf x ++ expected (top - 1) stack) f
+      ∙ ap (λ (x : ℕ). expected_of x ++ expected (top - 1) stack) f
       ∙ ap (λ (l : List Expected). l ++ expected (top - 1) stack) (entry-cons frame (λ z. ne (r₀ ∙ z)))
-      ∙ ap (λ (x : ℕ). record { kind = kind_of (x % 32); mark = ownMark frame } ∷ behind) (sym r₀)
+      ∙ ap (λ (x : ℕ). record { kind = kind_of (x % 32); mark = own_mark frame } ∷ behind) (sym r₀)
 
   -- the entry on the top has a bounded mark
   pub top-bounded : Bounded at frame
@@ -207,21 +207,21 @@ module _ {len first : ℕ} {ws stack₀ counts₀ kinds₀ stack counts kinds : 
   mark-bounded m = m.small (65536 * (at + 1)) top-bounded (omega arith)
 
   module _ (next fields : ℕ) {mark rest entry below r : ℕ} {counts₁ kinds₁ stack₁ stack₂ : List ℕ} (w : Went ws len at (kind_of (row % 32)) next fields) (m : MarkIs frame at mark)
-      (c : counts₁ ≡ noted (kindsOf fields) (asMark mark) counts) (n : kinds₁ ≡ noteKind at next (kindNumber (kind_of (row % 32))) kinds)
+      (c : counts₁ ≡ noted (kinds_of fields) (as_mark mark) counts) (n : kinds₁ ≡ note_kind at next (kind_number (kind_of (row % 32))) kinds)
       (q : rest ≡ frame / 2 ^ 32 * 2 ^ 32 + frame % 2 ^ 32 / 32) (t : FrameIs fields mark entry)
       (x : Pushed stack (top - 1) rest stack₁ below) (y : Pushed stack₁ below entry stack₂ r) where
     -- the first kind's mark in terms of the kind
-    mark-is : asMark mark ≡ markAt (kind_of (row % 32)) (ownMark frame) at
-    mark-is = m.is ∙ ap (λ (z : ℕ). markAt (kind_of (z % 32)) (ownMark frame) at) (sym r₀)
+    mark-is : as_mark mark ≡ mark_at (kind_of (row % 32)) (own_mark frame) at
+    mark-is = m.is ∙ ap (λ (z : ℕ). mark_at (kind_of (z % 32)) (own_mark frame) at) (sym r₀)
 
     pub room-below : below < length stack₁
     room-below = let o = on-top x (omega arith) in let a = o.0 in let b = o.1 in omega arith
 
-    expected-next : expected r stack₂ ≡ marked (kindsOf fields) (more (asMark mark)) ++ behind
+    expected-next : expected r stack₂ ≡ marked (kinds_of fields) (more (as_mark mark)) ++ behind
     unfolding behind
     expected-next =
         (on-top y room-below).2
-        ∙ (λ j. entry_of t j ++ ((on-top x (omega arith)).2 ∙ ap (λ (z : ℕ). expectedOf z ++ expected (top - 1) stack) q) j)
+        ∙ (λ j. entry_of t j ++ ((on-top x (omega arith)).2 ∙ ap (λ (z : ℕ). expected_of z ++ expected (top - 1) stack) q) j)
 
     -- the marks on the stack stay bounded
     bounded-next : (j : ℕ) → j < r → Bounded next (get_or stack₂ j 0)
@@ -242,65 +242,65 @@ module _ {len first : ℕ} {ws stack₀ counts₀ kinds₀ stack counts kinds : 
         let b₁ = b.1 in
         record {
           same = b₀ ∙ a₀ ∙ i.same;
-          kept = ap length c ∙ noted-length (kindsOf fields) (asMark mark) counts ∙ i.kept;
-          kinds_kept = ap length n ∙ kind-length at next (kindNumber (kind_of (row % 32))) kinds ∙ i.kinds_kept;
+          kept = ap length c ∙ noted-length (kinds_of fields) (as_mark mark) counts ∙ i.kept;
+          kinds_kept = ap length n ∙ kind-length at next (kind_number (kind_of (row % 32))) kinds ∙ i.kinds_kept;
           big = omega arith;
           few = i.few;
           room = omega (arith, w.forward);
           inside = w.inside;
           small = bounded-next;
           state =
-              ap (λ (es : List Expected). run (within len) (kindsIn es) next (drop next ws)) expected-next
-              ∙ ap (λ (ks : List Kind). run (within len) ks next (drop next ws)) (marked_append (kindsOf fields) (more (asMark mark)) behind)
-              ∙ sym (w.goes (kindsIn behind))
-              ∙ ap (λ (es : List Expected). run (within len) (kindsIn es) at (drop at ws)) (sym expected-first)
+              ap (λ (es : List Expected). run (within len) (kinds_in es) next (drop next ws)) expected-next
+              ∙ ap (λ (ks : List Kind). run (within len) ks next (drop next ws)) (marked_append (kinds_of fields) (more (as_mark mark)) behind)
+              ∙ sym (w.goes (kinds_in behind))
+              ∙ ap (λ (es : List Expected). run (within len) (kinds_in es) at (drop at ws)) (sym expected-first)
               ∙ i.state;
           tallied =
               (λ j. tally (within len) (expected-next j) next (drop next ws) (c j))
-              ∙ ap (λ (k : Option Mark). tally (within len) (marked (kindsOf fields) (more k) ++ behind) next (drop next ws) (noted (kindsOf fields) k counts)) mark-is
-              ∙ sym (w.counts (ownMark frame) behind counts)
+              ∙ ap (λ (k : Option Mark). tally (within len) (marked (kinds_of fields) (more k) ++ behind) next (drop next ws) (noted (kinds_of fields) k counts)) mark-is
+              ∙ sym (w.counts (own_mark frame) behind counts)
               ∙ ap (λ (es : List Expected). tally (within len) es at (drop at ws) counts) (sym expected-first)
               ∙ i.tallied;
           outlined =
-              (λ j. kindNotes (within len) (kindsIn (expected-next j)) next (drop next ws) (n j))
-              ∙ ap (λ (ks : List Kind). kindNotes (within len) ks next (drop next ws) (noteKind at next (kindNumber (kind_of (row % 32))) kinds))
-              (marked_append (kindsOf fields) (more (asMark mark)) behind)
-              ∙ sym (w.kinds (kindsIn behind) kinds)
-              ∙ ap (λ (es : List Expected). kindNotes (within len) (kindsIn es) at (drop at ws) kinds) (sym expected-first)
+              (λ j. kind_notes (within len) (kinds_in (expected-next j)) next (drop next ws) (n j))
+              ∙ ap (λ (ks : List Kind). kind_notes (within len) ks next (drop next ws) (note_kind at next (kind_number (kind_of (row % 32))) kinds))
+              (marked_append (kinds_of fields) (more (as_mark mark)) behind)
+              ∙ sym (w.kinds (kinds_in behind) kinds)
+              ∙ ap (λ (es : List Expected). kind_notes (within len) (kinds_in es) at (drop at ws) kinds) (sym expected-first)
               ∙ i.outlined;
         }
 
   -- the answer where a step stops
   pub at-stop : {place : ℕ} → Stopped ws len at (kind_of (row % 32)) place
-      → (Misfit place ≡ run (within len) (kindsOf first) 0 ws) × (counts ≡ tally (within len) (marked (kindsOf first) none) 0 ws counts₀)
-      × (Misfit place ≡ Tree → kinds ≡ kindNotes (within len) (kindsOf first) 0 ws kinds₀)
+      → (Misfit place ≡ run (within len) (kinds_of first) 0 ws) × (counts ≡ tally (within len) (marked (kinds_of first) none) 0 ws counts₀)
+      × (Misfit place ≡ Tree → kinds ≡ kind_notes (within len) (kinds_of first) 0 ws kinds₀)
   at-stop s = (
-    sym (s.stops (kindsIn behind)) ∙ ap (λ (es : List Expected). run (within len) (kindsIn es) at (drop at ws)) (sym expected-first) ∙ i.state,
-    sym (s.keeps (ownMark frame) behind counts) ∙ ap (λ (es : List Expected). tally (within len) es at (drop at ws) counts) (sym expected-first) ∙ i.tallied,
+    sym (s.stops (kinds_in behind)) ∙ ap (λ (es : List Expected). run (within len) (kinds_in es) at (drop at ws)) (sym expected-first) ∙ i.state,
+    sym (s.keeps (own_mark frame) behind counts) ∙ ap (λ (es : List Expected). tally (within len) es at (drop at ws) counts) (sym expected-first) ∙ i.tallied,
     λ e. impossible cc,
   )
 
 -- the answers where nothing is expected: words are left, or none
 module _ {len first : ℕ} {ws stack₀ counts₀ kinds₀ stack counts kinds : List ℕ} {top at : ℕ} (i : Walking len first ws stack₀ counts₀ kinds₀ stack counts kinds top at) (h : top ≤ 0) where
   at-end : (rest : List ℕ) → drop at ws ≡ rest
-      → (run (within len) [] at rest ≡ run (within len) (kindsOf first) 0 ws) × (tally (within len) [] at rest counts ≡ tally (within len) (marked (kindsOf first) none) 0 ws counts₀)
-      × (kindNotes (within len) [] at rest kinds ≡ kindNotes (within len) (kindsOf first) 0 ws kinds₀)
+      → (run (within len) [] at rest ≡ run (within len) (kinds_of first) 0 ws) × (tally (within len) [] at rest counts ≡ tally (within len) (marked (kinds_of first) none) 0 ws counts₀)
+      × (kind_notes (within len) [] at rest kinds ≡ kind_notes (within len) (kinds_of first) 0 ws kinds₀)
   unfolding expected pend
   at-end rest e =
       let z : 0 ≡ top = omega arith in (
-        ap (run (within len) [] at) (sym e) ∙ ap (λ (k : ℕ). run (within len) (kindsIn (expected k stack)) at (drop at ws)) z ∙ i.state,
+        ap (run (within len) [] at) (sym e) ∙ ap (λ (k : ℕ). run (within len) (kinds_in (expected k stack)) at (drop at ws)) z ∙ i.state,
         ap (λ (l : List ℕ). tally (within len) [] at l counts) (sym e) ∙ ap (λ (k : ℕ). tally (within len) (expected k stack) at (drop at ws) counts) z ∙ i.tallied,
-        ap (λ (l : List ℕ). kindNotes (within len) [] at l kinds) (sym e)
-            ∙ ap (λ (k : ℕ). kindNotes (within len) (kindsIn (expected k stack)) at (drop at ws) kinds) z
+        ap (λ (l : List ℕ). kind_notes (within len) [] at l kinds) (sym e)
+            ∙ ap (λ (k : ℕ). kind_notes (within len) (kinds_in (expected k stack)) at (drop at ws) kinds) z
             ∙ i.outlined,
       )
 
-  pub at-surplus : at < length ws → (Misfit at ≡ run (within len) (kindsOf first) 0 ws) × (counts ≡ tally (within len) (marked (kindsOf first) none) 0 ws counts₀)
-      × (Misfit at ≡ Tree → kinds ≡ kindNotes (within len) (kindsOf first) 0 ws kinds₀)
-  unfolding run tally kindNotes
+  pub at-surplus : at < length ws → (Misfit at ≡ run (within len) (kinds_of first) 0 ws) × (counts ≡ tally (within len) (marked (kinds_of first) none) 0 ws counts₀)
+      × (Misfit at ≡ Tree → kinds ≡ kind_notes (within len) (kinds_of first) 0 ws kinds₀)
+  unfolding run tally kind_notes
   at-surplus l = let a = at-end (get_or ws at 0 ∷ drop (suc at) ws) (drop-cons ws at 0 l) in (a.0, a.1, λ e. a.2)
 
-  pub at-whole : length ws ≤ at → (Tree ≡ run (within len) (kindsOf first) 0 ws) × (counts ≡ tally (within len) (marked (kindsOf first) none) 0 ws counts₀)
-      × (Tree ≡ Tree → kinds ≡ kindNotes (within len) (kindsOf first) 0 ws kinds₀)
-  unfolding run tally kindNotes
+  pub at-whole : length ws ≤ at → (Tree ≡ run (within len) (kinds_of first) 0 ws) × (counts ≡ tally (within len) (marked (kinds_of first) none) 0 ws counts₀)
+      × (Tree ≡ Tree → kinds ≡ kind_notes (within len) (kinds_of first) 0 ws kinds₀)
+  unfolding run tally kind_notes
   at-whole l = let a = at-end [] (drop_of_length-le ws l) in (a.0, a.1, λ e. a.2)

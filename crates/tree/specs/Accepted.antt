@@ -8,7 +8,7 @@ use mathlib.Core.List.{List, [], ◌∷◌, ◌++◌}
 use Rattle.tree.specs.Clash.{impossible}
 use Rattle.tree.specs.Kind.{Kind, Turn, fits, misfit, turn}
 use Rattle.tree.specs.Check.{run}
-use Rattle.tree.specs.Trees.{Names, Tree, Trees, allWords, apply, Form}
+use Rattle.tree.specs.Trees.{Names, Tree, Trees, all_words, apply, Form}
 use Rattle.tree.specs.Forms.{form}
 use Rattle.tree.specs.FormLaws.{Agrees, agree, Spells, spells}
 use Rattle.tree.specs.Opened.{Opened, opened, some_word, join, front, back, join-words, split-words, join-same}
@@ -18,9 +18,9 @@ module _ (I : Names) where
   -- ---- accepted words are a tree's
 
   abbrev Spelt : List Kind → List ℕ → Type 0
-  Spelt ks ws = (ts : Trees I ks) × (allWords I ks ts [] ≡ ws)
+  Spelt ks ws = (ts : Trees I ks) × (all_words I ks ts [] ≡ ws)
 
-  pub sound : (ks : List Kind) (at : ℕ) (ws : List ℕ) → run I.inside ks at ws ≡ OneTree → (ts : Trees I ks) × (allWords I ks ts [] ≡ ws)
+  pub sound : (ks : List Kind) (at : ℕ) (ws : List ℕ) → run I.inside ks at ws ≡ OneTree → (ts : Trees I ks) × (all_words I ks ts [] ≡ ws)
   unfolding run
   sound [] at [] e = (tt, refl)
   sound (k ∷ ks) at [] e = impossible cc
@@ -35,7 +35,7 @@ module _ (I : Names) where
       by_turn (fits fs) (some f) a s h ih =
           let p : Spelt (f.fields ++ ks) ws = subst (λ (x : List Kind). Spelt (x ++ ks) ws) a (ih fs h) in (
             (apply I f.fields f.make (front I f.fields ks p.0), back I f.fields ks p.0),
-            s (front I f.fields ks p.0) (allWords I ks (back I f.fields ks p.0) [])
+            s (front I f.fields ks p.0) (all_words I ks (back I f.fields ks p.0) [])
                 ∙ ap (λ (x : List ℕ). w ∷ x) (sym (split-words I f.fields ks p.0 []) ∙ p.1),
           )
       by_turn (misfit b) none a s h ih = impossible cc
@@ -43,17 +43,17 @@ module _ (I : Names) where
 
   -- ---- a tree's words are accepted
 
-  pub complete : (ks : List Kind) (at : ℕ) (ws : List ℕ) (ts : Trees I ks) → allWords I ks ts [] ≡ ws → run I.inside ks at ws ≡ OneTree
+  pub complete : (ks : List Kind) (at : ℕ) (ws : List ℕ) (ts : Trees I ks) → all_words I ks ts [] ≡ ws → run I.inside ks at ws ≡ OneTree
   unfolding run
   complete [] at [] ts e = refl
-  complete (k ∷ ks) at [] ts e = absurd (some_word I k ts.0 (allWords I ks ts.1 []) e)
+  complete (k ∷ ks) at [] ts e = absurd (some_word I k ts.0 (all_words I ks ts.1 []) e)
   complete [] at (w ∷ ws) ts e = impossible cc
   complete (k ∷ ks) at (w ∷ ws) ts e =
-      by_turn (turn I.inside k w) (form I k w) (agree I k w) (opened I k ts.0 (allWords I ks ts.1 []) w ws e)
+      by_turn (turn I.inside k w) (form I k w) (agree I k w) (opened I k ts.0 (all_words I ks ts.1 []) w ws e)
       (λ fs us h. complete (fs ++ ks) (suc at) ws us h)
     where
-      by_turn : (u : Turn) (o : Option (Form I (Tree I k))) → Agrees I u o → Opened I o ts.0 (allWords I ks ts.1 []) ws
-          → ((fs : List Kind) (us : Trees I (fs ++ ks)) → allWords I (fs ++ ks) us [] ≡ ws → run I.inside (fs ++ ks) (suc at) ws ≡ OneTree)
+      by_turn : (u : Turn) (o : Option (Form I (Tree I k))) → Agrees I u o → Opened I o ts.0 (all_words I ks ts.1 []) ws
+          → ((fs : List Kind) (us : Trees I (fs ++ ks)) → all_words I (fs ++ ks) us [] ≡ ws → run I.inside (fs ++ ks) (suc at) ws ≡ OneTree)
           → elim u [ fits fs ↦ run I.inside (fs ++ ks) (suc at) ws | misfit b ↦ Misfit (at - b) ] ≡ OneTree
       by_turn (fits fs) none a o ih = absurd o
       by_turn (fits fs) (some f) a o ih =
@@ -65,16 +65,16 @@ module _ (I : Names) where
   -- ---- the words determine the trees, and the rest
 
   pub unique : (ks : List Kind) (ws : List ℕ) (ts ts' : Trees I ks) (rest rest' : List ℕ)
-      → allWords I ks ts rest ≡ ws → allWords I ks ts' rest' ≡ ws → (ts ≡ ts') × (rest ≡ rest')
+      → all_words I ks ts rest ≡ ws → all_words I ks ts' rest' ≡ ws → (ts ≡ ts') × (rest ≡ rest')
   unique [] [] ts ts' rest rest' e e' = (refl, cc)
   unique [] (w ∷ ws) ts ts' rest rest' e e' = (refl, cc)
-  unique (k ∷ ks) [] ts ts' rest rest' e e' = absurd (some_word I k ts.0 (allWords I ks ts.1 rest) e)
+  unique (k ∷ ks) [] ts ts' rest rest' e e' = absurd (some_word I k ts.0 (all_words I ks ts.1 rest) e)
   unique (k ∷ ks) (w ∷ ws) ts ts' rest rest' e e' =
-      by_form (form I k w) (opened I k ts.0 (allWords I ks ts.1 rest) w ws e) (opened I k ts'.0 (allWords I ks ts'.1 rest') w ws e')
+      by_form (form I k w) (opened I k ts.0 (all_words I ks ts.1 rest) w ws e) (opened I k ts'.0 (all_words I ks ts'.1 rest') w ws e')
       (λ fs us us' h h'. unique (fs ++ ks) ws us us' rest rest' h h')
     where
-      by_form : (o : Option (Form I (Tree I k))) → Opened I o ts.0 (allWords I ks ts.1 rest) ws → Opened I o ts'.0 (allWords I ks ts'.1 rest') ws
-          → ((fs : List Kind) (us us' : Trees I (fs ++ ks)) → allWords I (fs ++ ks) us rest ≡ ws → allWords I (fs ++ ks) us' rest' ≡ ws → (us ≡ us') × (rest ≡ rest'))
+      by_form : (o : Option (Form I (Tree I k))) → Opened I o ts.0 (all_words I ks ts.1 rest) ws → Opened I o ts'.0 (all_words I ks ts'.1 rest') ws
+          → ((fs : List Kind) (us us' : Trees I (fs ++ ks)) → all_words I (fs ++ ks) us rest ≡ ws → all_words I (fs ++ ks) us' rest' ≡ ws → (us ≡ us') × (rest ≡ rest'))
           → (ts ≡ ts') × (rest ≡ rest')
       by_form none o o' ih = absurd o
       by_form (some f) o o' ih =

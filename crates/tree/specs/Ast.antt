@@ -1,6 +1,6 @@
 -- The kinds of RawAst.dfy, with its constructor names and field order. The parameter N is the type of names: a span of the text (`Span`)
 -- in what is read and printed, the bytes themselves in the operator grammar. Every string of upstream, type names and literal texts too, is
--- a name. `resolveExpr` turns spans over a text into bytes: equality of trees (REFERENCE, "The tree words") is equality after it.
+-- a name. `resolve_expr` turns spans over a text into bytes: equality of trees (REFERENCE, "The tree words") is equality after it.
 --
 -- A `seq` of a kind that holds itself is a type of its own here (`Exprs`, `Stmts`, ..), since antt takes no `List Expr` inside `Expr`.
 -- A datatype of one constructor is a record with upstream's field names, unless it is an item of such a `seq`. A constructor that upstream
@@ -63,28 +63,28 @@ mutual
     ClosureExpr : ClosureBindings N → N → N → ClosureProperties N → Expr N
 
   pub data Exprs (N : Type 0) : Type 0 where
-    noExprs : Exprs N
+    no_exprs : Exprs N
     ◌then◌ : Expr N → Exprs N → Exprs N
 
   pub data Patterns (N : Type 0) : Type 0 where
-    noPatterns : Patterns N
+    no_patterns : Patterns N
     pattern : Exprs N → Patterns N → Patterns N
 
   pub data ClosureBindings (N : Type 0) : Type 0 where
-    noClosureBindings : ClosureBindings N
-    closureBinding : N → List (Binding N) → Expr N → ClosureBindings N → ClosureBindings N
+    no_closure_bindings : ClosureBindings N
+    closure_binding : N → List (Binding N) → Expr N → ClosureBindings N → ClosureBindings N
 
   pub data ClosureProperties (N : Type 0) : Type 0 where
-    noClosureProperties : ClosureProperties N
-    closureProperty : Patterns N → Expr N → ClosureProperties N → ClosureProperties N
+    no_closure_properties : ClosureProperties N
+    closure_property : Patterns N → Expr N → ClosureProperties N → ClosureProperties N
 
 -- ---- statements
 
 pub record Variable (N : Type 0) : Type 0 where
   pub name : N
-  pub isMutable : Bool
-  pub optionalType : Option N
-  pub optionalAutoInv : Option (Expr N)
+  pub is_mutable : Bool
+  pub optional_type : Option N
+  pub optional_auto_inv : Option (Expr N)
 
 pub record CallArgument (N : Type 0) : Type 0 where
   pub mode : ParameterMode
@@ -112,20 +112,20 @@ mutual
     Probe : Expr N → Stmt N
 
   pub data Stmts (N : Type 0) : Type 0 where
-    noStmts : Stmts N
+    no_stmts : Stmts N
     stmts : Stmt N → Stmts N → Stmts N
 
   pub data Cases (N : Type 0) : Type 0 where
-    noCases : Cases N
+    no_cases : Cases N
     case : Expr N → Stmt N → Cases N → Cases N
 
   pub data AExpr (N : Type 0) : Type 0 where
-    aExpr : Expr N → AExpr N
+    a_expr : Expr N → AExpr N
     AAssertion : Stmt N → AExpr N
 
   pub data AExprs (N : Type 0) : Type 0 where
-    noAExprs : AExprs N
-    aExprs : AExpr N → AExprs N → AExprs N
+    no_a_exprs : AExprs N
+    a_exprs : AExpr N → AExprs N → AExprs N
 
 -- ---- declarations
 
@@ -145,7 +145,7 @@ pub record FunctionDefinition (N : Type 0) : Type 0 where
 pub record Function (N : Type 0) : Type 0 where
   pub name : N
   pub parameters : List (FParameter N)
-  pub resultType : N
+  pub result_type : N
   pub tag : Option N
   pub definition : Option (FunctionDefinition N)
 
@@ -157,7 +157,7 @@ pub record PParameter (N : Type 0) : Type 0 where
   pub name : N
   pub mode : ParameterMode
   pub typ : N
-  pub optionalAutoInv : Option (Expr N)
+  pub optional_auto_inv : Option (Expr N)
 
 pub record Procedure (N : Type 0) : Type 0 where
   pub name : N

@@ -1,9 +1,9 @@
 -- The check of a table: its words, read from the first on, against a list of expected kinds. Refusals 6 and 7 (REFERENCE, "The refusals").
 use Rattle.std.specs.Prelude.{ℕ, suc, ◌+◌, ◌-◌, ◌≤◌, Bool, cond, List, [], ◌∷◌, ◌++◌, length, leb}
 use Rattle.std.proofs.Math.Option.{Option, none, some}
-use Rattle.tree.specs.Limits.{mostWords}
+use Rattle.tree.specs.Limits.{most_words}
 use Rattle.tree.specs.Ast.{Span}
-use Rattle.tree.specs.Kind.{Kind, expr, programFields, fits, misfit, turn}
+use Rattle.tree.specs.Kind.{Kind, expr, program_fields, fits, misfit, turn}
 use Rattle.tree.specs.declared.Checked.{Checked}
 use Rattle.tree.specs.declared.Checked.TheVariants.{Tree, Misfit, TooLong}
 
@@ -27,14 +27,14 @@ pub record NameIn (len : ℕ) : Type 0 where
 
 -- the table of these kinds
 abbrev pub check : List Kind → List ℕ → ℕ → Checked
-check ks words len = cond (leb (length words) mostWords) (run (within len) ks 0 words) TooLong
+check ks words len = cond (leb (length words) most_words) (run (within len) ks 0 words) TooLong
 
 -- the table of an expression, and of a program, over a text of that length
-unfoldable pub checkExpression : List ℕ → ℕ → Checked
-checkExpression words len = check (expr ∷ []) words len
+unfoldable pub check_expression : List ℕ → ℕ → Checked
+check_expression words len = check (expr ∷ []) words len
 
-unfoldable pub checkProgram : List ℕ → ℕ → Checked
-checkProgram words len = check programFields words len
+unfoldable pub check_program : List ℕ → ℕ → Checked
+check_program words len = check program_fields words len
 
 -- The numbers of a print's refusals. Text, words or start indent are past their limits:
 abbrev pub oversized : ℕ
@@ -56,10 +56,10 @@ refusal (Misfit at) = some (record { number = misfitting; place = at })
 refusal TooLong = some (record { number = oversized; place = 0 })
 
 -- the refusal of a table, none where it is one expression's, or one program's, over a text of that length
-unfoldable pub expressionRefusal : List ℕ → ℕ → Option Refusal
-unfolding checkExpression
-expressionRefusal words len = refusal (checkExpression words len)
+unfoldable pub expression_refusal : List ℕ → ℕ → Option Refusal
+unfolding check_expression
+expression_refusal words len = refusal (check_expression words len)
 
-unfoldable pub programRefusal : List ℕ → ℕ → Option Refusal
-unfolding checkProgram
-programRefusal words len = refusal (checkProgram words len)
+unfoldable pub program_refusal : List ℕ → ℕ → Option Refusal
+unfolding check_program
+program_refusal words len = refusal (check_program words len)

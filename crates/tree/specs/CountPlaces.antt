@@ -3,7 +3,7 @@ use Rattle.std.specs.Prelude.{ℕ, suc, ◌+◌, ◌≤◌, ◌<◌, ◌≡◌, 
 use Rattle.std.proofs.Common.{arith, ◌∙◌, get_or-set_other}
 use Rattle.std.proofs.Math.Option.{Option, none, some}
 use Rattle.tree.specs.Kind.{Kind, Turn, fits, misfit, turn}
-use Rattle.tree.specs.Tally.{Mark, Expected, sequence, opened, markAt, more, marked, noted, tally}
+use Rattle.tree.specs.Tally.{Mark, Expected, sequence, opened, mark_at, more, marked, noted, tally}
 
 -- ---- the places that are still to be noted
 
@@ -61,7 +61,7 @@ more-below b none es y = y
 more-below b (some m) es y = y
 
 -- the mark of what stands at a place is of that place, or its own
-at-apart : (k : Kind) (m : Option Mark) (at s : ℕ) → s < at → ApartMark s m → ApartMark s (markAt k m at)
+at-apart : (k : Kind) (m : Option Mark) (at s : ℕ) → s < at → ApartMark s m → ApartMark s (mark_at k m at)
 at-apart k m at s h a = by_kind (sequence k) m a
   where
     by_kind : (b : Bool) (m : Option Mark) → ApartMark s m → ApartMark s (cond b (some (opened m at)) none)
@@ -69,7 +69,7 @@ at-apart k m at s h a = by_kind (sequence k) m a
     by_kind true (some m) a = a
     by_kind false m a = tt
 
-pub at-below : (k : Kind) (m : Option Mark) (at : ℕ) (es : List Expected) → BelowMark at m (λ c. Below c es) → BelowMark (suc at) (markAt k m at) (λ c. Below c es)
+pub at-below : (k : Kind) (m : Option Mark) (at : ℕ) (es : List Expected) → BelowMark at m (λ c. Below c es) → BelowMark (suc at) (mark_at k m at) (λ c. Below c es)
 at-below k m at es y = by_kind (sequence k) m y
   where
     by_kind : (b : Bool) (m : Option Mark) → BelowMark at m (λ c. Below c es) → BelowMark (suc at) (cond b (some (opened m at)) none) (λ c. Below c es)
@@ -100,10 +100,10 @@ kept inside (e ∷ es) at (w ∷ ws) counts s h a =
     by_turn (turn inside e.kind w) (λ fs ns c x. kept inside ns (suc at) ws c s (omega arith) x)
   where
     by_turn : (u : Turn) → ((fs : List Kind) (ns : List Expected) (c : List ℕ) → Apart s ns → get_or (tally inside ns (suc at) ws c) s 0 ≡ get_or c s 0)
-        → get_or (elim u [ fits fs ↦ tally inside (marked fs (more (markAt e.kind e.mark at)) ++ es) (suc at) ws (noted fs (markAt e.kind e.mark at) counts) | misfit b ↦ counts ]) s 0 ≡ get_or counts s 0
+        → get_or (elim u [ fits fs ↦ tally inside (marked fs (more (mark_at e.kind e.mark at)) ++ es) (suc at) ws (noted fs (mark_at e.kind e.mark at) counts) | misfit b ↦ counts ]) s 0 ≡ get_or counts s 0
     by_turn (fits fs) ih =
         let y = at-apart e.kind e.mark at s h a.0 in
-        ih fs (marked fs (more (markAt e.kind e.mark at)) ++ es) (noted fs (markAt e.kind e.mark at) counts)
-        (marked-apart s (more (markAt e.kind e.mark at)) fs es (more-apart s (markAt e.kind e.mark at) y) a.1)
-        ∙ noted-apart fs (markAt e.kind e.mark at) counts s y
+        ih fs (marked fs (more (mark_at e.kind e.mark at)) ++ es) (noted fs (mark_at e.kind e.mark at) counts)
+        (marked-apart s (more (mark_at e.kind e.mark at)) fs es (more-apart s (mark_at e.kind e.mark at) y) a.1)
+        ∙ noted-apart fs (mark_at e.kind e.mark at) counts s y
     by_turn (misfit b) ih = refl

@@ -6,44 +6,44 @@ use Rattle.std.proofs.Math.Option.{Option, none, some}
 use Rattle.tree.specs.Ast.{Span, Variable, CallArgument}
 use Rattle.tree.specs.Ast.{FunctionDefinition, Function, Axiom, PParameter, Procedure, Program}
 use Rattle.tree.specs.Ast.{Expr, BLiteral, ILiteral, CustomLiteral, IdExpr, OperatorExpr, FunctionCallExpr, LabeledExpr, LetExpr, QuantifierExpr, ClosureExpr}
-use Rattle.tree.specs.Ast.{Exprs, noExprs, ◌then◌, Patterns, noPatterns, pattern}
-use Rattle.tree.specs.Ast.{ClosureBindings, noClosureBindings, closureBinding, ClosureProperties, noClosureProperties, closureProperty}
+use Rattle.tree.specs.Ast.{Exprs, no_exprs, ◌then◌, Patterns, no_patterns, pattern}
+use Rattle.tree.specs.Ast.{ClosureBindings, no_closure_bindings, closure_binding, ClosureProperties, no_closure_properties, closure_property}
 use Rattle.tree.specs.Ast.{Stmt, VarDecl, Assign, Reinit, Block, Call, Check, Assume, Reach, Assert, AForall, Choose, If, IfCase, Loop, LabeledStmt, Exit, Return, Probe}
-use Rattle.tree.specs.Ast.{Stmts, noStmts, stmts, Cases, noCases, case, AExpr, aExpr, AAssertion, AExprs, noAExprs, aExprs}
-use Rattle.tree.specs.Words.{optionWords, seqWords, nameWords, bindingWords, exprWords, exprsWords, patternsWords, closureBindingsWords, closurePropertiesWords}
-use Rattle.tree.specs.Words.{callArgumentWords, stmtWords, stmtsWords, casesWords, aExprWords, aExprsWords}
-use Rattle.tree.specs.Words.{taggerWords, fParameterWords, functionDefinitionWords, functionWords, axiomWords, pParameterWords, procedureWords}
+use Rattle.tree.specs.Ast.{Stmts, no_stmts, stmts, Cases, no_cases, case, AExpr, a_expr, AAssertion, AExprs, no_a_exprs, a_exprs}
+use Rattle.tree.specs.Words.{option_words, seq_words, name_words, binding_words, expr_words, exprs_words, patterns_words, closure_bindings_words, closure_properties_words}
+use Rattle.tree.specs.Words.{call_argument_words, stmt_words, stmts_words, cases_words, a_expr_words, a_exprs_words}
+use Rattle.tree.specs.Words.{tagger_words, f_parameter_words, function_definition_words, function_words, axiom_words, p_parameter_words, procedure_words}
 
 -- ---- how many items a sequence has
 
 module _ {N : Type 0} where
-  abbrev pub exprCount : Exprs N → ℕ
-  exprCount noExprs = 0
-  exprCount (◌then◌ e es) = suc (exprCount es)
+  abbrev pub expr_count : Exprs N → ℕ
+  expr_count no_exprs = 0
+  expr_count (◌then◌ e es) = suc (expr_count es)
 
-  abbrev pub patternCount : Patterns N → ℕ
-  patternCount noPatterns = 0
-  patternCount (pattern es ps) = suc (patternCount ps)
+  abbrev pub pattern_count : Patterns N → ℕ
+  pattern_count no_patterns = 0
+  pattern_count (pattern es ps) = suc (pattern_count ps)
 
-  abbrev pub closureBindingCount : ClosureBindings N → ℕ
-  closureBindingCount noClosureBindings = 0
-  closureBindingCount (closureBinding n ps e bs) = suc (closureBindingCount bs)
+  abbrev pub closure_binding_count : ClosureBindings N → ℕ
+  closure_binding_count no_closure_bindings = 0
+  closure_binding_count (closure_binding n ps e bs) = suc (closure_binding_count bs)
 
-  abbrev pub closurePropertyCount : ClosureProperties N → ℕ
-  closurePropertyCount noClosureProperties = 0
-  closurePropertyCount (closureProperty ts e ps) = suc (closurePropertyCount ps)
+  abbrev pub closure_property_count : ClosureProperties N → ℕ
+  closure_property_count no_closure_properties = 0
+  closure_property_count (closure_property ts e ps) = suc (closure_property_count ps)
 
-  abbrev pub stmtCount : Stmts N → ℕ
-  stmtCount noStmts = 0
-  stmtCount (stmts s ss) = suc (stmtCount ss)
+  abbrev pub stmt_count : Stmts N → ℕ
+  stmt_count no_stmts = 0
+  stmt_count (stmts s ss) = suc (stmt_count ss)
 
   abbrev pub case_count : Cases N → ℕ
-  case_count noCases = 0
+  case_count no_cases = 0
   case_count (case e s cs) = suc (case_count cs)
 
-  abbrev pub aExprCount : AExprs N → ℕ
-  aExprCount noAExprs = 0
-  aExprCount (aExprs a es) = suc (aExprCount es)
+  abbrev pub a_expr_count : AExprs N → ℕ
+  a_expr_count no_a_exprs = 0
+  a_expr_count (a_exprs a es) = suc (a_expr_count es)
 
 -- an option's content has it
 abbrev pub CountedOption : {A : Type 0} → (A → List ℕ → Type 0) → Option A → List ℕ → Type 0
@@ -53,7 +53,7 @@ CountedOption P (some a) rest = P a rest
 -- each item of a list has it, before the words of the items after it
 abbrev pub CountedItems : {A : Type 0} → (A → List ℕ → List ℕ) → (A → List ℕ → Type 0) → List A → List ℕ → Type 0
 CountedItems words P [] rest = Unit {0}
-CountedItems words P (a ∷ l) rest = P a (seqWords words l rest) × CountedItems words P l rest
+CountedItems words P (a ∷ l) rest = P a (seq_words words l rest) × CountedItems words P l rest
 
 module _ {N : Type 0} (span : N → Span) (counts : List ℕ) (size : ℕ) where
   -- the number at the place of these words
@@ -62,7 +62,7 @@ module _ {N : Type 0} (span : N → Span) (counts : List ℕ) (size : ℕ) where
 
   -- a list whose items hold no sequences
   abbrev pub NotedList : {A : Type 0} → (A → List ℕ → List ℕ) → List A → List ℕ → Type 0
-  NotedList words l rest = Noted (seqWords words l rest) (length l)
+  NotedList words l rest = Noted (seq_words words l rest) (length l)
 
   -- a list with its items
   abbrev pub CountedList : {A : Type 0} → (A → List ℕ → List ℕ) → (A → List ℕ → Type 0) → List A → List ℕ → Type 0
@@ -75,45 +75,45 @@ module _ {N : Type 0} (span : N → Span) (counts : List ℕ) (size : ℕ) where
     CountedExpr (ILiteral n) rest = Unit {0}
     CountedExpr (CustomLiteral s t) rest = Unit {0}
     CountedExpr (IdExpr n o) rest = Unit {0}
-    CountedExpr (OperatorExpr o es) rest = Noted (exprsWords span es rest) (exprCount es) × CountedExprs es rest
-    CountedExpr (FunctionCallExpr n es) rest = Noted (exprsWords span es rest) (exprCount es) × CountedExprs es rest
+    CountedExpr (OperatorExpr o es) rest = Noted (exprs_words span es rest) (expr_count es) × CountedExprs es rest
+    CountedExpr (FunctionCallExpr n es) rest = Noted (exprs_words span es rest) (expr_count es) × CountedExprs es rest
     CountedExpr (LabeledExpr n e) rest = CountedExpr e rest
-    CountedExpr (LetExpr n t r e) rest = CountedExpr r (exprWords span e rest) × CountedExpr e rest
+    CountedExpr (LetExpr n t r e) rest = CountedExpr r (expr_words span e rest) × CountedExpr e rest
     CountedExpr (QuantifierExpr u bs ps e) rest =
-        NotedList (bindingWords span) bs (patternsWords span ps (exprWords span e rest))
-        × Noted (patternsWords span ps (exprWords span e rest)) (patternCount ps)
-        × CountedPatterns ps (exprWords span e rest)
+        NotedList (binding_words span) bs (patterns_words span ps (expr_words span e rest))
+        × Noted (patterns_words span ps (expr_words span e rest)) (pattern_count ps)
+        × CountedPatterns ps (expr_words span e rest)
         × CountedExpr e rest
     CountedExpr (ClosureExpr bs n t ps) rest =
-        Noted (closureBindingsWords span bs (nameWords span n (nameWords span t (closurePropertiesWords span ps rest)))) (closureBindingCount bs)
-        × CountedClosureBindings bs (nameWords span n (nameWords span t (closurePropertiesWords span ps rest)))
-        × Noted (closurePropertiesWords span ps rest) (closurePropertyCount ps)
+        Noted (closure_bindings_words span bs (name_words span n (name_words span t (closure_properties_words span ps rest)))) (closure_binding_count bs)
+        × CountedClosureBindings bs (name_words span n (name_words span t (closure_properties_words span ps rest)))
+        × Noted (closure_properties_words span ps rest) (closure_property_count ps)
         × CountedClosureProperties ps rest
 
     pub CountedExprs : Exprs N → List ℕ → Type 0
-    CountedExprs noExprs rest = Unit {0}
-    CountedExprs (◌then◌ e es) rest = CountedExpr e (exprsWords span es rest) × CountedExprs es rest
+    CountedExprs no_exprs rest = Unit {0}
+    CountedExprs (◌then◌ e es) rest = CountedExpr e (exprs_words span es rest) × CountedExprs es rest
 
     pub CountedPatterns : Patterns N → List ℕ → Type 0
-    CountedPatterns noPatterns rest = Unit {0}
+    CountedPatterns no_patterns rest = Unit {0}
     CountedPatterns (pattern es ps) rest =
-        Noted (exprsWords span es (patternsWords span ps rest)) (exprCount es)
-        × CountedExprs es (patternsWords span ps rest)
+        Noted (exprs_words span es (patterns_words span ps rest)) (expr_count es)
+        × CountedExprs es (patterns_words span ps rest)
         × CountedPatterns ps rest
 
     pub CountedClosureBindings : ClosureBindings N → List ℕ → Type 0
-    CountedClosureBindings noClosureBindings rest = Unit {0}
-    CountedClosureBindings (closureBinding n ps e bs) rest =
-        NotedList (bindingWords span) ps (exprWords span e (closureBindingsWords span bs rest))
-        × CountedExpr e (closureBindingsWords span bs rest)
+    CountedClosureBindings no_closure_bindings rest = Unit {0}
+    CountedClosureBindings (closure_binding n ps e bs) rest =
+        NotedList (binding_words span) ps (expr_words span e (closure_bindings_words span bs rest))
+        × CountedExpr e (closure_bindings_words span bs rest)
         × CountedClosureBindings bs rest
 
     pub CountedClosureProperties : ClosureProperties N → List ℕ → Type 0
-    CountedClosureProperties noClosureProperties rest = Unit {0}
-    CountedClosureProperties (closureProperty ts e ps) rest =
-        Noted (patternsWords span ts (exprWords span e (closurePropertiesWords span ps rest))) (patternCount ts)
-        × CountedPatterns ts (exprWords span e (closurePropertiesWords span ps rest))
-        × CountedExpr e (closurePropertiesWords span ps rest)
+    CountedClosureProperties no_closure_properties rest = Unit {0}
+    CountedClosureProperties (closure_property ts e ps) rest =
+        Noted (patterns_words span ts (expr_words span e (closure_properties_words span ps rest))) (pattern_count ts)
+        × CountedPatterns ts (expr_words span e (closure_properties_words span ps rest))
+        × CountedExpr e (closure_properties_words span ps rest)
         × CountedClosureProperties ps rest
 
   -- ---- statements
@@ -124,81 +124,81 @@ module _ {N : Type 0} (span : N → Span) (counts : List ℕ) (size : ℕ) where
   abbrev mutual
     pub CountedStmt : Stmt N → List ℕ → Type 0
     CountedStmt (VarDecl v i s) rest =
-        CountedOption CountedExpr v.optionalAutoInv (optionWords (exprWords span) i (stmtWords span s rest))
-        × CountedOption CountedExpr i (stmtWords span s rest)
+        CountedOption CountedExpr v.optional_auto_inv (option_words (expr_words span) i (stmt_words span s rest))
+        × CountedOption CountedExpr i (stmt_words span s rest)
         × CountedStmt s rest
     CountedStmt (Assign n e) rest = CountedExpr e rest
-    CountedStmt (Reinit ns) rest = NotedList (nameWords span) ns rest
-    CountedStmt (Block ss) rest = Noted (stmtsWords span ss rest) (stmtCount ss) × CountedStmts ss rest
-    CountedStmt (Call n cs) rest = CountedList (callArgumentWords span) CountedCallArgument cs rest
+    CountedStmt (Reinit ns) rest = NotedList (name_words span) ns rest
+    CountedStmt (Block ss) rest = Noted (stmts_words span ss rest) (stmt_count ss) × CountedStmts ss rest
+    CountedStmt (Call n cs) rest = CountedList (call_argument_words span) CountedCallArgument cs rest
     CountedStmt (Check e) rest = CountedExpr e rest
     CountedStmt (Assume e) rest = CountedExpr e rest
     CountedStmt (Reach e) rest = CountedExpr e rest
     CountedStmt (Assert e) rest = CountedExpr e rest
     CountedStmt (AForall n t s) rest = CountedStmt s rest
-    CountedStmt (Choose ss) rest = Noted (stmtsWords span ss rest) (stmtCount ss) × CountedStmts ss rest
-    CountedStmt (If e s t) rest = CountedExpr e (stmtWords span s (stmtWords span t rest)) × CountedStmt s (stmtWords span t rest) × CountedStmt t rest
-    CountedStmt (IfCase cs) rest = Noted (casesWords span cs rest) (case_count cs) × CountedCases cs rest
+    CountedStmt (Choose ss) rest = Noted (stmts_words span ss rest) (stmt_count ss) × CountedStmts ss rest
+    CountedStmt (If e s t) rest = CountedExpr e (stmt_words span s (stmt_words span t rest)) × CountedStmt s (stmt_words span t rest) × CountedStmt t rest
+    CountedStmt (IfCase cs) rest = Noted (cases_words span cs rest) (case_count cs) × CountedCases cs rest
     CountedStmt (Loop is s) rest =
-        Noted (aExprsWords span is (stmtWords span s rest)) (aExprCount is) × CountedAExprs is (stmtWords span s rest) × CountedStmt s rest
+        Noted (a_exprs_words span is (stmt_words span s rest)) (a_expr_count is) × CountedAExprs is (stmt_words span s rest) × CountedStmt s rest
     CountedStmt (LabeledStmt n s) rest = CountedStmt s rest
     CountedStmt (Exit l) rest = Unit {0}
     CountedStmt Return rest = Unit {0}
     CountedStmt (Probe e) rest = CountedExpr e rest
 
     pub CountedStmts : Stmts N → List ℕ → Type 0
-    CountedStmts noStmts rest = Unit {0}
-    CountedStmts (stmts s ss) rest = CountedStmt s (stmtsWords span ss rest) × CountedStmts ss rest
+    CountedStmts no_stmts rest = Unit {0}
+    CountedStmts (stmts s ss) rest = CountedStmt s (stmts_words span ss rest) × CountedStmts ss rest
 
     pub CountedCases : Cases N → List ℕ → Type 0
-    CountedCases noCases rest = Unit {0}
+    CountedCases no_cases rest = Unit {0}
     CountedCases (case e s cs) rest =
-        CountedExpr e (stmtWords span s (casesWords span cs rest)) × CountedStmt s (casesWords span cs rest) × CountedCases cs rest
+        CountedExpr e (stmt_words span s (cases_words span cs rest)) × CountedStmt s (cases_words span cs rest) × CountedCases cs rest
 
     pub CountedAExpr : AExpr N → List ℕ → Type 0
-    CountedAExpr (aExpr e) rest = CountedExpr e rest
+    CountedAExpr (a_expr e) rest = CountedExpr e rest
     CountedAExpr (AAssertion s) rest = CountedStmt s rest
 
     pub CountedAExprs : AExprs N → List ℕ → Type 0
-    CountedAExprs noAExprs rest = Unit {0}
-    CountedAExprs (aExprs a es) rest = CountedAExpr a (aExprsWords span es rest) × CountedAExprs es rest
+    CountedAExprs no_a_exprs rest = Unit {0}
+    CountedAExprs (a_exprs a es) rest = CountedAExpr a (a_exprs_words span es rest) × CountedAExprs es rest
 
   -- ---- declarations
 
   abbrev pub CountedDefinition : FunctionDefinition N → List ℕ → Type 0
   CountedDefinition d rest =
-      Noted (exprsWords span d.when (exprWords span d.body rest)) (exprCount d.when)
-      × CountedExprs d.when (exprWords span d.body rest)
+      Noted (exprs_words span d.when (expr_words span d.body rest)) (expr_count d.when)
+      × CountedExprs d.when (expr_words span d.body rest)
       × CountedExpr d.body rest
 
   abbrev pub CountedFunction : Function N → List ℕ → Type 0
   CountedFunction g rest =
-      NotedList (fParameterWords span) g.parameters
-      (nameWords span g.resultType (optionWords (nameWords span) g.tag (optionWords (functionDefinitionWords span) g.definition rest)))
+      NotedList (f_parameter_words span) g.parameters
+      (name_words span g.result_type (option_words (name_words span) g.tag (option_words (function_definition_words span) g.definition rest)))
       × CountedOption CountedDefinition g.definition rest
 
   abbrev pub CountedAxiom : Axiom N → List ℕ → Type 0
-  CountedAxiom a rest = NotedList (nameWords span) a.explains (exprWords span a.expr rest) × CountedExpr a.expr rest
+  CountedAxiom a rest = NotedList (name_words span) a.explains (expr_words span a.expr rest) × CountedExpr a.expr rest
 
   abbrev pub CountedPParameter : PParameter N → List ℕ → Type 0
-  CountedPParameter p rest = CountedOption CountedExpr p.optionalAutoInv rest
+  CountedPParameter p rest = CountedOption CountedExpr p.optional_auto_inv rest
 
   abbrev pub CountedProcedure : Procedure N → List ℕ → Type 0
   CountedProcedure p rest =
-      CountedList (pParameterWords span) CountedPParameter p.parameters (aExprsWords span p.pre (aExprsWords span p.post (optionWords (stmtWords span) p.body rest)))
-      × Noted (aExprsWords span p.pre (aExprsWords span p.post (optionWords (stmtWords span) p.body rest))) (aExprCount p.pre)
-      × CountedAExprs p.pre (aExprsWords span p.post (optionWords (stmtWords span) p.body rest))
-      × Noted (aExprsWords span p.post (optionWords (stmtWords span) p.body rest)) (aExprCount p.post)
-      × CountedAExprs p.post (optionWords (stmtWords span) p.body rest)
+      CountedList (p_parameter_words span) CountedPParameter p.parameters (a_exprs_words span p.pre (a_exprs_words span p.post (option_words (stmt_words span) p.body rest)))
+      × Noted (a_exprs_words span p.pre (a_exprs_words span p.post (option_words (stmt_words span) p.body rest))) (a_expr_count p.pre)
+      × CountedAExprs p.pre (a_exprs_words span p.post (option_words (stmt_words span) p.body rest))
+      × Noted (a_exprs_words span p.post (option_words (stmt_words span) p.body rest)) (a_expr_count p.post)
+      × CountedAExprs p.post (option_words (stmt_words span) p.body rest)
       × CountedOption CountedStmt p.body rest
 
   abbrev pub CountedProgram : Program N → List ℕ → Type 0
   CountedProgram p rest =
-      NotedList (nameWords span) p.types
-      (seqWords (taggerWords span) p.taggers
-      (seqWords (functionWords span) p.functions (seqWords (axiomWords span) p.axioms (seqWords (procedureWords span) p.procedures rest))))
-      × NotedList (taggerWords span) p.taggers
-      (seqWords (functionWords span) p.functions (seqWords (axiomWords span) p.axioms (seqWords (procedureWords span) p.procedures rest)))
-      × CountedList (functionWords span) CountedFunction p.functions (seqWords (axiomWords span) p.axioms (seqWords (procedureWords span) p.procedures rest))
-      × CountedList (axiomWords span) CountedAxiom p.axioms (seqWords (procedureWords span) p.procedures rest)
-      × CountedList (procedureWords span) CountedProcedure p.procedures rest
+      NotedList (name_words span) p.types
+      (seq_words (tagger_words span) p.taggers
+      (seq_words (function_words span) p.functions (seq_words (axiom_words span) p.axioms (seq_words (procedure_words span) p.procedures rest))))
+      × NotedList (tagger_words span) p.taggers
+      (seq_words (function_words span) p.functions (seq_words (axiom_words span) p.axioms (seq_words (procedure_words span) p.procedures rest)))
+      × CountedList (function_words span) CountedFunction p.functions (seq_words (axiom_words span) p.axioms (seq_words (procedure_words span) p.procedures rest))
+      × CountedList (axiom_words span) CountedAxiom p.axioms (seq_words (procedure_words span) p.procedures rest)
+      × CountedList (procedure_words span) CountedProcedure p.procedures rest

@@ -6,15 +6,15 @@ use Rattle.std.proofs.Math.Bool.{true, false, cond}
 use Rattle.std.proofs.Math.Option.{Option, none, some}
 use Rattle.std.proofs.lemmas.Bool.{lt-leb}
 use Rattle.tree.specs.Clash.{impossible}
-use Rattle.tree.specs.Limits.{mostText, mostWords}
+use Rattle.tree.specs.Limits.{most_text, most_words}
 use Rattle.tree.specs.Ast.{Expr, Program}
-use Rattle.tree.specs.Kind.{expr, programFields}
-use Rattle.tree.specs.Check.{NameIn, Refusal, checkExpression, checkProgram, refusal as checkRefusal, expressionRefusal, programRefusal, oversized, misfitting}
-use Rattle.tree.specs.Trees.{Trees, namesIn}
+use Rattle.tree.specs.Kind.{expr, program_fields}
+use Rattle.tree.specs.Check.{NameIn, Refusal, check_expression, check_program, refusal as check_refusal, expression_refusal, program_refusal, oversized, misfitting}
+use Rattle.tree.specs.Trees.{Trees, names_in}
 use Rattle.tree.specs.Accepted.{unique}
-use Rattle.tree.specs.Tables.{toProgram, fromProgram}
+use Rattle.tree.specs.Tables.{to_program, from_program}
 use Rattle.tree.specs.Refused.{expression-too-many, expression-misfit, program-too-many, program-misfit}
-use Rattle.tree.specs.Held.{TableKind, expressionTables, programTables, Held, held, refused, tree_of, heldChecked, heldBy, programHeld, Holds, HoldsProgram, InLimits}
+use Rattle.tree.specs.Held.{TableKind, expression_tables, program_tables, Held, held, refused, tree_of, held_checked, held_by, program_held, Holds, HoldsProgram, InLimits}
 use Rattle.tree.specs.declared.Checked.{Checked}
 use Rattle.tree.specs.declared.Checked.TheVariants.{Tree, Misfit, TooLong}
 
@@ -23,38 +23,38 @@ use Rattle.tree.specs.declared.Checked.TheVariants.{Tree, Misfit, TooLong}
 -- a kind whose words determine the tree, and whose check refuses by 6 and 7 as in REFERENCE, "The refusals"
 pub record Lawful (K : TableKind) : Type 0 where
   pub same : (words : List ℕ) (t u : K.Tree) → K.words t ≡ words → K.words u ≡ words → t ≡ u
-  pub found : (words : List ℕ) → (c : Checked) × (K.refused words ≡ checkRefusal c)
-  pub too_many : (words : List ℕ) → K.refused words ≡ some (record { number = oversized; place = 0 }) → mostWords < length words
-  pub misfit : (words : List ℕ) (place : ℕ) → K.refused words ≡ some (record { number = misfitting; place = place }) → length words ≤ mostWords
+  pub found : (words : List ℕ) → (c : Checked) × (K.refused words ≡ check_refusal c)
+  pub too_many : (words : List ℕ) → K.refused words ≡ some (record { number = oversized; place = 0 }) → most_words < length words
+  pub misfit : (words : List ℕ) (place : ℕ) → K.refused words ≡ some (record { number = misfitting; place = place }) → length words ≤ most_words
 
 -- two trees with the same words
 pub same-tree : (text words : List ℕ) (t u : Expr (NameIn (length text))) → Holds text words t → Holds text words u → t ≡ u
 same-tree text words t u e f =
-    let h = unique (namesIn (length text)) (expr ∷ []) words (t, tt) (u, tt) [] [] e f in
-    ap (λ (ts : Trees (namesIn (length text)) (expr ∷ [])). ts.0) h.0
+    let h = unique (names_in (length text)) (expr ∷ []) words (t, tt) (u, tt) [] [] e f in
+    ap (λ (ts : Trees (names_in (length text)) (expr ∷ [])). ts.0) h.0
 
 pub same-program : (text words : List ℕ) (t u : Program (NameIn (length text))) → HoldsProgram text words t → HoldsProgram text words u → t ≡ u
 same-program text words t u e f =
-    let I = namesIn (length text) in
-    ap (toProgram I) (unique I programFields words (fromProgram I t) (fromProgram I u) [] [] e f).0
+    let I = names_in (length text) in
+    ap (to_program I) (unique I program_fields words (from_program I t) (from_program I u) [] [] e f).0
 
 -- expressions and programs are such kinds
-pub expression-laws : (text : List ℕ) → Lawful (expressionTables (length text))
-unfolding expressionRefusal
+pub expression-laws : (text : List ℕ) → Lawful (expression_tables (length text))
+unfolding expression_refusal
 expression-laws text =
     record {
       same = same-tree text;
-      found = λ ws. (checkExpression ws (length text), refl);
+      found = λ ws. (check_expression ws (length text), refl);
       too_many = λ ws. (expression-too-many ws (length text)).0;
       misfit = λ ws p e. (expression-misfit ws (length text) p e).1;
     }
 
-pub program-laws : (text : List ℕ) → Lawful (programTables (length text))
-unfolding programRefusal
+pub program-laws : (text : List ℕ) → Lawful (program_tables (length text))
+unfolding program_refusal
 program-laws text =
     record {
       same = same-program text;
-      found = λ ws. (checkProgram ws (length text), refl);
+      found = λ ws. (check_program ws (length text), refl);
       too_many = λ ws. (program-too-many ws (length text)).0;
       misfit = λ ws p e. (program-misfit ws (length text) p e).1;
     }
@@ -71,39 +71,39 @@ module _ (K : TableKind) (text words : List ℕ) where
         L.same words a.0 t a.1 e
 
     -- an unrefused table holds it
-    checked : (r : Option Refusal) (h : K.refused words ≡ r) → r ≡ none → heldChecked K words r h ≡ held t
-    unfolding heldChecked
+    checked : (r : Option Refusal) (h : K.refused words ≡ r) → r ≡ none → held_checked K words r h ≡ held t
+    unfolding held_checked
     checked none h k = ap held (tree-of h)
     checked (some r) h k = impossible cc
 
     -- so does a table within the limits
-    pub holds : {others : Bool} → length text ≤ mostText → length words ≤ mostWords → others ≡ true → heldBy K others text words ≡ held t
-    unfolding heldBy
+    pub holds : {others : Bool} → length text ≤ most_text → length words ≤ most_words → others ≡ true → held_by K others text words ≡ held t
+    unfolding held_by
     holds ht hw ho = simp (le-leb _ _ ht, ho) (checked (K.refused words) refl ((K.unrefused words).1 (hw, (t, e))))
 
   -- the check's refusal
-  refused-by : (q : Refusal) (r : Option Refusal) (h : K.refused words ≡ r) → r ≡ some q → heldChecked K words r h ≡ refused q.number q.place
-  unfolding heldChecked
+  refused-by : (q : Refusal) (r : Option Refusal) (h : K.refused words ≡ r) → r ≡ some q → held_checked K words r h ≡ refused q.number q.place
+  unfolding held_checked
   refused-by q none h k = impossible cc
   refused-by q (some r) h k = cc
 
   -- within the other limits the table is refused by it
-  pub refuses : {others : Bool} → length text ≤ mostText → others ≡ true → (q : Refusal) → K.refused words ≡ some q
-      → heldBy K others text words ≡ refused q.number q.place
-  unfolding heldBy
+  pub refuses : {others : Bool} → length text ≤ most_text → others ≡ true → (q : Refusal) → K.refused words ≡ some q
+      → held_by K others text words ≡ refused q.number q.place
+  unfolding held_by
   refuses ht ho q k = simp (le-leb _ _ ht, ho) (refused-by q (K.refused words) refl k)
 
   -- a text that is too long is refused by 6
-  pub long-text : (others : Bool) → mostText < length text → heldBy K others text words ≡ refused oversized 0
-  unfolding heldBy
-  long-text others h = simp (lt-leb (length text) mostText h)
+  pub long-text : (others : Bool) → most_text < length text → held_by K others text words ≡ refused oversized 0
+  unfolding held_by
+  long-text others h = simp (lt-leb (length text) most_text h)
 
   -- so is a table with another limit passed
-  pub past-limit : {others : Bool} → others ≡ false → heldBy K others text words ≡ refused oversized 0
-  unfolding heldBy
-  past-limit {others} h = by-test (leb (length text) mostText)
+  pub past-limit : {others : Bool} → others ≡ false → held_by K others text words ≡ refused oversized 0
+  unfolding held_by
+  past-limit {others} h = by-test (leb (length text) most_text)
     where
-      by-test : (v : Bool) → cond (v && others) (heldChecked K words (K.refused words) refl) (refused oversized 0) ≡ refused oversized 0
+      by-test : (v : Bool) → cond (v && others) (held_checked K words (K.refused words) refl) (refused oversized 0) ≡ refused oversized 0
       by-test true = simp h
       by-test false = refl
 
@@ -117,7 +117,7 @@ pub data Table (K : TableKind) (within : Type 0) (words : List ℕ) : Held K.Tre
 module _ (K : TableKind) (L : Lawful K) (others : Bool) (text words : List ℕ) (within : Type 0) (keeps : InLimits text words → others ≡ true → within)
     (kept : within → InLimits text words × (others ≡ true)) where
   -- by the check's answer
-  of-check : length text ≤ mostText → others ≡ true → (c : Checked) → K.refused words ≡ checkRefusal c → Table K within words (heldBy K others text words)
+  of-check : length text ≤ most_text → others ≡ true → (c : Checked) → K.refused words ≡ check_refusal c → Table K within words (held_by K others text words)
   of-check ht ho Tree h =
       let a = (K.unrefused words).0 h in
       rw (holds K text words L a.1.0 a.1.1 ht a.0 ho) (tree (keeps (record { text-fits = ht; words-fit = a.0 }) ho) a.1.0 a.1.1)
@@ -128,21 +128,21 @@ module _ (K : TableKind) (L : Lawful K) (others : Bool) (text words : List ℕ) 
       rw (refuses K text words ht ho _ h) (over (λ w. let f = (kept w).0.words-fit in omega arith))
 
   -- by the limits
-  by-others : length text ≤ mostText → (b : Bool) → others ≡ b → Table K within words (heldBy K others text words)
+  by-others : length text ≤ most_text → (b : Bool) → others ≡ b → Table K within words (held_by K others text words)
   by-others ht true e = of-check ht e (L.found words).0 (L.found words).1
   by-others ht false e = rw (past-limit K text words e) (over (λ w. let f = (kept w).1 in impossible cc))
 
-  past-text : mostText < length text → Table K within words (heldBy K others text words)
+  past-text : most_text < length text → Table K within words (held_by K others text words)
   past-text h = rw (long-text K text words others h) (over (λ w. let f = (kept w).0.text-fits in omega arith))
 
-  by-text : (b : Bool) → leb (length text) mostText ≡ b → Table K within words (heldBy K others text words)
+  by-text : (b : Bool) → leb (length text) most_text ≡ b → Table K within words (held_by K others text words)
   by-text true e = by-others (leb-true _ _ e) others refl
   by-text false e = past-text (leb-false _ _ e)
 
   -- every table is one of the three
-  pub table : Table K within words (heldBy K others text words)
-  table = by-text (leb (length text) mostText) refl
+  pub table : Table K within words (held_by K others text words)
+  table = by-text (leb (length text) most_text) refl
 
 -- every program's table is
-pub program-table : (text words : List ℕ) → Table (programTables (length text)) (InLimits text words) words (programHeld text words)
-program-table text words = table (programTables (length text)) (program-laws text) true text words (InLimits text words) (λ w h. w) (λ w. (w, refl))
+pub program-table : (text words : List ℕ) → Table (program_tables (length text)) (InLimits text words) words (program_held text words)
+program-table text words = table (program_tables (length text)) (program-laws text) true text words (InLimits text words) (λ w h. w) (λ w. (w, refl))

@@ -2,100 +2,100 @@
 -- fields (REFERENCE, "The tree words"). Upstream's datatypes of one constructor are their fields alone, so they stand here only as the
 -- items of options and sequences.
 use Rattle.std.specs.Prelude.{ℕ, zero, suc, ◌-◌, ◌^◌, Bool, cond, List, [], ◌∷◌, ◌++◌, replicate, leb, ltb}
-use Rattle.tree.specs.Tags.{no_more, bLiteralTag, varDeclTag, aExprTag}
+use Rattle.tree.specs.Tags.{no_more, b_literal_tag, var_decl_tag, a_expr_tag}
 
 -- what a sequence may hold
 pub data Item : Type 0 where
-  ofName ofExpr ofBinding ofPattern ofClosureBinding ofClosureProperty : Item
-  ofStmt ofCallArgument ofCase ofAExpr : Item
-  ofTagger ofFParameter ofFunction ofAxiom ofPParameter ofProcedure : Item
+  of_name of_expr of_binding of_pattern of_closure_binding of_closure_property : Item
+  of_stmt of_call_argument of_case of_a_expr : Item
+  of_tagger of_f_parameter of_function of_axiom of_p_parameter of_procedure : Item
 
 -- what an option may hold
 pub data Content : Type 0 where
-  aName anExpr aStmt aDefinition : Content
+  a_name an_expr a_stmt a_definition : Content
 
--- what may be expected at a word. `low` is a natural's second word, and `lengthFrom s` the second word of a name that starts at s.
+-- what may be expected at a word. `low` is a natural's second word, and `length_from s` the second word of a name that starts at s.
 pub data Kind : Type 0 where
   bool operator mode natural low name : Kind
-  lengthFrom : ℕ → Kind
+  length_from : ℕ → Kind
   expr stmt aexpr : Kind
   option : Content → Kind
   seq : Item → Kind
 
 -- the fields of an item, in the order of its datatype
 abbrev pub fields : Item → List Kind
-fields ofName = name ∷ []
-fields ofExpr = expr ∷ []
-fields ofBinding = name ∷ name ∷ []
-fields ofPattern = seq ofExpr ∷ []
-fields ofClosureBinding = name ∷ seq ofBinding ∷ expr ∷ []
-fields ofClosureProperty = seq ofPattern ∷ expr ∷ []
-fields ofStmt = stmt ∷ []
-fields ofCallArgument = mode ∷ expr ∷ []
-fields ofCase = expr ∷ stmt ∷ []
-fields ofAExpr = aexpr ∷ []
-fields ofTagger = name ∷ name ∷ []
-fields ofFParameter = name ∷ bool ∷ name ∷ []
-fields ofFunction = name ∷ seq ofFParameter ∷ name ∷ option aName ∷ option aDefinition ∷ []
-fields ofAxiom = seq ofName ∷ expr ∷ []
-fields ofPParameter = name ∷ mode ∷ name ∷ option anExpr ∷ []
-fields ofProcedure = name ∷ seq ofPParameter ∷ seq ofAExpr ∷ seq ofAExpr ∷ option aStmt ∷ []
+fields of_name = name ∷ []
+fields of_expr = expr ∷ []
+fields of_binding = name ∷ name ∷ []
+fields of_pattern = seq of_expr ∷ []
+fields of_closure_binding = name ∷ seq of_binding ∷ expr ∷ []
+fields of_closure_property = seq of_pattern ∷ expr ∷ []
+fields of_stmt = stmt ∷ []
+fields of_call_argument = mode ∷ expr ∷ []
+fields of_case = expr ∷ stmt ∷ []
+fields of_a_expr = aexpr ∷ []
+fields of_tagger = name ∷ name ∷ []
+fields of_f_parameter = name ∷ bool ∷ name ∷ []
+fields of_function = name ∷ seq of_f_parameter ∷ name ∷ option a_name ∷ option a_definition ∷ []
+fields of_axiom = seq of_name ∷ expr ∷ []
+fields of_p_parameter = name ∷ mode ∷ name ∷ option an_expr ∷ []
+fields of_procedure = name ∷ seq of_p_parameter ∷ seq of_a_expr ∷ seq of_a_expr ∷ option a_stmt ∷ []
 
 -- the fields of an option's content
 abbrev pub contents : Content → List Kind
-contents aName = name ∷ []
-contents anExpr = expr ∷ []
-contents aStmt = stmt ∷ []
-contents aDefinition = seq ofExpr ∷ expr ∷ []
+contents a_name = name ∷ []
+contents an_expr = expr ∷ []
+contents a_stmt = stmt ∷ []
+contents a_definition = seq of_expr ∷ expr ∷ []
 
 -- the fields of Expr's constructors, in datatype order
-abbrev pub exprRows : List (List Kind)
-exprRows =
+abbrev pub expr_rows : List (List Kind)
+expr_rows =
     (bool ∷ [])  -- BLiteral
     ∷ (natural ∷ [])  -- ILiteral
     ∷ (name ∷ name ∷ [])  -- CustomLiteral
     ∷ (name ∷ bool ∷ [])  -- IdExpr
-    ∷ (operator ∷ seq ofExpr ∷ [])  -- OperatorExpr
-    ∷ (name ∷ seq ofExpr ∷ [])  -- FunctionCallExpr
+    ∷ (operator ∷ seq of_expr ∷ [])  -- OperatorExpr
+    ∷ (name ∷ seq of_expr ∷ [])  -- FunctionCallExpr
     ∷ (name ∷ expr ∷ [])  -- LabeledExpr
-    ∷ (name ∷ option aName ∷ expr ∷ expr ∷ [])  -- LetExpr
-    ∷ (bool ∷ seq ofBinding ∷ seq ofPattern ∷ expr ∷ [])  -- QuantifierExpr
-    ∷ (seq ofClosureBinding ∷ name ∷ name ∷ seq ofClosureProperty ∷ [])  -- ClosureExpr
+    ∷ (name ∷ option a_name ∷ expr ∷ expr ∷ [])  -- LetExpr
+    ∷ (bool ∷ seq of_binding ∷ seq of_pattern ∷ expr ∷ [])  -- QuantifierExpr
+    ∷ (seq of_closure_binding ∷ name ∷ name ∷ seq of_closure_property ∷ [])  -- ClosureExpr
     ∷ []
 
 -- the fields of Stmt's constructors, in datatype order; the variable of a VarDecl is its four fields
-abbrev pub stmtRows : List (List Kind)
-stmtRows =
-    (name ∷ bool ∷ option aName ∷ option anExpr ∷ option anExpr ∷ stmt ∷ [])  -- VarDecl
+abbrev pub stmt_rows : List (List Kind)
+stmt_rows =
+    (name ∷ bool ∷ option a_name ∷ option an_expr ∷ option an_expr ∷ stmt ∷ [])  -- VarDecl
     ∷ (name ∷ expr ∷ [])  -- Assign
-    ∷ (seq ofName ∷ [])  -- Reinit
-    ∷ (seq ofStmt ∷ [])  -- Block
-    ∷ (name ∷ seq ofCallArgument ∷ [])  -- Call
+    ∷ (seq of_name ∷ [])  -- Reinit
+    ∷ (seq of_stmt ∷ [])  -- Block
+    ∷ (name ∷ seq of_call_argument ∷ [])  -- Call
     ∷ (expr ∷ [])  -- Check
     ∷ (expr ∷ [])  -- Assume
     ∷ (expr ∷ [])  -- Reach
     ∷ (expr ∷ [])  -- Assert
     ∷ (name ∷ name ∷ stmt ∷ [])  -- AForall
-    ∷ (seq ofStmt ∷ [])  -- Choose
+    ∷ (seq of_stmt ∷ [])  -- Choose
     ∷ (expr ∷ stmt ∷ stmt ∷ [])  -- If
-    ∷ (seq ofCase ∷ [])  -- IfCase
-    ∷ (seq ofAExpr ∷ stmt ∷ [])  -- Loop
+    ∷ (seq of_case ∷ [])  -- IfCase
+    ∷ (seq of_a_expr ∷ stmt ∷ [])  -- Loop
     ∷ (name ∷ stmt ∷ [])  -- LabeledStmt
-    ∷ (option aName ∷ [])  -- Exit
+    ∷ (option a_name ∷ [])  -- Exit
     ∷ []  -- Return
     ∷ (expr ∷ [])  -- Probe
     ∷ []
 
 -- the fields of AExpr's constructors
-abbrev pub aexprRows : List (List Kind)
-aexprRows =
+abbrev pub aexpr_rows : List (List Kind)
+aexpr_rows =
     (expr ∷ [])  -- AExpr
     ∷ (stmt ∷ [])  -- AAssertion
     ∷ []
 
 -- the fields of a program
-abbrev pub programFields : List Kind
-programFields = seq ofName ∷ seq ofTagger ∷ seq ofFunction ∷ seq ofAxiom ∷ seq ofProcedure ∷ []
+abbrev pub program_fields : List Kind
+program_fields = seq of_name ∷ seq of_tagger ∷ seq of_function ∷ seq of_axiom ∷ seq of_procedure ∷ []
 
 -- A kind's constructors begin with the words from `first_word` on, in datatype order, and have the fields of `rows`. A natural and a name,
 -- whose first word may be any, have no rows.
@@ -106,10 +106,10 @@ first_word mode = 1
 first_word natural = 0
 first_word low = 0
 first_word name = 0
-first_word (lengthFrom s) = 0
-first_word expr = bLiteralTag
-first_word stmt = varDeclTag
-first_word aexpr = aExprTag
+first_word (length_from s) = 0
+first_word expr = b_literal_tag
+first_word stmt = var_decl_tag
+first_word aexpr = a_expr_tag
 first_word (option c) = no_more
 first_word (seq i) = no_more
 
@@ -120,10 +120,10 @@ rows mode = replicate 3 []
 rows natural = []
 rows low = []
 rows name = []
-rows (lengthFrom s) = []
-rows expr = exprRows
-rows stmt = stmtRows
-rows aexpr = aexprRows
+rows (length_from s) = []
+rows expr = expr_rows
+rows stmt = stmt_rows
+rows aexpr = aexpr_rows
 rows (option c) = [] ∷ contents c ∷ []
 rows (seq i) = [] ∷ (fields i ++ (seq i ∷ [])) ∷ []
 
@@ -143,8 +143,8 @@ abbrev pub tagged : ℕ → List (List Kind) → ℕ → Turn
 tagged first rs w = cond (leb first w) (row_at rs (w - first)) (misfit 0)
 
 -- the row of a word of that kind
-abbrev pub byRow : Kind → ℕ → Turn
-byRow k w = tagged (first_word k) (rows k) w
+abbrev pub by_row : Kind → ℕ → Turn
+by_row k w = tagged (first_word k) (rows k) w
 
 -- a name's or natural's second word, by its test: one that fails it misfits so many words back
 abbrev pub second : Bool → ℕ → Turn
@@ -153,15 +153,15 @@ second test back = cond test (fits []) (misfit back)
 -- `inside s l` says whether a name with start s and length l lies inside the text; one that does not misfits at its first word. A natural's
 -- low word is below 2 ^ 32, so that its two words are those of one natural.
 abbrev pub turn : (ℕ → ℕ → Bool) → Kind → ℕ → Turn
-turn inside bool w = byRow bool w
-turn inside operator w = byRow operator w
-turn inside mode w = byRow mode w
+turn inside bool w = by_row bool w
+turn inside operator w = by_row operator w
+turn inside mode w = by_row mode w
 turn inside natural w = fits (low ∷ [])
 turn inside low w = second (ltb w (2 ^ 32)) 0
-turn inside name w = fits (lengthFrom w ∷ [])
-turn inside (lengthFrom s) w = second (inside s w) 1
-turn inside expr w = byRow expr w
-turn inside stmt w = byRow stmt w
-turn inside aexpr w = byRow aexpr w
-turn inside (option c) w = byRow (option c) w
-turn inside (seq i) w = byRow (seq i) w
+turn inside name w = fits (length_from w ∷ [])
+turn inside (length_from s) w = second (inside s w) 1
+turn inside expr w = by_row expr w
+turn inside stmt w = by_row stmt w
+turn inside aexpr w = by_row aexpr w
+turn inside (option c) w = by_row (option c) w
+turn inside (seq i) w = by_row (seq i) w

@@ -2,9 +2,9 @@
 use Rattle.std.specs.Prelude.{ℕ}
 
 -- the words of a table
-abbrev pub mostWords : ℕ
-mostWords = 16384
+abbrev pub most_words : ℕ
+most_words = 16384
 
 -- the bytes of a text
-abbrev pub mostText : ℕ
-mostText = 32768
+abbrev pub most_text : ℕ
+most_text = 32768

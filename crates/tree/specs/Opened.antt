@@ -4,7 +4,7 @@ use Rattle.std.proofs.Common.{sym, ap, ◌∙◌, subst}
 use Rattle.std.proofs.Math.Option.{Option, none, some}
 use Rattle.tree.specs.Clash.{impossible}
 use Rattle.tree.specs.Kind.{Kind}
-use Rattle.tree.specs.Trees.{Names, Tree, Trees, words, allWords, apply, Form}
+use Rattle.tree.specs.Trees.{Names, Tree, Trees, words, all_words, apply, Form}
 use Rattle.tree.specs.Forms.{form}
 use Rattle.tree.specs.FormLaws.{Spells, spells, MadeBy, made}
 
@@ -12,15 +12,15 @@ module _ (I : Names) where
   -- the words after the first are those of the fields' trees, of which the tree is made
   abbrev pub Opened : {R : Type 0} → Option (Form I R) → R → List ℕ → List ℕ → Type 0
   Opened none t rest ws = ⊥
-  Opened (some f) t rest ws = (ts : Trees I f.fields) × (apply I f.fields f.make ts ≡ t) × (allWords I f.fields ts rest ≡ ws)
+  Opened (some f) t rest ws = (ts : Trees I f.fields) × (apply I f.fields f.make ts ≡ t) × (all_words I f.fields ts rest ≡ ws)
 
   -- the first word is that of the form which made the tree
   open-form : (k : Kind) (t : Tree I k) (rest : List ℕ) (v w : ℕ) (ws : List ℕ) (o : Option (Form I (Tree I k)))
       → Spells I k v o → MadeBy I o t → words I k t rest ≡ w ∷ ws → (v ≡ w) × Opened o t rest ws
   open-form k t rest v w ws none s m e = absurd m
   open-form k t rest v w ws (some f) s m e =
-      let a : words I k (apply I f.fields f.make m.0) rest ≡ v ∷ allWords I f.fields m.0 rest = s m.0 rest in
-      let b : v ∷ allWords I f.fields m.0 rest ≡ w ∷ ws = sym a ∙ ap (λ (u : Tree I k). words I k u rest) m.1 ∙ e in
+      let a : words I k (apply I f.fields f.make m.0) rest ≡ v ∷ all_words I f.fields m.0 rest = s m.0 rest in
+      let b : v ∷ all_words I f.fields m.0 rest ≡ w ∷ ws = sym a ∙ ap (λ (u : Tree I k). words I k u rest) m.1 ∙ e in
       (cc, (m.0, m.1, cc))
 
   -- the first word has a form, and the tree is made of it
@@ -39,8 +39,8 @@ module _ (I : Names) where
       by_form : (v : ℕ) (o : Option (Form I (Tree I k))) → Spells I k v o → MadeBy I o t → ⊥
       by_form v none s m = m
       by_form v (some f) s m =
-          let a : words I k (apply I f.fields f.make m.0) rest ≡ v ∷ allWords I f.fields m.0 rest = s m.0 rest in
-          let b : [] ≡ v ∷ allWords I f.fields m.0 rest = sym e ∙ ap (λ (u : Tree I k). words I k u rest) (sym m.1) ∙ a in
+          let a : words I k (apply I f.fields f.make m.0) rest ≡ v ∷ all_words I f.fields m.0 rest = s m.0 rest in
+          let b : [] ≡ v ∷ all_words I f.fields m.0 rest = sym e ∙ ap (λ (u : Tree I k). words I k u rest) (sym m.1) ∙ a in
           impossible cc
 
   -- ---- trees of two lists of kinds as trees of one
@@ -60,13 +60,13 @@ module _ (I : Names) where
 
   -- the words of both are those of one after the other
   pub join-words : (fs ks : List Kind) (ts : Trees I fs) (us : Trees I ks) (rest : List ℕ)
-      → allWords I (fs ++ ks) (join fs ks ts us) rest ≡ allWords I fs ts (allWords I ks us rest)
+      → all_words I (fs ++ ks) (join fs ks ts us) rest ≡ all_words I fs ts (all_words I ks us rest)
   join-words [] ks ts us rest = refl
   join-words (f ∷ fs) ks ts us rest = ap (words I f ts.0) (join-words fs ks ts.1 us rest)
 
   -- and of the parts likewise
   pub split-words : (fs ks : List Kind) (ts : Trees I (fs ++ ks)) (rest : List ℕ)
-      → allWords I (fs ++ ks) ts rest ≡ allWords I fs (front fs ks ts) (allWords I ks (back fs ks ts) rest)
+      → all_words I (fs ++ ks) ts rest ≡ all_words I fs (front fs ks ts) (all_words I ks (back fs ks ts) rest)
   split-words [] ks ts rest = refl
   split-words (f ∷ fs) ks ts rest = ap (words I f ts.0) (split-words fs ks ts.1 rest)
 

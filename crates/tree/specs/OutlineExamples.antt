@@ -1,21 +1,21 @@
 -- Closed examples, by computation: the kinds and the ends of a table.
 use Rattle.std.specs.Prelude.{ℕ, ◌≡◌, refl, List, [], ◌∷◌, replicate}
-use Rattle.tree.specs.Kind.{expr, seq, ofProcedure, programFields}
-use Rattle.tree.specs.Check.{within, run, checkProgram, programRefusal}
-use Rattle.tree.specs.Outline.{extent, kindNumbers, endPlaces, programKinds, programEnds}
+use Rattle.tree.specs.Kind.{expr, seq, of_procedure, program_fields}
+use Rattle.tree.specs.Check.{within, run, check_program, program_refusal}
+use Rattle.tree.specs.Outline.{extent, kind_numbers, end_places, program_kinds, program_ends}
 
 -- P11, `a + 1`: the operator's tree ends after all twelve words, the name after its two
-p11-kinds : kindNumbers (within 5) (expr ∷ []) (5 ∷ 10 ∷ 1 ∷ 4 ∷ 0 ∷ 1 ∷ 0 ∷ 1 ∷ 2 ∷ 0 ∷ 1 ∷ 0 ∷ []) ≡ 4 ∷ 2 ∷ 12 ∷ 4 ∷ 27 ∷ 0 ∷ 1 ∷ 12 ∷ 4 ∷ 28 ∷ 0 ∷ 12 ∷ []
-unfolding kindNumbers
+p11-kinds : kind_numbers (within 5) (expr ∷ []) (5 ∷ 10 ∷ 1 ∷ 4 ∷ 0 ∷ 1 ∷ 0 ∷ 1 ∷ 2 ∷ 0 ∷ 1 ∷ 0 ∷ []) ≡ 4 ∷ 2 ∷ 12 ∷ 4 ∷ 27 ∷ 0 ∷ 1 ∷ 12 ∷ 4 ∷ 28 ∷ 0 ∷ 12 ∷ []
+unfolding kind_numbers
 p11-kinds = refl
 
-p11-ends : endPlaces (within 5) (expr ∷ []) 0 (5 ∷ 10 ∷ 1 ∷ 4 ∷ 0 ∷ 1 ∷ 0 ∷ 1 ∷ 2 ∷ 0 ∷ 1 ∷ 0 ∷ []) ≡ 12 ∷ 2 ∷ 12 ∷ 7 ∷ 6 ∷ 6 ∷ 7 ∷ 12 ∷ 11 ∷ 11 ∷ 11 ∷ 12 ∷ []
-unfolding endPlaces extent
+p11-ends : end_places (within 5) (expr ∷ []) 0 (5 ∷ 10 ∷ 1 ∷ 4 ∷ 0 ∷ 1 ∷ 0 ∷ 1 ∷ 2 ∷ 0 ∷ 1 ∷ 0 ∷ []) ≡ 12 ∷ 2 ∷ 12 ∷ 7 ∷ 6 ∷ 6 ∷ 7 ∷ 12 ∷ 11 ∷ 11 ∷ 11 ∷ 12 ∷ []
+unfolding end_places extent
 p11-ends = refl
 
 -- a program whose table has every kind of word
-abbrev everyKind : List ℕ
-everyKind =
+abbrev every_kind : List ℕ
+every_kind =
     1 ∷ 0 ∷ 1 ∷ 0  -- the type A
     ∷ 1 ∷ 1 ∷ 1 ∷ 0 ∷ 1 ∷ 0  -- a tagger
     ∷ 1 ∷ 2 ∷ 1 ∷ 1 ∷ 3 ∷ 1 ∷ 1 ∷ 0 ∷ 1 ∷ 0 ∷ 0 ∷ 1 ∷ 1 ∷ 1 ∷ 1 ∷ 1 ∷ 1 ∷ 1 ∷ 1 ∷ 0 ∷ 2 ∷ 0 ∷ 7 ∷ 0  -- a function with an injective parameter, a tag, a `when` clause and a body
@@ -24,8 +24,8 @@ everyKind =
     ∷ []
 
 -- the numbers of its words' kinds
-abbrev everyKindNumbers : List ℕ
-everyKindNumbers =
+abbrev every_kind_numbers : List ℕ
+every_kind_numbers =
     11 ∷ 27 ∷ 0 ∷ 11  -- the type A
     ∷ 21 ∷ 27 ∷ 0 ∷ 27 ∷ 0 ∷ 21  -- a tagger
     ∷ 23 ∷ 27 ∷ 0 ∷ 22 ∷ 27 ∷ 0 ∷ 1 ∷ 27 ∷ 0 ∷ 22 ∷ 27 ∷ 0 ∷ 7 ∷ 27 ∷ 0 ∷ 10 ∷ 12 ∷ 4 ∷ 1 ∷ 12 ∷ 4 ∷ 28 ∷ 0 ∷ 23  -- a function with an injective parameter, a tag, a `when` clause and a body
@@ -33,43 +33,43 @@ everyKindNumbers =
     ∷ 26 ∷ 27 ∷ 0 ∷ 25 ∷ 27 ∷ 0 ∷ 3 ∷ 27 ∷ 0 ∷ 8 ∷ 4 ∷ 1 ∷ 25 ∷ 20 ∷ 6 ∷ 4 ∷ 2 ∷ 12 ∷ 4 ∷ 27 ∷ 0 ∷ 1 ∷ 12 ∷ 4 ∷ 28 ∷ 0 ∷ 12 ∷ 20 ∷ 6 ∷ 5 ∷ 20 ∷ 20 ∷ 9 ∷ 5 ∷ 17 ∷ 5 ∷ 19 ∷ 4 ∷ 1 ∷ 5 ∷ 19 ∷ 17 ∷ 5 ∷ 27 ∷ 0 ∷ 18 ∷ 3 ∷ 4 ∷ 27 ∷ 0 ∷ 1 ∷ 18 ∷ 17 ∷ 5 ∷ 7 ∷ 27 ∷ 0 ∷ 17 ∷ 26  -- a procedure with a parameter that has an invariant, what it requires, and a body
     ∷ []
 
-every-kind : kindNumbers (within 10) programFields everyKind ≡ everyKindNumbers
-unfolding kindNumbers
+every-kind : kind_numbers (within 10) program_fields every_kind ≡ every_kind_numbers
+unfolding kind_numbers
 every-kind = refl
 
 -- a procedure with what it requires, whose body is a block of an IfCase and an Exit; each mark of a sequence ends with the sequence
-procedure-ends : endPlaces (within 10) (seq ofProcedure ∷ []) 0
+procedure-ends : end_places (within 10) (seq of_procedure ∷ []) 0
     (1 ∷ 7 ∷ 1 ∷ 0 ∷ 1 ∷ 1 ∷ 1 ∷ 1 ∷ 0 ∷ 0 ∷ 1 ∷ 24 ∷ 1 ∷ 33 ∷ 1 ∷ 1 ∷ 1 ∷ 37 ∷ 0 ∷ 1 ∷ 36 ∷ 1 ∷ 8 ∷ 1 ∷ 0 ∷ 0 ∷ [])
     ≡ 26 ∷ 3 ∷ 3 ∷ 4 ∷ 9 ∷ 8 ∷ 8 ∷ 8 ∷ 9 ∷ 10 ∷ 25 ∷ 25 ∷ 25 ∷ 19 ∷ 19 ∷ 17 ∷ 17 ∷ 18 ∷ 19 ∷ 25 ∷ 24 ∷ 24 ∷ 24 ∷ 24 ∷ 25 ∷ 26 ∷ []
-unfolding endPlaces extent
+unfolding end_places extent
 procedure-ends = refl
 
 -- a shorter slice is filled as far as it goes, a longer one keeps what lies past the words
-short-kinds : programKinds (1 ∷ 0 ∷ 1 ∷ 0 ∷ 0 ∷ 0 ∷ 0 ∷ 0 ∷ []) 1 (99 ∷ 99 ∷ []) ≡ 11 ∷ 27 ∷ []
-unfolding programKinds programRefusal checkProgram run kindNumbers
+short-kinds : program_kinds (1 ∷ 0 ∷ 1 ∷ 0 ∷ 0 ∷ 0 ∷ 0 ∷ 0 ∷ []) 1 (99 ∷ 99 ∷ []) ≡ 11 ∷ 27 ∷ []
+unfolding program_kinds program_refusal check_program run kind_numbers
 short-kinds = refl
 
-long-kinds : programKinds (1 ∷ 0 ∷ 1 ∷ 0 ∷ 0 ∷ 0 ∷ 0 ∷ 0 ∷ []) 1 (replicate 10 99) ≡ 11 ∷ 27 ∷ 0 ∷ 11 ∷ 21 ∷ 23 ∷ 24 ∷ 26 ∷ 99 ∷ 99 ∷ []
-unfolding programKinds programRefusal checkProgram run kindNumbers
+long-kinds : program_kinds (1 ∷ 0 ∷ 1 ∷ 0 ∷ 0 ∷ 0 ∷ 0 ∷ 0 ∷ []) 1 (replicate 10 99) ≡ 11 ∷ 27 ∷ 0 ∷ 11 ∷ 21 ∷ 23 ∷ 24 ∷ 26 ∷ 99 ∷ 99 ∷ []
+unfolding program_kinds program_refusal check_program run kind_numbers
 long-kinds = refl
 
-short-ends : programEnds (1 ∷ 0 ∷ 1 ∷ 0 ∷ 0 ∷ 0 ∷ 0 ∷ 0 ∷ []) 1 (99 ∷ 99 ∷ []) ≡ 4 ∷ 3 ∷ []
-unfolding programEnds programRefusal checkProgram run endPlaces extent
+short-ends : program_ends (1 ∷ 0 ∷ 1 ∷ 0 ∷ 0 ∷ 0 ∷ 0 ∷ 0 ∷ []) 1 (99 ∷ 99 ∷ []) ≡ 4 ∷ 3 ∷ []
+unfolding program_ends program_refusal check_program run end_places extent
 short-ends = refl
 
-long-ends : programEnds (1 ∷ 0 ∷ 1 ∷ 0 ∷ 0 ∷ 0 ∷ 0 ∷ 0 ∷ []) 1 (replicate 10 99) ≡ 4 ∷ 3 ∷ 3 ∷ 4 ∷ 5 ∷ 6 ∷ 7 ∷ 8 ∷ 99 ∷ 99 ∷ []
-unfolding programEnds programRefusal checkProgram run endPlaces extent
+long-ends : program_ends (1 ∷ 0 ∷ 1 ∷ 0 ∷ 0 ∷ 0 ∷ 0 ∷ 0 ∷ []) 1 (replicate 10 99) ≡ 4 ∷ 3 ∷ 3 ∷ 4 ∷ 5 ∷ 6 ∷ 7 ∷ 8 ∷ 99 ∷ 99 ∷ []
+unfolding program_ends program_refusal check_program run end_places extent
 long-ends = refl
 
 -- of a refused table nothing changes: a word too many, a word too few, a name past the text
-surplus : programKinds (0 ∷ 0 ∷ 0 ∷ 0 ∷ 0 ∷ 0 ∷ []) 1 (replicate 6 99) ≡ replicate 6 99
-unfolding programKinds programRefusal checkProgram run kindNumbers
+surplus : program_kinds (0 ∷ 0 ∷ 0 ∷ 0 ∷ 0 ∷ 0 ∷ []) 1 (replicate 6 99) ≡ replicate 6 99
+unfolding program_kinds program_refusal check_program run kind_numbers
 surplus = refl
 
-missing : programEnds (0 ∷ 0 ∷ 0 ∷ 0 ∷ []) 1 (replicate 4 99) ≡ replicate 4 99
-unfolding programEnds programRefusal checkProgram run endPlaces extent
+missing : program_ends (0 ∷ 0 ∷ 0 ∷ 0 ∷ []) 1 (replicate 4 99) ≡ replicate 4 99
+unfolding program_ends program_refusal check_program run end_places extent
 missing = refl
 
-outside : programKinds (1 ∷ 0 ∷ 2 ∷ 0 ∷ 0 ∷ 0 ∷ 0 ∷ 0 ∷ []) 1 (replicate 8 99) ≡ replicate 8 99
-unfolding programKinds programRefusal checkProgram run kindNumbers
+outside : program_kinds (1 ∷ 0 ∷ 2 ∷ 0 ∷ 0 ∷ 0 ∷ 0 ∷ 0 ∷ []) 1 (replicate 8 99) ≡ replicate 8 99
+unfolding program_kinds program_refusal check_program run kind_numbers
 outside = refl

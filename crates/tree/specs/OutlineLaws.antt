@@ -9,10 +9,10 @@ use mathlib.Core.List.{List, [], ◌∷◌, ◌++◌, append-nil, append_assoc}
 use Rattle.std.proofs.Math.ListN.{length, drop}
 use Rattle.tree.specs.Clash.{impossible}
 use Rattle.tree.specs.Kind.{Kind, Turn, fits, misfit, turn}
-use Rattle.tree.specs.KindNumbers.{kindNumber}
+use Rattle.tree.specs.KindNumbers.{kind_number}
 use Rattle.tree.specs.Check.{run}
 use Rattle.tree.specs.Walk.{head_at}
-use Rattle.tree.specs.Outline.{extent, kindNumbers, endPlaces, filled}
+use Rattle.tree.specs.Outline.{extent, kind_numbers, end_places, filled}
 use Rattle.tree.specs.declared.Checked.TheVariants.{Tree, Misfit}
 
 module _ (inside : ℕ → ℕ → Bool) where
@@ -23,17 +23,17 @@ module _ (inside : ℕ → ℕ → Bool) where
     pub short : count ≤ length ws
     pub goes : run inside ls next (drop count ws) ≡ Tree
     pub both : (ms : List Kind) → total ms ≡ count + extent inside ms (drop count ws)
-    pub kinds-on : drop count kinds ≡ kindNumbers inside ls (drop count ws)
-    pub ends_on : drop count ends ≡ endPlaces inside ls next (drop count ws)
+    pub kinds-on : drop count kinds ≡ kind_numbers inside ls (drop count ws)
+    pub ends_on : drop count ends ≡ end_places inside ls next (drop count ws)
 
   -- so it is behind what stands for the first kinds of a list
   abbrev pub BehindKinds : List Kind → List Kind → ℕ → List ℕ → Type 0
-  BehindKinds ks ls at ws = Behind ls at ws (extent inside ks ws) (λ ms. extent inside (ks ++ ms) ws) (kindNumbers inside (ks ++ ls) ws) (endPlaces inside (ks ++ ls) at ws)
+  BehindKinds ks ls at ws = Behind ls at ws (extent inside ks ws) (λ ms. extent inside (ks ++ ms) ws) (kind_numbers inside (ks ++ ls) ws) (end_places inside (ks ++ ls) at ws)
 
   -- as many as there are words
   pub lengths : (ks : List Kind) (at : ℕ) (ws : List ℕ) → run inside ks at ws ≡ Tree
-      → (length (kindNumbers inside ks ws) ≡ length ws) × (length (endPlaces inside ks at ws) ≡ length ws)
-  unfolding run kindNumbers endPlaces
+      → (length (kind_numbers inside ks ws) ≡ length ws) × (length (end_places inside ks at ws) ≡ length ws)
+  unfolding run kind_numbers end_places
   lengths [] at [] e = (refl, refl)
   lengths [] at (w ∷ ws) e = impossible cc
   lengths (k ∷ ks) at [] e = impossible cc
@@ -41,24 +41,24 @@ module _ (inside : ℕ → ℕ → Bool) where
     where
       by_turn : (u : Turn) → elim u [ fits fs ↦ run inside (fs ++ ks) (suc at) ws | misfit back ↦ Misfit (at - back) ] ≡ Tree
           → ((fs : List Kind) → run inside (fs ++ ks) (suc at) ws ≡ Tree
-          → (length (kindNumbers inside (fs ++ ks) ws) ≡ length ws) × (length (endPlaces inside (fs ++ ks) (suc at) ws) ≡ length ws))
-          → (suc (length {A = ℕ} (elim u [ fits fs ↦ kindNumbers inside (fs ++ ks) ws | misfit back ↦ [] ])) ≡ suc (length ws))
-          × (suc (length {A = ℕ} (elim u [ fits fs ↦ endPlaces inside (fs ++ ks) (suc at) ws | misfit back ↦ [] ])) ≡ suc (length ws))
+          → (length (kind_numbers inside (fs ++ ks) ws) ≡ length ws) × (length (end_places inside (fs ++ ks) (suc at) ws) ≡ length ws))
+          → (suc (length {A = ℕ} (elim u [ fits fs ↦ kind_numbers inside (fs ++ ks) ws | misfit back ↦ [] ])) ≡ suc (length ws))
+          × (suc (length {A = ℕ} (elim u [ fits fs ↦ end_places inside (fs ++ ks) (suc at) ws | misfit back ↦ [] ])) ≡ suc (length ws))
       by_turn (misfit back) e ih = impossible cc
       by_turn (fits fs) e ih = let h = ih fs e in (ap suc h.0, ap suc h.1)
 
   -- and never more
-  pub bounded : (ks : List Kind) (at : ℕ) (ws : List ℕ) → (length (kindNumbers inside ks ws) ≤ length ws) × (length (endPlaces inside ks at ws) ≤ length ws)
-  unfolding kindNumbers endPlaces
+  pub bounded : (ks : List Kind) (at : ℕ) (ws : List ℕ) → (length (kind_numbers inside ks ws) ≤ length ws) × (length (end_places inside ks at ws) ≤ length ws)
+  unfolding kind_numbers end_places
   bounded [] at [] = (omega arith, omega arith)
   bounded [] at (w ∷ ws) = (omega arith, omega arith)
   bounded (k ∷ ks) at [] = (omega arith, omega arith)
   bounded (k ∷ ks) at (w ∷ ws) = by_turn (turn inside k w) (λ fs. bounded (fs ++ ks) (suc at) ws)
     where
       by_turn : (u : Turn)
-          → ((fs : List Kind) → (length (kindNumbers inside (fs ++ ks) ws) ≤ length ws) × (length (endPlaces inside (fs ++ ks) (suc at) ws) ≤ length ws))
-          → (suc (length {A = ℕ} (elim u [ fits fs ↦ kindNumbers inside (fs ++ ks) ws | misfit back ↦ [] ])) ≤ suc (length ws))
-          × (suc (length {A = ℕ} (elim u [ fits fs ↦ endPlaces inside (fs ++ ks) (suc at) ws | misfit back ↦ [] ])) ≤ suc (length ws))
+          → ((fs : List Kind) → (length (kind_numbers inside (fs ++ ks) ws) ≤ length ws) × (length (end_places inside (fs ++ ks) (suc at) ws) ≤ length ws))
+          → (suc (length {A = ℕ} (elim u [ fits fs ↦ kind_numbers inside (fs ++ ks) ws | misfit back ↦ [] ])) ≤ suc (length ws))
+          × (suc (length {A = ℕ} (elim u [ fits fs ↦ end_places inside (fs ++ ks) (suc at) ws | misfit back ↦ [] ])) ≤ suc (length ws))
       by_turn (misfit back) ih = (omega arith, omega arith)
       by_turn (fits fs) ih = let h = ih fs in let m = h.0 in let n = h.1 in (omega arith, omega arith)
 
@@ -69,7 +69,7 @@ module _ (inside : ℕ → ℕ → Bool) where
   extent-none (w ∷ ws) = refl
 
   pub behind : (ks ls : List Kind) (at : ℕ) (ws : List ℕ) → run inside (ks ++ ls) at ws ≡ Tree → BehindKinds ks ls at ws
-  unfolding run extent kindNumbers endPlaces
+  unfolding run extent kind_numbers end_places
   behind [] ls at [] e = record { next = at; place = omega arith; short = omega arith; goes = e; both = λ ms. omega arith; kinds-on = refl; ends_on = refl }
   behind [] ls at (w ∷ ws) e = record { next = at; place = omega arith; short = omega arith; goes = e; both = λ ms. omega arith; kinds-on = refl; ends_on = refl }
   behind (k ∷ ks) ls at [] e = impossible cc
@@ -80,8 +80,8 @@ module _ (inside : ℕ → ℕ → Bool) where
           → ((fs : List Kind) → run inside ((fs ++ ks) ++ ls) (suc at) ws ≡ Tree → BehindKinds (fs ++ ks) ls (suc at) ws)
           → Behind ls at (w ∷ ws) (elim u [ fits fs ↦ suc (extent inside (fs ++ ks) ws) | misfit back ↦ 0 ])
           (λ ms. elim u [ fits fs ↦ suc (extent inside (fs ++ (ks ++ ms)) ws) | misfit back ↦ 0 ])
-          (kindNumber k ∷ elim u [ fits fs ↦ kindNumbers inside (fs ++ (ks ++ ls)) ws | misfit back ↦ [] ])
-          (end ∷ elim u [ fits fs ↦ endPlaces inside (fs ++ (ks ++ ls)) (suc at) ws | misfit back ↦ [] ])
+          (kind_number k ∷ elim u [ fits fs ↦ kind_numbers inside (fs ++ (ks ++ ls)) ws | misfit back ↦ [] ])
+          (end ∷ elim u [ fits fs ↦ end_places inside (fs ++ (ks ++ ls)) (suc at) ws | misfit back ↦ [] ])
       by_turn (misfit back) end e ih = impossible cc
       by_turn (fits fs) end e ih =
           let l : (fs ++ ks) ++ ls ≡ fs ++ (ks ++ ls) = append_assoc fs ks ls in
@@ -92,8 +92,8 @@ module _ (inside : ℕ → ℕ → Bool) where
             short = omega (arith, b.short);
             goes = b.goes;
             both = λ ms. let t = ap (λ (x : List Kind). extent inside x ws) (append_assoc fs ks ms) in omega (arith, b.both ms);
-            kinds-on = sym (ap (λ (x : List Kind). drop (extent inside (fs ++ ks) ws) (kindNumbers inside x ws)) l) ∙ b.kinds-on;
-            ends_on = sym (ap (λ (x : List Kind). drop (extent inside (fs ++ ks) ws) (endPlaces inside x (suc at) ws)) l) ∙ b.ends_on;
+            kinds-on = sym (ap (λ (x : List Kind). drop (extent inside (fs ++ ks) ws) (kind_numbers inside x ws)) l) ∙ b.kinds-on;
+            ends_on = sym (ap (λ (x : List Kind). drop (extent inside (fs ++ ks) ws) (end_places inside x (suc at) ws)) l) ∙ b.ends_on;
           }
 
 module _ (inside : ℕ → ℕ → Bool) (ks₀ : List Kind) (table : List ℕ) where
@@ -101,8 +101,8 @@ module _ (inside : ℕ → ℕ → Bool) (ks₀ : List Kind) (table : List ℕ) 
   pub record Expects (at : ℕ) (ks : List Kind) : Type 0 where
     pub within-table : at ≤ length table
     pub goes : run inside ks at (drop at table) ≡ Tree
-    pub kinds-at : drop at (kindNumbers inside ks₀ table) ≡ kindNumbers inside ks (drop at table)
-    pub ends_at : drop at (endPlaces inside ks₀ 0 table) ≡ endPlaces inside ks at (drop at table)
+    pub kinds-at : drop at (kind_numbers inside ks₀ table) ≡ kind_numbers inside ks (drop at table)
+    pub ends_at : drop at (end_places inside ks₀ 0 table) ≡ end_places inside ks at (drop at table)
 
   -- at the start
   pub expects-start : run inside ks₀ 0 table ≡ Tree → Expects 0 ks₀
@@ -117,8 +117,8 @@ module _ (inside : ℕ → ℕ → Bool) (ks₀ : List Kind) (table : List ℕ) 
       record {
         within-table = omega (arith, b.short, length-drop at table, x.within-table);
         goes = (λ i. run inside ls (sym b.place i) (d table i)) ∙ b.goes;
-        kinds-at = d (kindNumbers inside ks₀ table) ∙ ap (drop n) x.kinds-at ∙ b.kinds-on ∙ ap (kindNumbers inside ls) (sym (d table));
-        ends_at = d (endPlaces inside ks₀ 0 table) ∙ ap (drop n) x.ends_at ∙ b.ends_on ∙ (λ i. endPlaces inside ls (b.place i) (sym (d table) i));
+        kinds-at = d (kind_numbers inside ks₀ table) ∙ ap (drop n) x.kinds-at ∙ b.kinds-on ∙ ap (kind_numbers inside ls) (sym (d table));
+        ends_at = d (end_places inside ks₀ 0 table) ∙ ap (drop n) x.ends_at ∙ b.ends_on ∙ (λ i. end_places inside ls (b.place i) (sym (d table) i));
       }
 
   -- the word at a place where a kind is expected: it has fields, which are expected behind it; its number is the kind's, and its end that of what
@@ -128,24 +128,24 @@ module _ (inside : ℕ → ℕ → Bool) (ks₀ : List Kind) (table : List ℕ) 
     pub fields : List Kind
     pub turns : turn inside k (get_or table at 0) ≡ fits fields
     pub expects : Expects (suc at) (fields ++ ks)
-    pub kind-is : get_or (kindNumbers inside ks₀ table) at 0 ≡ kindNumber k
-    pub end_is : get_or (endPlaces inside ks₀ 0 table) at 0 ≡ at + extent inside (k ∷ []) (drop at table)
+    pub kind-is : get_or (kind_numbers inside ks₀ table) at 0 ≡ kind_number k
+    pub end_is : get_or (end_places inside ks₀ 0 table) at 0 ≡ at + extent inside (k ∷ []) (drop at table)
     pub counts : extent inside (k ∷ []) (drop at table) ≡ suc (extent inside fields (drop (suc at) table))
 
   pub word_at : (at : ℕ) (k : Kind) (ks : List Kind) → Expects at (k ∷ ks) → Word at k ks
-  unfolding run extent kindNumbers endPlaces
+  unfolding run extent kind_numbers end_places
   word_at at k ks x = by-words (drop at table) refl x.goes x.kinds-at x.ends_at
     where
       by_turn : (w : ℕ) (ws : List ℕ) → drop at table ≡ w ∷ ws → (u : Turn) → turn inside k w ≡ u
           → elim u [ fits fs ↦ run inside (fs ++ ks) (suc at) ws | misfit back ↦ Misfit (at - back) ] ≡ Tree
-          → drop at (kindNumbers inside ks₀ table) ≡ kindNumber k ∷ elim u [ fits fs ↦ kindNumbers inside (fs ++ ks) ws | misfit back ↦ [] ]
-          → drop at (endPlaces inside ks₀ 0 table) ≡ (at + extent inside (k ∷ []) (w ∷ ws)) ∷ elim u [ fits fs ↦ endPlaces inside (fs ++ ks) (suc at) ws | misfit back ↦ [] ]
+          → drop at (kind_numbers inside ks₀ table) ≡ kind_number k ∷ elim u [ fits fs ↦ kind_numbers inside (fs ++ ks) ws | misfit back ↦ [] ]
+          → drop at (end_places inside ks₀ 0 table) ≡ (at + extent inside (k ∷ []) (w ∷ ws)) ∷ elim u [ fits fs ↦ end_places inside (fs ++ ks) (suc at) ws | misfit back ↦ [] ]
           → extent inside (k ∷ []) (w ∷ ws) ≡ elim u [ fits fs ↦ suc (extent inside (fs ++ []) ws) | misfit back ↦ 0 ] → Word at k ks
       by_turn w ws e (misfit back) t g a b c = impossible cc
       by_turn w ws e (fits fs) t g a b c =
           let h = head_at table at w ws e in
-          let p = head_at (kindNumbers inside ks₀ table) at _ _ a in
-          let q = head_at (endPlaces inside ks₀ 0 table) at _ _ b in
+          let p = head_at (kind_numbers inside ks₀ table) at _ _ a in
+          let q = head_at (end_places inside ks₀ 0 table) at _ _ b in
           let n : at + 1 ≡ suc at = omega arith in
           let r : drop (suc at) table ≡ ws = ap (λ (m : ℕ). drop m table) (sym n) ∙ h.2 in
           record {
@@ -156,8 +156,8 @@ module _ (inside : ℕ → ℕ → Bool) (ks₀ : List Kind) (table : List ℕ) 
                 record {
                   within-table = h.0;
                   goes = ap (run inside (fs ++ ks) (suc at)) r ∙ g;
-                  kinds-at = ap (λ (m : ℕ). drop m (kindNumbers inside ks₀ table)) (sym n) ∙ p.2 ∙ ap (kindNumbers inside (fs ++ ks)) (sym r);
-                  ends_at = ap (λ (m : ℕ). drop m (endPlaces inside ks₀ 0 table)) (sym n) ∙ q.2 ∙ ap (endPlaces inside (fs ++ ks) (suc at)) (sym r);
+                  kinds-at = ap (λ (m : ℕ). drop m (kind_numbers inside ks₀ table)) (sym n) ∙ p.2 ∙ ap (kind_numbers inside (fs ++ ks)) (sym r);
+                  ends_at = ap (λ (m : ℕ). drop m (end_places inside ks₀ 0 table)) (sym n) ∙ q.2 ∙ ap (end_places inside (fs ++ ks) (suc at)) (sym r);
                 };
             kind-is = p.1;
             end_is = q.1 ∙ ap (λ (l : List ℕ). at + extent inside (k ∷ []) l) (sym e);
@@ -166,8 +166,8 @@ module _ (inside : ℕ → ℕ → Bool) (ks₀ : List Kind) (table : List ℕ) 
                 ∙ ap (λ (l : List ℕ). suc (extent inside fs l)) (sym r);
           }
 
-      by-words : (ws : List ℕ) → drop at table ≡ ws → run inside (k ∷ ks) at ws ≡ Tree → drop at (kindNumbers inside ks₀ table) ≡ kindNumbers inside (k ∷ ks) ws
-          → drop at (endPlaces inside ks₀ 0 table) ≡ endPlaces inside (k ∷ ks) at ws → Word at k ks
+      by-words : (ws : List ℕ) → drop at table ≡ ws → run inside (k ∷ ks) at ws ≡ Tree → drop at (kind_numbers inside ks₀ table) ≡ kind_numbers inside (k ∷ ks) ws
+          → drop at (end_places inside ks₀ 0 table) ≡ end_places inside (k ∷ ks) at ws → Word at k ks
       by-words [] e g a b = impossible cc
       by-words (w ∷ ws) e g a b = by_turn w ws e (turn inside k w) refl g a b refl
 

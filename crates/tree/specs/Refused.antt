@@ -6,10 +6,10 @@ use Rattle.std.proofs.Math.Option.{Option, none, some}
 use Rattle.std.proofs.lemmas.Bool.{lt-leb}
 use Rattle.tree.specs.Clash.{impossible}
 use Rattle.tree.specs.Ast.{Expr, Program}
-use Rattle.tree.specs.Words.{exprWords, programWords}
-use Rattle.tree.specs.Limits.{mostWords}
-use Rattle.tree.specs.Kind.{Kind, expr, programFields, fits, misfit, turn, Turn}
-use Rattle.tree.specs.Check.{NameIn, run, within, check, checkExpression, checkProgram, Refusal, refusal, expressionRefusal, programRefusal}
+use Rattle.tree.specs.Words.{expr_words, program_words}
+use Rattle.tree.specs.Limits.{most_words}
+use Rattle.tree.specs.Kind.{Kind, expr, program_fields, fits, misfit, turn, Turn}
+use Rattle.tree.specs.Check.{NameIn, run, within, check, check_expression, check_program, Refusal, refusal, expression_refusal, program_refusal}
 use Rattle.tree.specs.Tables as tables
 use Rattle.tree.specs.declared.Checked.{Checked}
 use Rattle.tree.specs.declared.Checked.TheVariants.{Tree, Misfit, TooLong}
@@ -59,53 +59,53 @@ run-counts-none inside (k ∷ ks) at (w ∷ ws) e = by_turn (turn inside k w) e 
     by_turn (misfit back) e f = impossible cc
 
 -- more words than the limit, and no other table, have refusal 6
-pub refusal-6 : (ks : List Kind) (words : List ℕ) (len : ℕ) → (refusal (check ks words len) ≡ some (record { number = 6; place = 0 })) ↔ (mostWords < length words)
+pub refusal-6 : (ks : List Kind) (words : List ℕ) (len : ℕ) → (refusal (check ks words len) ≡ some (record { number = 6; place = 0 })) ↔ (most_words < length words)
 unfolding number_of
-refusal-6 ks words len = (λ e. leb-false _ _ (few (leb (length words) mostWords) refl e), λ h. ap (λ b. refusal (cond b (run (within len) ks 0 words) TooLong)) (lt-leb _ _ h))
+refusal-6 ks words len = (λ e. leb-false _ _ (few (leb (length words) most_words) refl e), λ h. ap (λ b. refusal (cond b (run (within len) ks 0 words) TooLong)) (lt-leb _ _ h))
   where
     six : (c : Checked) → refusal c ≡ some (record { number = 6; place = 0 }) → c ≡ TooLong
     six Tree e = cc
     six (Misfit at) e = let h : ◌≡◌ {A = ℕ} 7 6 = ap number_of e in absurd (omega arith)
     six TooLong e = refl
 
-    few : (b : Bool) → leb (length words) mostWords ≡ b → refusal (cond b (run (within len) ks 0 words) TooLong) ≡ some (record { number = 6; place = 0 })
-        → leb (length words) mostWords ≡ false
+    few : (b : Bool) → leb (length words) most_words ≡ b → refusal (cond b (run (within len) ks 0 words) TooLong) ≡ some (record { number = 6; place = 0 })
+        → leb (length words) most_words ≡ false
     few true p e = absurd (run-counts-none (within len) ks 0 words (six _ e))
     few false p e = p
 
 -- an answer with the refusal of a table is the check's
-pub expression-answer : (words : List ℕ) (len : ℕ) {c : Checked} → refusal c ≡ expressionRefusal words len → c ≡ checkExpression words len
-unfolding expressionRefusal
+pub expression-answer : (words : List ℕ) (len : ℕ) {c : Checked} → refusal c ≡ expression_refusal words len → c ≡ check_expression words len
+unfolding expression_refusal
 expression-answer words len e = refusal-injective _ _ e
 
-pub program-answer : (words : List ℕ) (len : ℕ) {c : Checked} → refusal c ≡ programRefusal words len → c ≡ checkProgram words len
-unfolding programRefusal
+pub program-answer : (words : List ℕ) (len : ℕ) {c : Checked} → refusal c ≡ program_refusal words len → c ≡ check_program words len
+unfolding program_refusal
 program-answer words len e = refusal-injective _ _ e
 
 -- ---- the two tables: no refusal, refusal 6, refusal 7
 
 pub expression-unrefused : (words : List ℕ) (len : ℕ)
-    → (expressionRefusal words len ≡ none) ↔ ((length words ≤ mostWords) × ((t : Expr (NameIn len)) × (exprWords (λ n. n.span) t [] ≡ words)))
-unfolding expressionRefusal
-expression-unrefused words len = Iff·trans (no-refusal (checkExpression words len)) (tables.expression-accepted words len)
+    → (expression_refusal words len ≡ none) ↔ ((length words ≤ most_words) × ((t : Expr (NameIn len)) × (expr_words (λ n. n.span) t [] ≡ words)))
+unfolding expression_refusal
+expression-unrefused words len = Iff·trans (no-refusal (check_expression words len)) (tables.expression-accepted words len)
 
-pub expression-too-many : (words : List ℕ) (len : ℕ) → (expressionRefusal words len ≡ some (record { number = 6; place = 0 })) ↔ (mostWords < length words)
-unfolding expressionRefusal checkExpression
+pub expression-too-many : (words : List ℕ) (len : ℕ) → (expression_refusal words len ≡ some (record { number = 6; place = 0 })) ↔ (most_words < length words)
+unfolding expression_refusal check_expression
 expression-too-many words len = refusal-6 (expr ∷ []) words len
 
-pub expression-misfit : (words : List ℕ) (len p : ℕ) → expressionRefusal words len ≡ some (record { number = 7; place = p }) → (p ≤ length words) × (length words ≤ mostWords)
-unfolding expressionRefusal
-expression-misfit words len p e = tables.expression-place words len p ((refusal-7 (checkExpression words len) p).0 e)
+pub expression-misfit : (words : List ℕ) (len p : ℕ) → expression_refusal words len ≡ some (record { number = 7; place = p }) → (p ≤ length words) × (length words ≤ most_words)
+unfolding expression_refusal
+expression-misfit words len p e = tables.expression-place words len p ((refusal-7 (check_expression words len) p).0 e)
 
 pub program-unrefused : (words : List ℕ) (len : ℕ)
-    → (programRefusal words len ≡ none) ↔ ((length words ≤ mostWords) × ((p : Program (NameIn len)) × (programWords (λ n. n.span) p [] ≡ words)))
-unfolding programRefusal
-program-unrefused words len = Iff·trans (no-refusal (checkProgram words len)) (tables.program-accepted words len)
+    → (program_refusal words len ≡ none) ↔ ((length words ≤ most_words) × ((p : Program (NameIn len)) × (program_words (λ n. n.span) p [] ≡ words)))
+unfolding program_refusal
+program-unrefused words len = Iff·trans (no-refusal (check_program words len)) (tables.program-accepted words len)
 
-pub program-too-many : (words : List ℕ) (len : ℕ) → (programRefusal words len ≡ some (record { number = 6; place = 0 })) ↔ (mostWords < length words)
-unfolding programRefusal checkProgram
-program-too-many words len = refusal-6 programFields words len
+pub program-too-many : (words : List ℕ) (len : ℕ) → (program_refusal words len ≡ some (record { number = 6; place = 0 })) ↔ (most_words < length words)
+unfolding program_refusal check_program
+program-too-many words len = refusal-6 program_fields words len
 
-pub program-misfit : (words : List ℕ) (len p : ℕ) → programRefusal words len ≡ some (record { number = 7; place = p }) → (p ≤ length words) × (length words ≤ mostWords)
-unfolding programRefusal
-program-misfit words len p e = tables.program-place words len p ((refusal-7 (checkProgram words len) p).0 e)
+pub program-misfit : (words : List ℕ) (len p : ℕ) → program_refusal words len ≡ some (record { number = 7; place = p }) → (p ≤ length words) × (length words ≤ most_words)
+unfolding program_refusal
+program-misfit words len p e = tables.program-place words len p ((refusal-7 (check_program words len) p).0 e)

@@ -2,12 +2,12 @@
 use Rattle.std.specs.Prelude.{ℕ, zero, suc, ◌+◌, ◌/◌, ◌%◌, ◌^◌, ◌<◌, ◌≤◌, ◌≡◌, cond, List, [], ◌∷◌, ◌++◌, length, drop, get_or, set, eqb}
 use Rattle.std.proofs.Math.Option.{Option, none, some}
 use Rattle.tree.specs.Kind.{Kind}
-use Rattle.tree.specs.Kind.{exprRows, stmtRows, aexprRows, Turn, fits, misfit}
-use Rattle.tree.specs.KindNumbers.{kindNumber, kind_of}
+use Rattle.tree.specs.Kind.{expr_rows, stmt_rows, aexpr_rows, Turn, fits, misfit}
+use Rattle.tree.specs.KindNumbers.{kind_number, kind_of}
 use Rattle.tree.specs.declared.rows.Fit.{Fit}
 use Rattle.tree.specs.Check.{run, within}
-use Rattle.tree.specs.Tally.{Mark, Expected, opened, markAt, more, marked, noted, tally}
-use Rattle.tree.specs.Notes.{noteKind, kindNotes}
+use Rattle.tree.specs.Tally.{Mark, Expected, opened, mark_at, more, marked, noted, tally}
+use Rattle.tree.specs.Notes.{note_kind, kind_notes}
 use Rattle.tree.specs.declared.rows.Fit.TheVariants.{Row, Misfit as NoFit}
 use Rattle.tree.specs.declared.walk.Step.{Step}
 use Rattle.tree.specs.declared.walk.Step.TheVariants.{Go, Stop}
@@ -19,47 +19,47 @@ digits zero row = []
 digits (suc n) row = cond (eqb row 0) [] (kind_of (row % 32) ∷ digits n (row / 32))
 
 -- the kinds of a row that the code holds
-unfoldable pub kindsOf : ℕ → List Kind
-kindsOf row = digits 7 row
+unfoldable pub kinds_of : ℕ → List Kind
+kinds_of row = digits 7 row
 
 -- the rows of the kinds whose constructors have fields
-abbrev pub constructorRows : List (List Kind)
-constructorRows = exprRows ++ (stmtRows ++ aexprRows)
+abbrev pub constructor_rows : List (List Kind)
+constructor_rows = expr_rows ++ (stmt_rows ++ aexpr_rows)
 
 -- what the code's answer says of a word
-abbrev pub asTurn : Fit → Turn
-asTurn (Row row) = fits (kindsOf row)
-asTurn NoFit = misfit 0
+abbrev pub as_turn : Fit → Turn
+as_turn (Row row) = fits (kinds_of row)
+as_turn NoFit = misfit 0
 
 -- ---- the entries of the walk's stack
 
 -- the mark that a number stands for: 0 for none, else 1, the start and 65,536 for each item passed
-abbrev pub asMark : ℕ → Option Mark
-asMark zero = none
-asMark (suc m) = some (record { start = m % 65536; passed = m / 65536 })
+abbrev pub as_mark : ℕ → Option Mark
+as_mark zero = none
+as_mark (suc m) = some (record { start = m % 65536; passed = m / 65536 })
 
 -- what an entry expects: the kinds of its low half, the last with the mark of its high half
-unfoldable pub expectedOf : ℕ → List Expected
-expectedOf frame = marked (kindsOf (frame % 2 ^ 32)) (asMark (frame / 2 ^ 32))
+unfoldable pub expected_of : ℕ → List Expected
+expected_of frame = marked (kinds_of (frame % 2 ^ 32)) (as_mark (frame / 2 ^ 32))
 
 -- the mark of a sequence at a place, behind which the kinds of a row follow, as a number that is no greater than what bounds both
 pub record Opens (mark after at r : ℕ) : Type 0 where
-  pub is : asMark r ≡ some (opened (cond (eqb after 0) (asMark mark) none) at)
+  pub is : as_mark r ≡ some (opened (cond (eqb after 0) (as_mark mark) none) at)
   pub small : (b : ℕ) → mark ≤ b → at + 1 ≤ b → r ≤ b
 
 -- the mark of the first kind of an entry, which is the entry's where no other follows
-abbrev pub ownMark : ℕ → Option Mark
-ownMark frame = cond (eqb (frame % 2 ^ 32 / 32) 0) (asMark (frame / 2 ^ 32)) none
+abbrev pub own_mark : ℕ → Option Mark
+own_mark frame = cond (eqb (frame % 2 ^ 32 / 32) 0) (as_mark (frame / 2 ^ 32)) none
 
 -- the mark of the first kind of an entry at a place
 pub record MarkIs (frame at r : ℕ) : Type 0 where
-  pub is : asMark r ≡ markAt (kind_of (frame % 2 ^ 32 % 32)) (ownMark frame) at
+  pub is : as_mark r ≡ mark_at (kind_of (frame % 2 ^ 32 % 32)) (own_mark frame) at
   pub small : (b : ℕ) → frame / 2 ^ 32 ≤ b → at + 1 ≤ b → r ≤ b
 
 -- the entry of a word's fields, one item more of the marked sequence being passed
 pub record FrameIs (fields mark r : ℕ) : Type 0 where
   pub row : r % 2 ^ 32 ≡ fields
-  pub mark-is : asMark (r / 2 ^ 32) ≡ more (asMark mark)
+  pub mark-is : as_mark (r / 2 ^ 32) ≡ more (as_mark mark)
   pub small : r / 2 ^ 32 ≤ mark + 65536
 
 -- an entry is put on the first `top` of a stack, unless its row has run out
@@ -73,11 +73,11 @@ pub record Pushed (stack : List ℕ) (top frame : ℕ) (stack' : List ℕ) (r : 
 pub record Went (words : List ℕ) (len at : ℕ) (k : Kind) (next row : ℕ) : Type 0 where
   pub forward : at < next
   pub inside : next ≤ length words
-  pub goes : (ks : List Kind) → run (within len) (k ∷ ks) at (drop at words) ≡ run (within len) (kindsOf row ++ ks) next (drop next words)
+  pub goes : (ks : List Kind) → run (within len) (k ∷ ks) at (drop at words) ≡ run (within len) (kinds_of row ++ ks) next (drop next words)
   pub counts : (m : Option Mark) (es : List Expected) (c : List ℕ) → tally (within len) (record { kind = k; mark = m } ∷ es) at (drop at words) c
-      ≡ tally (within len) (marked (kindsOf row) (more (markAt k m at)) ++ es) next (drop next words) (noted (kindsOf row) (markAt k m at) c)
-  pub kinds : (ks : List Kind) (n : List ℕ) → kindNotes (within len) (k ∷ ks) at (drop at words) n
-      ≡ kindNotes (within len) (kindsOf row ++ ks) next (drop next words) (noteKind at next (kindNumber k) n)
+      ≡ tally (within len) (marked (kinds_of row) (more (mark_at k m at)) ++ es) next (drop next words) (noted (kinds_of row) (mark_at k m at) c)
+  pub kinds : (ks : List Kind) (n : List ℕ) → kind_notes (within len) (k ∷ ks) at (drop at words) n
+      ≡ kind_notes (within len) (kinds_of row ++ ks) next (drop next words) (note_kind at next (kind_number k) n)
 
 -- they misfit at a place: the check ends, and nothing more is noted
 pub record Stopped (words : List ℕ) (len at : ℕ) (k : Kind) (place : ℕ) : Type 0 where

@@ -10,94 +10,94 @@ abbrev pub no_more : ℕ
 no_more = 0
 
 -- Expr
-abbrev pub bLiteralTag : ℕ
-bLiteralTag = 1
+abbrev pub b_literal_tag : ℕ
+b_literal_tag = 1
 
-abbrev pub iLiteralTag : ℕ
-iLiteralTag = 2
+abbrev pub i_literal_tag : ℕ
+i_literal_tag = 2
 
-abbrev pub customLiteralTag : ℕ
-customLiteralTag = 3
+abbrev pub custom_literal_tag : ℕ
+custom_literal_tag = 3
 
-abbrev pub idExprTag : ℕ
-idExprTag = 4
+abbrev pub id_expr_tag : ℕ
+id_expr_tag = 4
 
-abbrev pub operatorExprTag : ℕ
-operatorExprTag = 5
+abbrev pub operator_expr_tag : ℕ
+operator_expr_tag = 5
 
-abbrev pub functionCallExprTag : ℕ
-functionCallExprTag = 6
+abbrev pub function_call_expr_tag : ℕ
+function_call_expr_tag = 6
 
-abbrev pub labeledExprTag : ℕ
-labeledExprTag = 7
+abbrev pub labeled_expr_tag : ℕ
+labeled_expr_tag = 7
 
-abbrev pub letExprTag : ℕ
-letExprTag = 8
+abbrev pub let_expr_tag : ℕ
+let_expr_tag = 8
 
-abbrev pub quantifierExprTag : ℕ
-quantifierExprTag = 9
+abbrev pub quantifier_expr_tag : ℕ
+quantifier_expr_tag = 9
 
-abbrev pub closureExprTag : ℕ
-closureExprTag = 10
+abbrev pub closure_expr_tag : ℕ
+closure_expr_tag = 10
 
 -- Stmt
-abbrev pub varDeclTag : ℕ
-varDeclTag = 21
+abbrev pub var_decl_tag : ℕ
+var_decl_tag = 21
 
-abbrev pub assignTag : ℕ
-assignTag = 22
+abbrev pub assign_tag : ℕ
+assign_tag = 22
 
-abbrev pub reinitTag : ℕ
-reinitTag = 23
+abbrev pub reinit_tag : ℕ
+reinit_tag = 23
 
-abbrev pub blockTag : ℕ
-blockTag = 24
+abbrev pub block_tag : ℕ
+block_tag = 24
 
 abbrev pub call_tag : ℕ
 call_tag = 25
 
-abbrev pub checkTag : ℕ
-checkTag = 26
+abbrev pub check_tag : ℕ
+check_tag = 26
 
-abbrev pub assumeTag : ℕ
-assumeTag = 27
+abbrev pub assume_tag : ℕ
+assume_tag = 27
 
-abbrev pub reachTag : ℕ
-reachTag = 28
+abbrev pub reach_tag : ℕ
+reach_tag = 28
 
-abbrev pub assertTag : ℕ
-assertTag = 29
+abbrev pub assert_tag : ℕ
+assert_tag = 29
 
-abbrev pub aForallTag : ℕ
-aForallTag = 30
+abbrev pub a_forall_tag : ℕ
+a_forall_tag = 30
 
-abbrev pub chooseTag : ℕ
-chooseTag = 31
+abbrev pub choose_tag : ℕ
+choose_tag = 31
 
-abbrev pub ifTag : ℕ
-ifTag = 32
+abbrev pub if_tag : ℕ
+if_tag = 32
 
-abbrev pub ifCaseTag : ℕ
-ifCaseTag = 33
+abbrev pub if_case_tag : ℕ
+if_case_tag = 33
 
-abbrev pub loopTag : ℕ
-loopTag = 34
+abbrev pub loop_tag : ℕ
+loop_tag = 34
 
-abbrev pub labeledStmtTag : ℕ
-labeledStmtTag = 35
+abbrev pub labeled_stmt_tag : ℕ
+labeled_stmt_tag = 35
 
-abbrev pub exitTag : ℕ
-exitTag = 36
+abbrev pub exit_tag : ℕ
+exit_tag = 36
 
-abbrev pub returnTag : ℕ
-returnTag = 37
+abbrev pub return_tag : ℕ
+return_tag = 37
 
-abbrev pub probeTag : ℕ
-probeTag = 38
+abbrev pub probe_tag : ℕ
+probe_tag = 38
 
 -- AExpr
-abbrev pub aExprTag : ℕ
-aExprTag = 1
+abbrev pub a_expr_tag : ℕ
+a_expr_tag = 1
 
-abbrev pub aAssertionTag : ℕ
-aAssertionTag = 2
+abbrev pub a_assertion_tag : ℕ
+a_assertion_tag = 2

@@ -2,8 +2,8 @@
 -- number of items is noted when its end is met. So what a tree's print depends on stands in a list with a place for each word.
 use Rattle.std.specs.Prelude.{ℕ, suc, ◌+◌, Bool, true, false, cond, List, [], ◌∷◌, ◌++◌, length, set, leb}
 use Rattle.std.proofs.Math.Option.{Option, none, some}
-use Rattle.tree.specs.Limits.{mostWords}
-use Rattle.tree.specs.Kind.{Kind, bool, operator, mode, natural, low, name, lengthFrom, expr, stmt, aexpr, option, seq, programFields, fits, misfit, turn}
+use Rattle.tree.specs.Limits.{most_words}
+use Rattle.tree.specs.Kind.{Kind, bool, operator, mode, natural, low, name, length_from, expr, stmt, aexpr, option, seq, program_fields, fits, misfit, turn}
 use Rattle.tree.specs.Check.{within}
 
 -- where a sequence started, and how many of its items are passed
@@ -24,7 +24,7 @@ sequence mode = false
 sequence natural = false
 sequence low = false
 sequence name = false
-sequence (lengthFrom s) = false
+sequence (length_from s) = false
 sequence expr = false
 sequence stmt = false
 sequence aexpr = false
@@ -37,8 +37,8 @@ opened none at = record { start = at; passed = 0 }
 opened (some m) at = m
 
 -- the mark of what is expected at a place; only sequences have one
-abbrev pub markAt : Kind → Option Mark → ℕ → Option Mark
-markAt k m at = cond (sequence k) (some (opened m at)) none
+abbrev pub mark_at : Kind → Option Mark → ℕ → Option Mark
+mark_at k m at = cond (sequence k) (some (opened m at)) none
 
 -- one item more is passed
 abbrev pub more : Option Mark → Option Mark
@@ -65,18 +65,18 @@ tally inside [] at (w ∷ ws) counts = counts
 tally inside (e ∷ es) at (w ∷ ws) counts =
     elim (turn inside e.kind w) [
       | fits fs ↦
-          tally inside (marked fs (more (markAt e.kind e.mark at)) ++ es) (suc at) ws
-          (noted fs (markAt e.kind e.mark at) counts)
+          tally inside (marked fs (more (mark_at e.kind e.mark at)) ++ es) (suc at) ws
+          (noted fs (mark_at e.kind e.mark at) counts)
       | misfit back ↦ counts
     ]
 
 -- the numbers of a table of these kinds; of one that is too long nothing is noted
 abbrev pub counts : List Kind → List ℕ → ℕ → List ℕ → List ℕ
-counts ks words len before = cond (leb (length words) mostWords) (tally (within len) (marked ks none) 0 words before) before
+counts ks words len before = cond (leb (length words) most_words) (tally (within len) (marked ks none) 0 words before) before
 
 -- the numbers of a table of an expression, and of a program, over a text of that length
-unfoldable pub expressionCounts : List ℕ → ℕ → List ℕ → List ℕ
-expressionCounts words len before = counts (expr ∷ []) words len before
+unfoldable pub expression_counts : List ℕ → ℕ → List ℕ → List ℕ
+expression_counts words len before = counts (expr ∷ []) words len before
 
-unfoldable pub programCounts : List ℕ → ℕ → List ℕ → List ℕ
-programCounts words len before = counts programFields words len before
+unfoldable pub program_counts : List ℕ → ℕ → List ℕ → List ℕ
+program_counts words len before = counts program_fields words len before

@@ -1,14 +1,14 @@
 -- Laws for whoever walks a table that holds a tree's words: what stands at a place, and where the fields' words start. One law over the kinds:
 -- at the place of a tree of kind k, the word w has a form, the tree is made of the form's fields, and their words start one word further on.
 -- `Opened I (form I k w) t rest ws` computes at a numeral w: for `expr` and 5 it is the parts (o, (es, tt)) with OperatorExpr o es ≡ t and
--- operatorWord o ∷ exprsWords es rest ≡ ws.
+-- operator_word o ∷ exprs_words es rest ≡ ws.
 use Rattle.std.specs.Prelude.{ℕ, zero, suc, ◌+◌, ◌-◌, ◌*◌, ◌/◌, ◌%◌, ◌^◌, ◌≤◌, ◌<◌, ◌≡◌, refl, Bool, true, false, cond, List, [], ◌∷◌, ◌++◌, length, get_or, drop, leb}
 use Rattle.std.proofs.Common.{arith, sym, ap, ◌∙◌, subst, leb-true}
 use Rattle.std.proofs.Math.Option.{Option, none, some}
 use Rattle.tree.specs.Clash.{impossible}
-use Rattle.tree.specs.Kind.{Kind, bool, operator, mode, natural, low, name, lengthFrom, expr, stmt, aexpr, option, seq, first_word, rows}
-use Rattle.tree.specs.Trees.{Names, Tree, Trees, words, allWords, Form, Makes, formAt}
-use Rattle.tree.specs.Forms.{makes, rowForm, form}
+use Rattle.tree.specs.Kind.{Kind, bool, operator, mode, natural, low, name, length_from, expr, stmt, aexpr, option, seq, first_word, rows}
+use Rattle.tree.specs.Trees.{Names, Tree, Trees, words, all_words, Form, Makes, form_at}
+use Rattle.tree.specs.Forms.{makes, row_form, form}
 use Rattle.tree.specs.FormLaws.{Spells, spells}
 use Rattle.tree.specs.Opened.{Opened, opened, some_word, join, join-words}
 
@@ -55,19 +55,19 @@ module _ (I : Names) where
       subst (λ (v : ℕ). Opened I (form I k v) t rest (drop (at + 1) table)) f (tree-at table at k t rest e).1
 
   -- a row that makes a tree has a number below the count of rows
-  rows-range : (R : Type 0) (rs : List (List Kind)) (m : Makes I rs R) (n : ℕ) (t : R) (rest ws : List ℕ) → Opened I (formAt I rs m n) t rest ws → n < length rs
+  rows-range : (R : Type 0) (rs : List (List Kind)) (m : Makes I rs R) (n : ℕ) (t : R) (rest ws : List ℕ) → Opened I (form_at I rs m n) t rest ws → n < length rs
   rows-range R [] m n t rest ws o = absurd o
   rows-range R (r ∷ rs) m zero t rest ws o = omega arith
   rows-range R (r ∷ rs) m (suc n) t rest ws o = let h = rows-range R rs m.1 n t rest ws o in omega arith
 
   -- so its word is one of its kind's
-  row-range : (k : Kind) (w : ℕ) (t : Tree I k) (rest ws : List ℕ) → Opened I (rowForm I k w) t rest ws → (first_word k ≤ w) × (w < first_word k + length (rows k))
+  row-range : (k : Kind) (w : ℕ) (t : Tree I k) (rest ws : List ℕ) → Opened I (row_form I k w) t rest ws → (first_word k ≤ w) × (w < first_word k + length (rows k))
   row-range k w t rest ws = by-test (leb (first_word k) w) refl
     where
       n : ℕ
       n = w - first_word k
 
-      by-test : (b : Bool) → leb (first_word k) w ≡ b → Opened I (cond b (formAt I (rows k) (makes I k) n) none) t rest ws
+      by-test : (b : Bool) → leb (first_word k) w ≡ b → Opened I (cond b (form_at I (rows k) (makes I k) n) none) t rest ws
           → (first_word k ≤ w) × (w < first_word k + length (rows k))
       by-test true e o =
           let h = rows-range (Tree I k) (rows k) (makes I k) n t rest ws o in
@@ -83,7 +83,7 @@ module _ (I : Names) where
   Range natural w = Unit {0}
   Range low w = Unit {0}
   Range name w = Unit {0}
-  Range (lengthFrom s) w = Unit {0}
+  Range (length_from s) w = Unit {0}
   Range expr w = (1 ≤ w) × (w < 11)
   Range stmt w = (21 ≤ w) × (w < 39)
   Range aexpr w = (1 ≤ w) × (w < 3)
@@ -98,7 +98,7 @@ module _ (I : Names) where
   range natural w t rest ws o = tt
   range low w t rest ws o = tt
   range name w t rest ws o = tt
-  range (lengthFrom s) w t rest ws o = tt
+  range (length_from s) w t rest ws o = tt
   range expr w t rest ws o = row-range expr w t rest ws o
   range stmt w t rest ws o = row-range stmt w t rest ws o
   range aexpr w t rest ws o = row-range aexpr w t rest ws o
@@ -119,20 +119,20 @@ module _ (I : Names) where
   -- ---- words and what follows them
 
   -- the words of trees before a rest are their words and then the rest
-  follow : (ks : List Kind) (ws : List ℕ) (ts : Trees I ks) (rest : List ℕ) → allWords I ks ts [] ≡ ws → allWords I ks ts rest ≡ ws ++ rest
+  follow : (ks : List Kind) (ws : List ℕ) (ts : Trees I ks) (rest : List ℕ) → all_words I ks ts [] ≡ ws → all_words I ks ts rest ≡ ws ++ rest
   follow [] [] ts rest e = refl
   follow [] (w ∷ ws) ts rest e = impossible cc
-  follow (k ∷ ks) [] ts rest e = absurd (some_word I k ts.0 (allWords I ks ts.1 []) e)
+  follow (k ∷ ks) [] ts rest e = absurd (some_word I k ts.0 (all_words I ks ts.1 []) e)
   follow (k ∷ ks) (w ∷ ws) ts rest e =
-      by_form (form I k w) (spells I k w) (opened I k ts.0 (allWords I ks ts.1 []) w ws e) (λ fs us h. follow (fs ++ ks) ws us rest h)
+      by_form (form I k w) (spells I k w) (opened I k ts.0 (all_words I ks ts.1 []) w ws e) (λ fs us h. follow (fs ++ ks) ws us rest h)
     where
-      by_form : (o : Option (Form I (Tree I k))) → Spells I k w o → Opened I o ts.0 (allWords I ks ts.1 []) ws
-          → ((fs : List Kind) (us : Trees I (fs ++ ks)) → allWords I (fs ++ ks) us [] ≡ ws → allWords I (fs ++ ks) us rest ≡ ws ++ rest)
-          → words I k ts.0 (allWords I ks ts.1 rest) ≡ w ∷ (ws ++ rest)
+      by_form : (o : Option (Form I (Tree I k))) → Spells I k w o → Opened I o ts.0 (all_words I ks ts.1 []) ws
+          → ((fs : List Kind) (us : Trees I (fs ++ ks)) → all_words I (fs ++ ks) us [] ≡ ws → all_words I (fs ++ ks) us rest ≡ ws ++ rest)
+          → words I k ts.0 (all_words I ks ts.1 rest) ≡ w ∷ (ws ++ rest)
       by_form none s o ih = absurd o
       by_form (some f) s o ih =
-          ap (λ (u : Tree I k). words I k u (allWords I ks ts.1 rest)) (sym o.1)
-          ∙ s o.0 (allWords I ks ts.1 rest)
+          ap (λ (u : Tree I k). words I k u (all_words I ks ts.1 rest)) (sym o.1)
+          ∙ s o.0 (all_words I ks ts.1 rest)
           ∙ ap (λ (l : List ℕ). w ∷ l)
           (sym (join-words I f.fields ks o.0 ts.1 rest)
           ∙ ih f.fields (join I f.fields ks o.0 ts.1) (join-words I f.fields ks o.0 ts.1 [] ∙ o.2))

@@ -2,7 +2,7 @@
 // kind: 0 for none, else of a sequence its start and 1, and 65,536 for each item of it that is passed.
 ghost use Rattle.std.specs.Prelude.{◌≡◌, ◌+◌, ◌*◌, ◌/◌, ◌%◌, ◌^◌, ◌<◌, ◌≤◌, length};
 ghost use Rattle.tree.specs.Tally.{noted};
-ghost use Rattle.tree.specs.Rows.{kindsOf, asMark, Opens, MarkIs, FrameIs, Pushed};
+ghost use Rattle.tree.specs.Rows.{kinds_of, as_mark, Opens, MarkIs, FrameIs, Pushed};
 
 use crate::rows::{BASE, is_sequence};
 
@@ -72,7 +72,7 @@ pub(crate) fn push(stack: &mut [u64], top: usize, frame: u64) -> usize
 // Notes the number of a sequence that ends, where the table of numbers has its place.
 pub(crate) fn note(counts: &mut [u16], fields: u32, mark: u64)
     requires { mark < 65535 * 65536 }
-    ensures { counts.new ≡ noted (kindsOf fields) (asMark mark) counts.old }
+    ensures { counts.new ≡ noted (kinds_of fields) (as_mark mark) counts.old }
 {
     if fields == 0 {
         if 0 < mark {

@@ -9,12 +9,12 @@ pub mod word;
 
 ghost use Rattle.std.specs.Prelude.{◌≡◌, ◌+◌, ◌*◌, ◌^◌, get_or};
 ghost use Rattle.tree.specs.Resolve.{part};
-ghost use Rattle.tree.specs.Check.{within, check as checkOf, refusal, expressionRefusal, programRefusal};
-ghost use Rattle.tree.specs.Rows.{kindsOf};
-ghost use Rattle.tree.specs.Outline.{programKinds, programEnds};
-ghost use Rattle.tree.specs.Notes.{kindNotes};
+ghost use Rattle.tree.specs.Check.{within, check as check_of, refusal, expression_refusal, program_refusal};
+ghost use Rattle.tree.specs.Rows.{kinds_of};
+ghost use Rattle.tree.specs.Outline.{program_kinds, program_ends};
+ghost use Rattle.tree.specs.Notes.{kind_notes};
 ghost use Rattle.tree.specs.declared.Checked.TheVariants.{Tree};
-ghost use Rattle.tree.specs.Tally.{counts as countsOf, expressionCounts, programCounts};
+ghost use Rattle.tree.specs.Tally.{counts as counts_of, expression_counts, program_counts};
 
 use kind::EXPR;
 use outline::{blank, fill, find_ends};
@@ -44,7 +44,7 @@ pub enum Checked {
 
 // Whether the words are one expression over a text of that length.
 pub fn check_expression(words: &[u32], text_len: usize) -> Checked
-    ensures { refusal result ≡ expressionRefusal words.now text_len }
+    ensures { refusal result ≡ expression_refusal words.now text_len }
 {
     let mut counts = [0u16; 1];
     count_expression(words, text_len, &mut counts)
@@ -52,7 +52,7 @@ pub fn check_expression(words: &[u32], text_len: usize) -> Checked
 
 // Whether the words are one program over a text of that length.
 pub fn check_program(words: &[u32], text_len: usize) -> Checked
-    ensures { refusal result ≡ programRefusal words.now text_len }
+    ensures { refusal result ≡ program_refusal words.now text_len }
 {
     let mut counts = [0u16; 1];
     count_program(words, text_len, &mut counts)
@@ -60,7 +60,7 @@ pub fn check_program(words: &[u32], text_len: usize) -> Checked
 
 // The same; and at the place where a sequence of the expression starts, `counts` gets the number of its items.
 pub fn count_expression(words: &[u32], text_len: usize, counts: &mut [u16]) -> Checked
-    ensures { (refusal result ≡ expressionRefusal words.now text_len) × (counts.new ≡ expressionCounts words.now text_len counts.old) }
+    ensures { (refusal result ≡ expression_refusal words.now text_len) × (counts.new ≡ expression_counts words.now text_len counts.old) }
 {
     let mut kinds = [0u16; 1];
     count(words, text_len, EXPR, counts, &mut kinds)
@@ -68,7 +68,7 @@ pub fn count_expression(words: &[u32], text_len: usize, counts: &mut [u16]) -> C
 
 // The same of a program.
 pub fn count_program(words: &[u32], text_len: usize, counts: &mut [u16]) -> Checked
-    ensures { (refusal result ≡ programRefusal words.now text_len) × (counts.new ≡ programCounts words.now text_len counts.old) }
+    ensures { (refusal result ≡ program_refusal words.now text_len) × (counts.new ≡ program_counts words.now text_len counts.old) }
 {
     let mut kinds = [0u16; 1];
     count(words, text_len, PROGRAM, counts, &mut kinds)
@@ -82,7 +82,7 @@ pub fn outline_program(
     kinds: &mut [u16],
     ends: &mut [u16],
 ) -> Checked
-    ensures { (refusal result ≡ programRefusal words.now text_len) × (kinds.new ≡ programKinds words.now text_len kinds.old) × (ends.new ≡ programEnds words.now text_len ends.old) }
+    ensures { (refusal result ≡ program_refusal words.now text_len) × (kinds.new ≡ program_kinds words.now text_len kinds.old) × (ends.new ≡ program_ends words.now text_len ends.old) }
 {
     let mut counts = [0u16; 1];
     let mut noted = blank();
@@ -108,7 +108,7 @@ fn count(
     counts: &mut [u16],
     kinds: &mut [u16],
 ) -> Checked
-    ensures { (result ≡ checkOf (kindsOf first) words.now text_len) × (counts.new ≡ countsOf (kindsOf first) words.now text_len counts.old) × (result ≡ Tree → kinds.new ≡ kindNotes (within text_len) (kindsOf first) 0 words.now kinds.old) }
+    ensures { (result ≡ check_of (kinds_of first) words.now text_len) × (counts.new ≡ counts_of (kinds_of first) words.now text_len counts.old) × (result ≡ Tree → kinds.new ≡ kind_notes (within text_len) (kinds_of first) 0 words.now kinds.old) }
 {
     if words.len() < 256 {
         let mut stack = [0u64; 256];

@@ -1,10 +1,10 @@
 // The outline of a table: the kinds, noted while its words are walked, and the ends, found from the last word back without a stack.
 ghost use Rattle.std.specs.Prelude.{◌≡◌, ◌+◌, ◌<◌, ◌≤◌, length, get_or, set, take};
-ghost use Rattle.tree.specs.Limits.{mostWords};
-ghost use Rattle.tree.specs.KindNumbers.{kindNumber, kind_of};
-ghost use Rattle.tree.specs.Rows.{kindsOf};
+ghost use Rattle.tree.specs.Limits.{most_words};
+ghost use Rattle.tree.specs.KindNumbers.{kind_number, kind_of};
+ghost use Rattle.tree.specs.Rows.{kinds_of};
 ghost use Rattle.tree.specs.Outline.{filled};
-ghost use Rattle.tree.specs.Notes.{noteKind, fieldsEnd, end_at, endNotes};
+ghost use Rattle.tree.specs.Notes.{note_kind, fields_end, end_at, end_notes};
 
 use crate::kind::{NAME, SECOND_WORD};
 use crate::rows::{BASE, Fit, turn};
@@ -18,7 +18,7 @@ const NOTED: [u16; 32] = [
 
 // A place for each word of a table. Callers know its length alone, so no proof computes the array.
 pub(crate) fn blank() -> [u16; MOST_WORDS]
-    ensures { mostWords ≡ length result }
+    ensures { most_words ≡ length result }
 {
     [0; MOST_WORDS]
 }
@@ -41,8 +41,8 @@ fn note_at(notes: &[u16], at: usize) -> u16
 
 // Notes the kind at a place, and a second word after it where the next place is two further on.
 pub(crate) fn note_kind(kinds: &mut [u16], at: usize, next: usize, kind: u32)
-    requires { (kind < 32) × (at < mostWords) }
-    ensures { kinds.new ≡ noteKind at next (kindNumber (kind_of kind)) kinds.old }
+    requires { (kind < 32) × (at < most_words) }
+    ensures { kinds.new ≡ note_kind at next (kind_number (kind_of kind)) kinds.old }
 {
     let k = kind as usize;
     put(kinds, at, NOTED[k]);
@@ -54,7 +54,7 @@ pub(crate) fn note_kind(kinds: &mut [u16], at: usize, next: usize, kind: u32)
 
 // The place after the fields of a row that begin at a place.
 fn after_fields(ends: &[u16], row: u32, first: u16) -> u16
-    ensures { result ≡ fieldsEnd (length (kindsOf row)) ends.now first }
+    ensures { result ≡ fields_end (length (kinds_of row)) ends.now first }
 {
     let mut next = first;
     let mut left = row;
@@ -67,7 +67,7 @@ fn after_fields(ends: &[u16], row: u32, first: u16) -> u16
 
 // The place after what begins at a place, by the ends behind it.
 fn end_of(words: &[u32], kinds: &[u16], ends: &[u16], at: usize) -> u16
-    requires { at < mostWords }
+    requires { at < most_words }
     ensures { result ≡ end_at words.now kinds.now at ends.now }
 {
     let second = at + 1;
@@ -88,8 +88,8 @@ fn end_of(words: &[u32], kinds: &[u16], ends: &[u16], at: usize) -> u16
 
 // The ends of all places, from the last to the first.
 pub(crate) fn find_ends(words: &[u32], kinds: &[u16], ends: &mut [u16])
-    requires { length words.now ≤ mostWords }
-    ensures { ends.new ≡ endNotes words.now kinds.now (length words.now) ends.old }
+    requires { length words.now ≤ most_words }
+    ensures { ends.new ≡ end_notes words.now kinds.now (length words.now) ends.old }
 {
     let mut i = words.len();
     while 0 < i {

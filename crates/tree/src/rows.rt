@@ -3,7 +3,7 @@
 ghost use Rattle.std.specs.Prelude.{◌≡◌, Bool, [], ℕ, ◌+◌, ◌<◌, ◌≤◌, replicate, take, drop};
 ghost use Rattle.tree.specs.Kind.{tagged, turn as turn_of};
 ghost use Rattle.tree.specs.KindNumbers.{kind_of};
-ghost use Rattle.tree.specs.Rows.{asTurn, constructorRows};
+ghost use Rattle.tree.specs.Rows.{as_turn, constructor_rows};
 ghost use Rattle.tree.specs.Tally.{sequence};
 
 use crate::kind::{
@@ -146,7 +146,7 @@ pub(crate) enum Fit {
 // What a word says at a kind of those before NAME; 0, which no row holds, is taken for BOOL.
 pub(crate) fn turn(kind: u32, word: u32) -> Fit
     requires { kind < 27 }
-    ensures { (inside : ℕ → ℕ → Bool) → asTurn result ≡ turn_of inside (kind_of kind) word }
+    ensures { (inside : ℕ → ℕ → Bool) → as_turn result ≡ turn_of inside (kind_of kind) word }
 {
     if AEXPR < kind {
         return content_turn(kind, word);
@@ -163,7 +163,7 @@ pub(crate) fn turn(kind: u32, word: u32) -> Fit
 
 // A kind of `count` words from `first` on, none with fields.
 fn leaf_turn(word: u32, first: u32, count: u32) -> Fit
-    ensures { asTurn result ≡ tagged first (replicate count []) word }
+    ensures { as_turn result ≡ tagged first (replicate count []) word }
 {
     if word < first {
         return Fit::Misfit;
@@ -177,7 +177,7 @@ fn leaf_turn(word: u32, first: u32, count: u32) -> Fit
 // A kind of `count` words from `first` on, whose rows are those from `base` on.
 fn row_turn(word: u32, first: u32, count: u32, base: u32) -> Fit
     requires { base + count ≤ 30 }
-    ensures { asTurn result ≡ tagged first (take count (drop base constructorRows)) word }
+    ensures { as_turn result ≡ tagged first (take count (drop base constructor_rows)) word }
 {
     if word < first {
         return Fit::Misfit;
@@ -194,7 +194,7 @@ fn row_turn(word: u32, first: u32, count: u32, base: u32) -> Fit
 // An option or a sequence: 0 at its end, 1 before what it holds.
 fn content_turn(kind: u32, word: u32) -> Fit
     requires { (6 < kind) × (kind < 27) }
-    ensures { (inside : ℕ → ℕ → Bool) → asTurn result ≡ turn_of inside (kind_of kind) word }
+    ensures { (inside : ℕ → ℕ → Bool) → as_turn result ≡ turn_of inside (kind_of kind) word }
 {
     if word == NO_MORE {
         return Fit::Row(0);

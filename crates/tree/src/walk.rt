@@ -2,12 +2,12 @@
 // sequences of which items are passed.
 ghost use Rattle.std.specs.Prelude.{◌≡◌, ℕ, ◌+◌, ◌^◌, ◌<◌, ◌≤◌, length, get_or};
 ghost use Rattle.std.proofs.Math.Option.{none};
-ghost use Rattle.tree.specs.Limits.{mostWords};
+ghost use Rattle.tree.specs.Limits.{most_words};
 ghost use Rattle.tree.specs.Check.{run, within};
 ghost use Rattle.tree.specs.Tally.{marked, tally};
 ghost use Rattle.tree.specs.KindNumbers.{kind_of};
-ghost use Rattle.tree.specs.Rows.{kindsOf, Stepped};
-ghost use Rattle.tree.specs.Notes.{kindNotes};
+ghost use Rattle.tree.specs.Rows.{kinds_of, Stepped};
+ghost use Rattle.tree.specs.Notes.{kind_notes};
 ghost use Rattle.tree.specs.declared.Checked.TheVariants.{Tree};
 
 use crate::frames::{frame_of, mark_at, note, push, rest, row_of};
@@ -35,8 +35,8 @@ pub(crate) fn walk(
     counts: &mut [u16],
     kinds: &mut [u16],
 ) -> Checked
-    requires { (length words.now < length stack.old) × (length words.now ≤ mostWords) }
-    ensures { (result ≡ run (within text_len) (kindsOf first) 0 words.now) × (counts.new ≡ tally (within text_len) (marked (kindsOf first) none) 0 words.now counts.old) × (result ≡ Tree → kinds.new ≡ kindNotes (within text_len) (kindsOf first) 0 words.now kinds.old) }
+    requires { (length words.now < length stack.old) × (length words.now ≤ most_words) }
+    ensures { (result ≡ run (within text_len) (kinds_of first) 0 words.now) × (counts.new ≡ tally (within text_len) (marked (kinds_of first) none) 0 words.now counts.old) × (result ≡ Tree → kinds.new ≡ kind_notes (within text_len) (kinds_of first) 0 words.now kinds.old) }
 {
     stack[0] = first as u64;
     let mut top: usize = 1;

@@ -1,17 +1,17 @@
 -- `number_spans` meets its contract: a longer text has the names of what is read of it.
 use native.Mathlib.Omega.{arith}
 use borrow.Author.Rules.{rules}
-use Rattle.names.specs.Names.{mostBytes}
+use Rattle.names.specs.Names.{most_bytes}
 use Rattle.names.specs.RoomLaws.{cut-length, cut-few}
 use Rattle.names.specs.RankLaws.{numbered-cut}
 use Rattle.names.proofs.number_spans.Statement.{statement}
 use Rattle.names.proofs.number_spans.Tie as tie
 
 slice-aggregate-by-size : tie.Need-slice-aggregate-by-size
-slice-aggregate-by-size c = cut-length mostBytes c.before.before.before.before.before.args.text.now (omega arith)
+slice-aggregate-by-size c = cut-length most_bytes c.before.before.before.before.before.args.text.now (omega arith)
 
 by-size-requires : tie.Need-by-size-requires
-by-size-requires c κs = cut-few mostBytes c.before.before.before.before.before.before.args.text.now
+by-size-requires c κs = cut-few most_bytes c.before.before.before.before.before.before.args.text.now
 
 returns : tie.Need-returns
 returns c = numbered-cut c.before.before.before.before.before.before.before.before.before.args.text.now c.before.before.before.before.before.before.before.before.before.args.spans.now _ _ _ c.before.before.by_size.ensures

@@ -8,21 +8,21 @@ use lib.ListN.{length}
 use lib.Dec.{leb, eqb}
 use borrow.Author.Tests.{leb-true}
 use Rattle.lexing.specs.RunLaws.{both_true}
-use Rattle.lexing.specs.Answer.{Answer, ok, refused, unclosedComment, pick}
+use Rattle.lexing.specs.Answer.{Answer, ok, refused, unclosed_comment, pick}
 use Rattle.lexing.specs.Blanks.{Blanks, W, passed, unclosed}
 use Rattle.lexing.specs.BlankLaws.{reach, W-inside}
-use Rattle.lexing.specs.CodeAnswers.{reachOf}
+use Rattle.lexing.specs.CodeAnswers.{reach_of}
 use Rattle.lexing.specs.declared.blank.Reach.{Reach}
 use Rattle.lexing.specs.declared.blank.Reach.TheVariants.{Passed, Unclosed}
-use Rattle.tree.specs.Limits.{mostText}
-use Rattle.tree.specs.Words.{programWords}
-use Rattle.grammar.specs.OperatorTrees.{mostDepth}
+use Rattle.tree.specs.Limits.{most_text}
+use Rattle.tree.specs.Words.{program_words}
+use Rattle.grammar.specs.OperatorTrees.{most_depth}
 use Rattle.grammar.specs.Steps.{Reader, after, need, mapped}
 use Rattle.grammar.specs.Declarations.{TopLevel}
-use Rattle.grammar.specs.Reading.{leading, toEnd, wholeText, treeWords, parseText, parseProgram}
-use Rattle.parsing.specs.Arena.{Run, Noted, Room, Agrees, mostArena}
+use Rattle.grammar.specs.Reading.{leading, to_end, whole_text, tree_words, parse_text, parse_program}
+use Rattle.parsing.specs.Arena.{Run, Noted, Room, Agrees, most_arena}
 use Rattle.parsing.specs.Code.{same, turns, inner, opened}
-use Rattle.parsing.specs.Parse.{arenaWords, roomy, wholeRule, wholeRun, parsed, ended_as, Gives}
+use Rattle.parsing.specs.Parse.{arena_words, roomy, whole_rule, whole_run, parsed, ended_as, Gives}
 use Rattle.parsing.specs.declared.arena.Built.{Built}
 use Rattle.parsing.specs.declared.arena.Built.TheVariants.{Ok, None, Refused as BuiltRefused}
 use Rattle.parsing.specs.declared.entry.Whole.{Whole}
@@ -34,7 +34,7 @@ use Rattle.parsing.proofs.Laws.{node_kept, after-ok, after_none, after-refused}
 
 -- the run of what a rule reads of a whole text
 mapped-whole : {A : Type 0} (words_of : A → Run) (rule : Reader A) (text : List ℕ)
-    → wholeText text (λ at. mapped words_of (rule at)) ≡ mapped words_of (wholeText text rule)
+    → whole_text text (λ at. mapped words_of (rule at)) ≡ mapped words_of (whole_text text rule)
 unfolding after
 mapped-whole {A} words_of rule text = by-blanks (W text)
   where
@@ -42,34 +42,34 @@ mapped-whole {A} words_of rule text = by-blanks (W text)
     either true a next = refl
     either false a next = refl
 
-    by_answer : (at : ℕ) (answer : Answer A) → need at (mapped words_of answer) (toEnd text) ≡ mapped words_of (need at answer (toEnd text))
+    by_answer : (at : ℕ) (answer : Answer A) → need at (mapped words_of answer) (to_end text) ≡ mapped words_of (need at answer (to_end text))
     by_answer at (ok a next) = either (eqb next (length text)) a next
     by_answer at Answer.none = refl
     by_answer at (refused number place) = refl
 
-    by-blanks : (b : Blanks) → after (leading b) Answer.none (λ at _. need at (mapped words_of (rule at)) (toEnd text))
-        ≡ mapped words_of (after (leading b) Answer.none (λ at _. need at (rule at) (toEnd text)))
+    by-blanks : (b : Blanks) → after (leading b) Answer.none (λ at _. need at (mapped words_of (rule at)) (to_end text))
+        ≡ mapped words_of (after (leading b) Answer.none (λ at _. need at (rule at) (to_end text)))
     by-blanks (passed at) = by_answer at (rule at)
     by-blanks (unclosed at) = refl
 
-whole_run : (k : Whole) (text : List ℕ) → wholeText text (wholeRule k text) ≡ wholeRun k text
-unfolding parseText parseProgram
-whole_run Expression text = mapped-whole treeWords (inner text mostDepth) text
-whole_run Program text = mapped-whole (programWords same) (TopLevel text (turns text) (opened text mostDepth)) text
+whole_run_lem : (k : Whole) (text : List ℕ) → whole_text text (whole_rule k text) ≡ whole_run k text
+unfolding parse_text parse_program
+whole_run_lem Expression text = mapped-whole tree_words (inner text most_depth) text
+whole_run_lem Program text = mapped-whole (program_words same) (TopLevel text (turns text) (opened text most_depth)) text
 
 -- ---- room
 
 -- an arena of n words has room for a text of so many bytes
 pub record Roomy (bytes n : ℕ) : Type 0 where
-  pub short : bytes ≤ mostText
-  pub room : arenaWords bytes ≤ n
-  pub small : n ≤ mostArena
+  pub short : bytes ≤ most_text
+  pub room : arena_words bytes ≤ n
+  pub small : n ≤ most_arena
 
 -- and has it where the test is true
 pub has_room : (bytes n : ℕ) → roomy bytes n ≡ true → Roomy bytes n
 has_room bytes n e =
-    let (s, e₁) = both_true (leb bytes mostText) _ e in
-    let (r, l) = both_true (leb (arenaWords bytes) n) _ e₁ in
+    let (s, e₁) = both_true (leb bytes most_text) _ e in
+    let (r, l) = both_true (leb (arena_words bytes) n) _ e₁ in
     record { short = leb-true _ _ s; room = leb-true _ _ r; small = leb-true _ _ l }
 
 -- else 5 is answered
@@ -79,29 +79,29 @@ no_room k text n e = rw e
 -- ---- a text that is read
 
 -- what is read, by how `blanks` reached the text's first token
-module _ (k : Whole) (text : List ℕ) (n : ℕ) (room : roomy (length text) n ≡ true) (r : Reach) (passes : reachOf r ≡ W text) where
-  read_whole : parsed k text n ≡ wholeText text (wholeRule k text)
-  read_whole = rw room (sym (whole_run k text))
+module _ (k : Whole) (text : List ℕ) (n : ℕ) (room : roomy (length text) n ≡ true) (r : Reach) (passes : reach_of r ≡ W text) where
+  read_whole : parsed k text n ≡ whole_text text (whole_rule k text)
+  read_whole = rw room (sym (whole_run_lem k text))
 
   -- a comment that is not closed
-  pub unclosed-refused : {at : ℕ} → r ≡ Unclosed at → parsed k text n ≡ refused unclosedComment at
+  pub unclosed-refused : {at : ℕ} → r ≡ Unclosed at → parsed k text n ≡ refused unclosed_comment at
   unfolding after
   unclosed-refused {at} p =
-      let t : wholeText text (wholeRule k text) ≡ refused unclosedComment at = rw (sym passes ∙ ap reachOf p) in
+      let t : whole_text text (whole_rule k text) ≡ refused unclosed_comment at = rw (sym passes ∙ ap reach_of p) in
       read_whole ∙ t
 
   module _ {at : ℕ} (p : r ≡ Passed at) where
     blanks-passed : W text ≡ passed at
-    blanks-passed = sym passes ∙ ap reachOf p
+    blanks-passed = sym passes ∙ ap reach_of p
 
     -- the first token's place
     pub passed-inside : at ≤ length text
     passed-inside = omega (arith, W-inside text, ap reach blanks-passed)
 
     -- the rule begins there
-    pub read-from : parsed k text n ≡ need at (wholeRule k text at) (toEnd text)
+    pub read-from : parsed k text n ≡ need at (whole_rule k text at) (to_end text)
     unfolding after
-    read-from = let t : wholeText text (wholeRule k text) ≡ need at (wholeRule k text at) (toEnd text) = rw blanks-passed in read_whole ∙ t
+    read-from = let t : whole_text text (whole_rule k text) ≡ need at (whole_rule k text at) (to_end text) = rw blanks-passed in read_whole ∙ t
 
 -- that place, with an arena of n words
 pub record Led : Type 0 where
@@ -111,10 +111,10 @@ pub record Led : Type 0 where
   pub at : ℕ
   pub has : Roomy (length text) n
   pub inside : at ≤ length text
-  pub says : parsed whole text n ≡ need at (wholeRule whole text at) (toEnd text)
+  pub says : parsed whole text n ≡ need at (whole_rule whole text at) (to_end text)
 
 -- the place that `blanks` answers
-abbrev pub led : (k : Whole) (text : List ℕ) (n : ℕ) → roomy (length text) n ≡ true → (r : Reach) → reachOf r ≡ W text → {at : ℕ} → r ≡ Passed at → Led
+abbrev pub led : (k : Whole) (text : List ℕ) (n : ℕ) → roomy (length text) n ≡ true → (r : Reach) → reach_of r ≡ W text → {at : ℕ} → r ≡ Passed at → Led
 led k text n room r passes {at} p =
     record {
       whole = k;
@@ -141,7 +141,7 @@ module _ (l : Led) where
       }
 
   -- what the rule built, if it read the text to its end
-  pub built-gives : (later : List ℕ) (b : Built) → Agrees (λ f. f) l.text later l.at 8 0 36 (wholeRule l.whole l.text l.at) b
+  pub built-gives : (later : List ℕ) (b : Built) → Agrees (λ f. f) l.text later l.at 8 0 36 (whole_rule l.whole l.text l.at) b
       → Gives l.text later (parsed l.whole l.text l.n) (ended_as (length l.text) l.at b)
   built-gives later (Ok root next top) o = by_end (eqb next (length l.text)) refl
     where

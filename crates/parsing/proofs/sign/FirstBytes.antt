@@ -9,20 +9,20 @@ use lib.Seq.{get_or-drop}
 use native.Mathlib.Omega.{arith}
 use borrow.Author.Tests.{eqb-true}
 use Rattle.lexing.specs.Answer.{Answer, pick}
-use Rattle.lexing.specs.Bytes.{starts_with, sameBytes}
-use Rattle.lexing.specs.Tokens.{identifierLength, keyword, sign, signNotPrefix}
+use Rattle.lexing.specs.Bytes.{starts_with, same_bytes}
+use Rattle.lexing.specs.Tokens.{identifier_length, keyword, sign, sign_not_prefix}
 use Rattle.tree.specs.Clash.{impossible}
 use Rattle.grammar.specs.Grammar.{Class, product, sum, comparison, conjunction, disjunction, implication, explication, equivalence}
 use Rattle.grammar.specs.Steps.{after}
-use Rattle.grammar.specs.Rules.{operatorOf, factorOperator, termOperator, parseComparisonOperator, equalityOperator, lessOperator, moreOperator, andOperator, orOperator, impliesOperator, expliesOperator, equivOperator}
-use Rattle.parsing.specs.Code.{beginsOperator}
+use Rattle.grammar.specs.Rules.{operator_of, factor_operator, term_operator, parse_comparison_operator, equality_operator, less_operator, more_operator, and_operator, or_operator, implies_operator, explies_operator, equiv_operator}
+use Rattle.parsing.specs.Code.{begins_operator}
 
 -- a byte that begins an operator is none that begins no operator
-unlike : (k b : ℕ) → beginsOperator b ≡ false → beginsOperator k ≡ true → eqb k b ≡ false
+unlike : (k b : ℕ) → begins_operator b ≡ false → begins_operator k ≡ true → eqb k b ≡ false
 unlike k b h g = by-test (eqb k b) refl
   where
     by-test : (t : Bool) → eqb k b ≡ t → eqb k b ≡ false
-    by-test true e = let clash : true ≡ false = sym g ∙ ap beginsOperator (eqb-true k b e) ∙ h in impossible (cc)
+    by-test true e = let clash : true ≡ false = sym g ∙ ap begins_operator (eqb-true k b e) ∙ h in impossible (cc)
     by-test false e = e
 
 module _ (k b : ℕ) (w s : List ℕ) (e : eqb k b ≡ false) where
@@ -31,22 +31,22 @@ module _ (k b : ℕ) (w s : List ℕ) (e : eqb k b ≡ false) where
   unfolding sign starts_with
   no_sign = rw e refl
 
-  no-sign-but : (v : List ℕ) → signNotPrefix (k ∷ w) (k ∷ v) (b ∷ s) ≡ Answer.none
-  unfolding signNotPrefix sign starts_with
+  no-sign-but : (v : List ℕ) → sign_not_prefix (k ∷ w) (k ∷ v) (b ∷ s) ≡ Answer.none
+  unfolding sign_not_prefix sign starts_with
   no-sign-but v = rw e refl
 
-  other_word : (n : ℕ) → sameBytes (take n (b ∷ s)) (k ∷ w) ≡ false
-  unfolding sameBytes
+  other_word : (n : ℕ) → same_bytes (take n (b ∷ s)) (k ∷ w) ≡ false
+  unfolding same_bytes
   other_word zero = refl
   other_word (suc n) = rw e refl
 
   no_word : keyword (k ∷ w) (b ∷ s) ≡ Answer.none
   unfolding keyword
-  no_word = rw (other_word (identifierLength (b ∷ s))) refl
+  no_word = rw (other_word (identifier_length (b ∷ s))) refl
 
 module _ (text : List ℕ) (at : ℕ) where
-  at-end : drop at text ≡ [] → (c : Class) → operatorOf text c at ≡ Answer.none
-  unfolding after keyword sameBytes sign signNotPrefix starts_with identifierLength factorOperator termOperator parseComparisonOperator equalityOperator lessOperator moreOperator andOperator orOperator impliesOperator expliesOperator equivOperator
+  at-end : drop at text ≡ [] → (c : Class) → operator_of text c at ≡ Answer.none
+  unfolding after keyword same_bytes sign sign_not_prefix starts_with identifier_length factor_operator term_operator parse_comparison_operator equality_operator less_operator more_operator and_operator or_operator implies_operator explies_operator equiv_operator
   at-end e product = rw e refl
   at-end e sum = rw e refl
   at-end e comparison = rw e refl
@@ -56,9 +56,9 @@ module _ (text : List ℕ) (at : ℕ) where
   at-end e explication = rw e refl
   at-end e equivalence = rw e refl
 
-  module _ (b : ℕ) (s : List ℕ) (e : drop at text ≡ b ∷ s) (h : beginsOperator b ≡ false) where
-    before-byte : (c : Class) → operatorOf text c at ≡ Answer.none
-    unfolding after beginsOperator factorOperator termOperator parseComparisonOperator equalityOperator lessOperator moreOperator andOperator orOperator impliesOperator expliesOperator equivOperator
+  module _ (b : ℕ) (s : List ℕ) (e : drop at text ≡ b ∷ s) (h : begins_operator b ≡ false) where
+    before-byte : (c : Class) → operator_of text c at ≡ Answer.none
+    unfolding after begins_operator factor_operator term_operator parse_comparison_operator equality_operator less_operator more_operator and_operator or_operator implies_operator explies_operator equiv_operator
     before-byte product = rw (e, no_sign 42 b _ s (unlike 42 b h refl), no_word 100 b _ s (unlike 100 b h refl), no_word 109 b _ s (unlike 109 b h refl)) refl
     before-byte sum = rw (e, no_sign 43 b _ s (unlike 43 b h refl), no_sign 45 b _ s (unlike 45 b h refl)) refl
     before-byte comparison =
@@ -72,9 +72,9 @@ module _ (text : List ℕ) (at : ℕ) where
     before-byte equivalence = rw (e, no_sign 60 b _ s (unlike 60 b h refl)) refl
 
   -- no level has an operator where the next byte begins none
-  pub begins-none : (c : Class) → beginsOperator (get_or text at 0) ≡ false → operatorOf text c at ≡ Answer.none
-  begins-none c h = by-rest (drop at text) refl (ap beginsOperator (get_or-drop at text 0 0 ∙ ap (λ i. get_or text i 0) (omega arith)) ∙ h)
+  pub begins-none : (c : Class) → begins_operator (get_or text at 0) ≡ false → operator_of text c at ≡ Answer.none
+  begins-none c h = by-rest (drop at text) refl (ap begins_operator (get_or-drop at text 0 0 ∙ ap (λ i. get_or text i 0) (omega arith)) ∙ h)
     where
-      by-rest : (s : List ℕ) → drop at text ≡ s → beginsOperator (get_or s 0 0) ≡ false → operatorOf text c at ≡ Answer.none
+      by-rest : (s : List ℕ) → drop at text ≡ s → begins_operator (get_or s 0 0) ≡ false → operator_of text c at ≡ Answer.none
       by-rest [] e h = at-end e c
       by-rest (b ∷ s) e h = before-byte b s e h c

@@ -11,7 +11,7 @@ use Rattle.lexing.specs.Answer.{Answer, ok, refused}
 use Rattle.lexing.specs.declared.token.Lexed.{Lexed}
 use Rattle.lexing.specs.declared.token.Lexed.TheVariants.{Ok as LexedOk, None as LexedNone, Refused as LexedRefused}
 use Rattle.grammar.specs.Steps.{mapped, ◌or◌}
-use Rattle.parsing.specs.Code.{Tells, Signs, whereRead}
+use Rattle.parsing.specs.Code.{Tells, Signs, where_read}
 use Rattle.parsing.specs.declared.sign.Sign.{Sign}
 use Rattle.parsing.specs.declared.sign.Sign.TheVariants.{Found as SignFound, None as SignNone, Refused as SignRefused}
 use Rattle.parsing.specs.contracts.sign.Sign.{the_type as sign-type}
@@ -24,14 +24,14 @@ pub record Told {B : Type 0} (word : B → ℕ) (swap : B → Bool) (text : List
 module _ {B : Type 0} {word : B → ℕ} {swap : B → Bool} {text : List ℕ} {at : ℕ} where
   -- the operator b, where its token stands
   token-read : (b : B) (answer : Answer ℕ) (least : ℕ) (r : Lexed) → 0 < least → Tells (λ v. v) text at least answer r
-      → Told word swap text at (mapped (λ _. b) answer) (whereRead r (word b) (swap b))
+      → Told word swap text at (mapped (λ _. b) answer) (where_read r (word b) (swap b))
   token-read b answer least (LexedOk v n) h t =
       record { signs = record { value = b; says = after-ok _ _ t.says; word-is = refl; swap_is = refl; past = omega arith; inside = t.inside } }
   token-read b answer least LexedNone h t = record { signs = after_none _ _ t }
   token-read b answer least (LexedRefused number place) h t = record { signs = after-refused _ _ t }
 
   pub sign_read : (b : B) (answer : Answer ℕ) (least : ℕ) (r : Lexed) {s : Sign} → 0 < least → Tells (λ v. v) text at least answer r
-      → s ≡ whereRead r (word b) (swap b) → Told word swap text at (mapped (λ _. b) answer) s
+      → s ≡ where_read r (word b) (swap b) → Told word swap text at (mapped (λ _. b) answer) s
   sign_read b answer least r h t e = rw e (token-read b answer least r h t)
 
   module _ {p : Answer B} (q : Answer B) where

@@ -6,18 +6,18 @@ use mathlib.Core.Path.{◌≡◌, refl, sym, ap, subst, ◌∙◌}
 use mathlib.Core.List.{List}
 use lib.ListN.{length, take, drop, length-drop}
 use lib.Seq.{take_all}
-use Rattle.lexing.specs.Answer.{Answer, ok, refused, moved, unclosedComment}
-use Rattle.lexing.specs.Bytes.{starts_with, sameBytes, run, customLiteralChar}
+use Rattle.lexing.specs.Answer.{Answer, ok, refused, moved, unclosed_comment}
+use Rattle.lexing.specs.Bytes.{starts_with, same_bytes, run, custom_literal_char}
 use Rattle.lexing.specs.Blanks.{Blanks, passed, unclosed, W}
-use Rattle.lexing.specs.Tokens.{closed, lexeme, unlessEmpty, identifierLength, keyword, sign, signNotPrefix, parseId, parseCustomLiteral}
+use Rattle.lexing.specs.Tokens.{closed, lexeme, unless_empty, identifier_length, keyword, sign, sign_not_prefix, parse_id, parse_custom_literal}
 use Rattle.lexing.specs.CodeAnswers.{answer_of}
 use Rattle.lexing.specs.RunLaws.{pick-case}
-use Rattle.lexing.specs.TokenLaws.{Within, lexeme-within, identifier-inside, unlessEmpty-some, keyword-within, sign-within, signNotPrefix-within, parseId-within, parseCustomLiteral-within}
+use Rattle.lexing.specs.TokenLaws.{Within, lexeme-within, identifier-inside, unless_empty-some, keyword-within, sign-within, sign_not_prefix-within, parse_id-within, parse_custom_literal-within}
 use Rattle.lexing.specs.declared.token.Lexed.{Lexed}
 use Rattle.lexing.specs.declared.token.Lexed.TheVariants.{Ok as LexedOk, None as LexedNone, Refused as LexedRefused}
 use Rattle.tree.specs.Clash.{impossible}
-use Rattle.grammar.specs.Steps.{after, mapped, spanned, parseName}
-use Rattle.parsing.specs.Code.{Tells, span, movedOf, placed}
+use Rattle.grammar.specs.Steps.{after, mapped, spanned, parse_name}
+use Rattle.parsing.specs.Code.{Tells, span, moved_of, placed}
 use Rattle.parsing.specs.Leads.{Spelt, Passes}
 use Rattle.parsing.proofs.Laws.{after-ok, after_none, after-refused}
 
@@ -36,29 +36,29 @@ lexeme-small v n s h = by-blanks (W (drop n s))
     by-blanks (passed k) = omega arith
     by-blanks (unclosed k) = tt
 
-unlessEmpty-small : (n : ℕ) (r : Answer ℕ) → Small r → Small (unlessEmpty n r)
-unlessEmpty-small zero r h = tt
-unlessEmpty-small (suc n) r h = h
+unless_empty-small : (n : ℕ) (r : Answer ℕ) → Small r → Small (unless_empty n r)
+unless_empty-small zero r h = tt
+unless_empty-small (suc n) r h = h
 
 pub keyword-small : (w s : List ℕ) → Small (keyword w s)
 unfolding keyword
-keyword-small w s = pick-case Small (sameBytes (take (identifierLength s) s) w) (λ _. lexeme-small 0 (identifierLength s) s zero-le) (λ _. tt)
+keyword-small w s = pick-case Small (same_bytes (take (identifier_length s) s) w) (λ _. lexeme-small 0 (identifier_length s) s zero-le) (λ _. tt)
 
 pub sign_small : (w s : List ℕ) → Small (sign w s)
 unfolding sign
 sign_small w s = pick-case Small (starts_with w s) (λ _. lexeme-small 0 (length w) s zero-le) (λ _. tt)
 
-pub signNotPrefix-small : (w longer s : List ℕ) → Small (signNotPrefix w longer s)
-unfolding signNotPrefix
-signNotPrefix-small w longer s = pick-case Small (starts_with longer s) (λ _. tt) (λ _. sign_small w s)
+pub sign_not_prefix-small : (w longer s : List ℕ) → Small (sign_not_prefix w longer s)
+unfolding sign_not_prefix
+sign_not_prefix-small w longer s = pick-case Small (starts_with longer s) (λ _. tt) (λ _. sign_small w s)
 
-pub parseId-small : (s : List ℕ) → Small (parseId s)
-unfolding parseId
-parseId-small s = unlessEmpty-small (identifierLength s) _ (lexeme-small _ _ s (le_refl _))
+pub parse_id-small : (s : List ℕ) → Small (parse_id s)
+unfolding parse_id
+parse_id-small s = unless_empty-small (identifier_length s) _ (lexeme-small _ _ s (le_refl _))
 
-pub parseCustomLiteral-small : (s : List ℕ) → Small (parseCustomLiteral s)
-unfolding parseCustomLiteral
-parseCustomLiteral-small s = unlessEmpty-small (run customLiteralChar s) _ (le_refl _)
+pub parse_custom_literal-small : (s : List ℕ) → Small (parse_custom_literal s)
+unfolding parse_custom_literal
+parse_custom_literal-small s = unless_empty-small (run custom_literal_char s) _ (le_refl _)
 
 -- ---- a token that is read in the rest of the text from `at` on
 
@@ -72,7 +72,7 @@ within-placed text at k LexedNone h l w = tt
 within-placed text at k (LexedRefused number place) h l w = omega (arith, length-drop at text)
 
 within-tells : (text : List ℕ) (at k : ℕ) (r : Lexed) → at ≤ length text → Within k (length (drop at text)) (answer_of r) → Small (answer_of r)
-    → Tells (λ v. v) text at k (moved at (answer_of r)) (movedOf at r)
+    → Tells (λ v. v) text at k (moved at (answer_of r)) (moved_of at r)
 within-tells text at k (LexedOk v n) h w s =
     record { says = refl; past = omega arith; inside = omega (arith, length-drop at text); small = omega arith }
 within-tells text at k LexedNone h w s = refl
@@ -96,14 +96,14 @@ keyword-reads w = record { within = keyword-within w; small = keyword-small w }
 pub sign_reads : (w : List ℕ) → Reads (sign w) (length w)
 sign_reads w = record { within = sign-within w; small = sign_small w }
 
-pub signNotPrefix-reads : (w longer : List ℕ) → Reads (signNotPrefix w longer) (length w)
-signNotPrefix-reads w longer = record { within = signNotPrefix-within w longer; small = signNotPrefix-small w longer }
+pub sign_not_prefix-reads : (w longer : List ℕ) → Reads (sign_not_prefix w longer) (length w)
+sign_not_prefix-reads w longer = record { within = sign_not_prefix-within w longer; small = sign_not_prefix-small w longer }
 
-pub parseId-reads : Reads parseId 1
-parseId-reads = record { within = parseId-within; small = parseId-small }
+pub parse_id-reads : Reads parse_id 1
+parse_id-reads = record { within = parse_id-within; small = parse_id-small }
 
-pub parseCustomLiteral-reads : Reads parseCustomLiteral 1
-parseCustomLiteral-reads = record { within = parseCustomLiteral-within; small = parseCustomLiteral-small }
+pub parse_custom_literal-reads : Reads parse_custom_literal 1
+parse_custom_literal-reads = record { within = parse_custom_literal-within; small = parse_custom_literal-small }
 
 module _ {reader : List ℕ → Answer ℕ} {k : ℕ} (o : Reads reader k) (text : List ℕ) (at : ℕ) (h : at ≤ length text) (r : Lexed)
     (e : answer_of r ≡ reader (take (length text - at) (drop at text))) where
@@ -116,18 +116,18 @@ module _ {reader : List ℕ → Answer ℕ} {k : ℕ} (o : Reads reader k) (text
   pub token-placed : length text < 2 ^ 63 → placed at r
   token-placed l = within-placed text at k r h l fits
 
-  pub token-tells : {q : Lexed} → q ≡ movedOf at r → Tells (λ v. v) text at k (moved at (reader (drop at text))) q
+  pub token-tells : {q : Lexed} → q ≡ moved_of at r → Tells (λ v. v) text at k (moved at (reader (drop at text))) q
   token-tells m = rw (m, here) (within-tells text at k r h fits (subst Small here (o.small (drop at text))))
 
-  pub token-spans : {q : Lexed} → q ≡ movedOf at r → Tells (span at) text at k (mapped (span at) (moved at (reader (drop at text)))) q
+  pub token-spans : {q : Lexed} → q ≡ moved_of at r → Tells (span at) text at k (mapped (span at) (moved at (reader (drop at text)))) q
   token-spans {q} m = tells-mapped (span at) text at k _ q (token-tells m)
 
 -- ---- a word, and the blanks after it
 
 -- the identifier at a place, as it is measured
-pub word-spelt : (text : List ℕ) (at : ℕ) {n : ℕ} → at ≤ length text → n ≡ identifierLength (take (length text - at) (drop at text)) → Spelt text at n
+pub word-spelt : (text : List ℕ) (at : ℕ) {n : ℕ} → at ≤ length text → n ≡ identifier_length (take (length text - at) (drop at text)) → Spelt text at n
 word-spelt text at {n} h e =
-    let m : identifierLength (drop at text) ≡ n = sym (e ∙ ap identifierLength (suffix text at)) in
+    let m : identifier_length (drop at text) ≡ n = sym (e ∙ ap identifier_length (suffix text at)) in
     record { measured = m; inside = omega (arith, identifier-inside (drop at text), length-drop at text) }
 
 module _ {text : List ℕ} {at len : ℕ} (s : Spelt text at len) (filled : 0 < len) (r : Lexed)
@@ -143,16 +143,16 @@ module _ {text : List ℕ} {at len : ℕ} (s : Spelt text at len) (filled : 0 < 
   pub word-placed : length text < 2 ^ 63 → placed at r
   word-placed l = within-placed text at len r (omega (arith, s.inside)) l blanks-within
 
-  name-closed : parseName text at ≡ spanned text at (moved at (closed len len (W (drop len (drop at text)))))
-  unfolding after parseId lexeme
-  name-closed = rw s.measured (ap (λ r. spanned text at (moved at r)) (sym (unlessEmpty-some len _ (λ z. omega arith))))
+  name-closed : parse_name text at ≡ spanned text at (moved at (closed len len (W (drop len (drop at text)))))
+  unfolding after parse_id lexeme
+  name-closed = rw s.measured (ap (λ r. spanned text at (moved at r)) (sym (unless_empty-some len _ (λ z. omega arith))))
 
-  pub word-passes : {q : Lexed} → q ≡ movedOf at r → Passes text at len q
+  pub word-passes : {q : Lexed} → q ≡ moved_of at r → Passes text at len q
   unfolding after lexeme
   word-passes m = rw m (by-blanks (W (drop len (drop at text))) r blanks-here name-closed blanks-within)
     where
-      by-blanks : (b : Blanks) (r : Lexed) → answer_of r ≡ closed 0 len b → parseName text at ≡ spanned text at (moved at (closed len len b))
-          → Within len (length (drop at text)) (answer_of r) → Passes text at len (movedOf at r)
+      by-blanks : (b : Blanks) (r : Lexed) → answer_of r ≡ closed 0 len b → parse_name text at ≡ spanned text at (moved at (closed len len b))
+          → Within len (length (drop at text)) (answer_of r) → Passes text at len (moved_of at r)
       by-blanks (passed k) (LexedOk v n) a p w =
           let h : len + k ≡ n = cc in
           record { said = p ∙ ap (λ n. ok (span at len) (at + n)) h; past = omega arith; inside = omega (arith, length-drop at text, s.inside) }
@@ -161,6 +161,6 @@ module _ {text : List ℕ} {at len : ℕ} (s : Spelt text at len) (filled : 0 < 
       by-blanks (unclosed k) (LexedOk v n) a p w = impossible (cc)
       by-blanks (unclosed k) LexedNone a p w = impossible (cc)
       by-blanks (unclosed k) (LexedRefused number place) a p w =
-          let h : unclosedComment ≡ number = cc in
+          let h : unclosed_comment ≡ number = cc in
           let l : len + k ≡ place = cc in
           p ∙ rw (h, l) refl

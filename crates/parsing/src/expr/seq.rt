@@ -1,12 +1,12 @@
 // Sequences that commas part, and the rules that have them.
 ghost use Rattle.std.specs.Prelude.{◌≤◌, length};
-ghost use Rattle.tree.specs.Words.{patternsWords, seqWords, bindingWords, pParameterWords, callArgumentWords};
+ghost use Rattle.tree.specs.Words.{patterns_words, seq_words, binding_words, p_parameter_words, call_argument_words};
 ghost use Rattle.parsing.specs.Arena.{Room, Builds};
-ghost use Rattle.parsing.specs.Code.{Follows, same, turns, inner, opened, sequenceOf, itemWords, listWords, itemRule, closureWords, propertyWords, boolOf};
-ghost use Rattle.grammar.specs.Reading.{treeWords};
-ghost use Rattle.grammar.specs.Rules.{afterQuantifier, afterLift, parseNonemptyCommaDelimitedSeq, parseListed, parseMarked, parseParameters, parseClosureBinding, parseClosureProperty};
-ghost use Rattle.grammar.specs.Statements.{parseCallArgument};
-ghost use Rattle.grammar.specs.Declarations.{parseProcFormal};
+ghost use Rattle.parsing.specs.Code.{Follows, same, turns, inner, opened, sequence_of, item_words, list_words, item_rule, closure_words, property_words, bool_of};
+ghost use Rattle.grammar.specs.Reading.{tree_words};
+ghost use Rattle.grammar.specs.Rules.{after_quantifier, after_lift, parse_nonempty_comma_delimited_seq, parse_listed, parse_marked, parse_parameters, parse_closure_binding, parse_closure_property};
+ghost use Rattle.grammar.specs.Statements.{parse_call_argument};
+ghost use Rattle.grammar.specs.Declarations.{parse_proc_formal};
 
 use crate::arena::{Built, END, HEADED, ITEM, ONE, PAIR, TWO, node};
 use crate::build::{close, four, over};
@@ -33,7 +33,7 @@ pub(crate) enum Kind {
 #[cycle(call_chain_cond_expr_imp_juct_label_left_logic_paren_primary_right_arg_bind_item_items_lift_list_marks_param_params_prop_quant_tight_unary_val_word)]
 fn item(text: &[u8], at: usize, arena: &mut [u32], top: usize, depth: usize, kind: Kind) -> Built
     requires { Room text.now arena.old at top 4 }
-    ensures { Builds (itemWords kind) text.now arena.old arena.new at top 1 4 (itemRule kind text.now depth at) result }
+    ensures { Builds (item_words kind) text.now arena.old arena.new at top 1 4 (item_rule kind text.now depth at) result }
 {
     match kind {
         Kind::Exprs => expr(text, at, arena, top, depth),
@@ -58,7 +58,7 @@ pub(crate) fn items(
     kind: Kind,
 ) -> Built
     requires { Room text.now arena.old start free 12 }
-    ensures { Builds (listWords kind) text.now arena.old arena.new start free 1 12 (parseNonemptyCommaDelimitedSeq text.now (turns text.now) (sequenceOf kind) (itemRule kind text.now depth) start) result }
+    ensures { Builds (list_words kind) text.now arena.old arena.new start free 1 12 (parse_nonempty_comma_delimited_seq text.now (turns text.now) (sequence_of kind) (item_rule kind text.now depth) start) result }
 {
     let r = item(text, start, arena, free, depth, kind);
     let Built::Ok(first, from, top0) = r else {
@@ -103,7 +103,7 @@ pub(crate) fn list(
 ) -> Built
     requires room { Room text.now arena.old at top 12 }
     requires in_bounds { 1 ≤ length sign.now }
-    ensures { Builds (listWords kind) text.now arena.old arena.new at top 1 4 (parseListed text.now (turns text.now) (sequenceOf kind) (itemRule kind text.now depth) sign.now at) result }
+    ensures { Builds (list_words kind) text.now arena.old arena.new at top 1 4 (parse_listed text.now (turns text.now) (sequence_of kind) (item_rule kind text.now depth) sign.now at) result }
 {
     match items(text, at, arena, top, depth, kind) {
         Built::Ok(es, at1, top1) => leaf::shut(text, at1, top1, es, sign),
@@ -124,7 +124,7 @@ fn marks(
 ) -> Built
     requires room { Room text.now arena.old start free 0 }
     requires in_bounds { 3 ≤ length word.now }
-    ensures { Builds (patternsWords same) text.now arena.old arena.new start free 0 0 (parseMarked text.now (turns text.now) (inner text.now depth) (turns text.now) word.now start) result }
+    ensures { Builds (patterns_words same) text.now arena.old arena.new start free 0 0 (parse_marked text.now (turns text.now) (inner text.now depth) (turns text.now) word.now start) result }
 {
     let mut list: u32 = 0;
     let mut at = start;
@@ -163,7 +163,7 @@ pub(crate) fn quant(
 ) -> Built
     requires room { Room text.now arena.old at top 32 }
     requires universal_bound { universal ≤ 1 }
-    ensures { Builds treeWords text.now arena.old arena.new at top 1 32 (afterQuantifier text.now (turns text.now) (inner text.now depth) (boolOf universal) at) result }
+    ensures { Builds tree_words text.now arena.old arena.new at top 1 32 (after_quantifier text.now (turns text.now) (inner text.now depth) (bool_of universal) at) result }
 {
     node(arena, top, TWO, QUANTIFIER_EXPR, universal, 0);
     let bound = items(text, at, arena, top + 4, depth, Kind::Bindings);
@@ -185,7 +185,7 @@ pub(crate) fn quant(
 #[cycle(call_chain_cond_expr_imp_juct_label_left_logic_paren_primary_right_arg_bind_item_items_lift_list_marks_param_params_prop_quant_tight_unary_val_word)]
 pub(crate) fn lift(text: &[u8], at: usize, arena: &mut [u32], top: usize, depth: usize) -> Built
     requires { Room text.now arena.old at top 16 }
-    ensures { Follows afterLift 16 text.now arena.old arena.new at top depth result }
+    ensures { Follows after_lift 16 text.now arena.old arena.new at top depth result }
 {
     node(arena, top, ONE, CLOSURE_EXPR, 0, 0);
     let bound = items(text, at, arena, top + 4, depth, Kind::Closures);
@@ -219,7 +219,7 @@ pub(crate) fn lift(text: &[u8], at: usize, arena: &mut [u32], top: usize, depth:
 #[cycle(call_chain_cond_expr_imp_juct_label_left_logic_paren_primary_right_arg_bind_item_items_lift_list_marks_param_params_prop_quant_tight_unary_val_word)]
 fn bind(text: &[u8], at: usize, arena: &mut [u32], top: usize, depth: usize) -> Built
     requires { Room text.now arena.old at top 0 }
-    ensures { Builds closureWords text.now arena.old arena.new at top 1 0 (parseClosureBinding text.now (turns text.now) (inner text.now depth) at) result }
+    ensures { Builds closure_words text.now arena.old arena.new at top 1 0 (parse_closure_binding text.now (turns text.now) (inner text.now depth) at) result }
 {
     let bound = step::name(text, at);
     let Lexed::Ok(len, at1) = bound else {
@@ -246,7 +246,7 @@ fn bind(text: &[u8], at: usize, arena: &mut [u32], top: usize, depth: usize) -> 
 #[cycle(call_chain_cond_expr_imp_juct_label_left_logic_paren_primary_right_arg_bind_item_items_lift_list_marks_param_params_prop_quant_tight_unary_val_word)]
 fn params(text: &[u8], at: usize, arena: &mut [u32], top: usize, depth: usize) -> Built
     requires { Room text.now arena.old at top 4 }
-    ensures { Builds (seqWords (bindingWords same)) text.now arena.old arena.new at top 0 4 (parseParameters text.now (turns text.now) at) result }
+    ensures { Builds (seq_words (binding_words same)) text.now arena.old arena.new at top 0 4 (parse_parameters text.now (turns text.now) at) result }
 {
     match sym(text, at, b"(") {
         Lexed::Ok(_, at1) => list(text, at1, arena, top, depth, Kind::Bindings, b")"),
@@ -259,7 +259,7 @@ fn params(text: &[u8], at: usize, arena: &mut [u32], top: usize, depth: usize) -
 #[cycle(call_chain_cond_expr_imp_juct_label_left_logic_paren_primary_right_arg_bind_item_items_lift_list_marks_param_params_prop_quant_tight_unary_val_word)]
 fn prop(text: &[u8], at: usize, arena: &mut [u32], top: usize, depth: usize) -> Built
     requires { Room text.now arena.old at top 4 }
-    ensures { Builds propertyWords text.now arena.old arena.new at top 1 4 (parseClosureProperty text.now (turns text.now) (inner text.now depth) at) result }
+    ensures { Builds property_words text.now arena.old arena.new at top 1 4 (parse_closure_property text.now (turns text.now) (inner text.now depth) at) result }
 {
     let mark = keyword(text, at, b"trigger");
     let marked = marks(text, at, arena, top, depth, b"trigger");
@@ -277,7 +277,7 @@ fn prop(text: &[u8], at: usize, arena: &mut [u32], top: usize, depth: usize) -> 
 #[cycle(call_chain_cond_expr_imp_juct_label_left_logic_paren_primary_right_arg_bind_item_items_lift_list_marks_param_params_prop_quant_tight_unary_val_word)]
 fn param(text: &[u8], at: usize, arena: &mut [u32], top: usize, depth: usize) -> Built
     requires { Room text.now arena.old at top 4 }
-    ensures { Builds (pParameterWords same) text.now arena.old arena.new at top 1 4 (parseProcFormal text.now (turns text.now) (opened text.now depth) at) result }
+    ensures { Builds (p_parameter_words same) text.now arena.old arena.new at top 1 4 (parse_proc_formal text.now (turns text.now) (opened text.now depth) at) result }
 {
     let bound = leaf::moded(text, at, arena, top);
     let Built::Ok(moded, at1, top1) = bound else {
@@ -301,7 +301,7 @@ fn param(text: &[u8], at: usize, arena: &mut [u32], top: usize, depth: usize) ->
 #[cycle(call_chain_cond_expr_imp_juct_label_left_logic_paren_primary_right_arg_bind_item_items_lift_list_marks_param_params_prop_quant_tight_unary_val_word)]
 fn arg(text: &[u8], at: usize, arena: &mut [u32], top: usize, depth: usize) -> Built
     requires { Room text.now arena.old at top 4 }
-    ensures { Builds (callArgumentWords same) text.now arena.old arena.new at top 1 4 (parseCallArgument text.now (turns text.now) (opened text.now depth) at) result }
+    ensures { Builds (call_argument_words same) text.now arena.old arena.new at top 1 4 (parse_call_argument text.now (turns text.now) (opened text.now depth) at) result }
 {
     let named = leaf::by_name(text, at, arena, top);
     let Built::None = named else {

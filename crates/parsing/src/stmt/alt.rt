@@ -1,9 +1,9 @@
 // Statements with alternatives: `choose` and `if`.
-ghost use Rattle.tree.specs.Words.{stmtWords};
-ghost use Rattle.grammar.specs.Statements.{afterChoose, parseOr, parseIfCont, parseElse, parseCase};
+ghost use Rattle.tree.specs.Words.{stmt_words};
+ghost use Rattle.grammar.specs.Statements.{after_choose, parse_or, parse_if_cont, parse_else, parse_case};
 ghost use Rattle.parsing.specs.Arena.{Room, Builds};
 ghost use Rattle.parsing.specs.Code.{same, turns, opened};
-ghost use Rattle.parsing.specs.Statements.{Leaves, caseWords, condStmt};
+ghost use Rattle.parsing.specs.Statements.{Leaves, case_words, cond_stmt};
 
 use crate::arena::{Built, HEADED, PAIR, TWO, node};
 use crate::build::over;
@@ -19,7 +19,7 @@ use tree::word::{BLOCK, CHOOSE, IF, IF_CASE, MORE, NO_MORE};
 #[cycle(aexpr_branch_case_choose_cond_cont_els_elsif_block_forall_label_looped_many_named_nested_one_scope_stmt_var_word)]
 pub(crate) fn choose(text: &[u8], at: usize, arena: &mut [u32], top: usize, depth: usize) -> Built
     requires { Room text.now arena.old at top 12 }
-    ensures { Builds (stmtWords same) text.now arena.old arena.new at top 1 12 (afterChoose text.now (turns text.now) (opened text.now depth) at) result }
+    ensures { Builds (stmt_words same) text.now arena.old arena.new at top 1 12 (after_choose text.now (turns text.now) (opened text.now depth) at) result }
 {
     let first = stmt::block(text, at, arena, top, depth);
     let Built::Ok(s, at1, top1) = first else {
@@ -38,7 +38,7 @@ pub(crate) fn choose(text: &[u8], at: usize, arena: &mut [u32], top: usize, dept
 #[cycle(aexpr_branch_case_choose_cond_cont_els_elsif_block_forall_label_looped_many_named_nested_one_scope_stmt_var_word)]
 pub(crate) fn branch(text: &[u8], at: usize, arena: &mut [u32], top: usize, depth: usize) -> Built
     requires { Room text.now arena.old at top 0 }
-    ensures { Leaves (stmtWords same) text.now arena.old arena.new at top (parseOr text.now (turns text.now) (opened text.now depth) at) result }
+    ensures { Leaves (stmt_words same) text.now arena.old arena.new at top (parse_or text.now (turns text.now) (opened text.now depth) at) result }
 {
     let word = keyword(text, at, b"or");
     let Lexed::Ok(_, at1) = word else {
@@ -52,7 +52,7 @@ pub(crate) fn branch(text: &[u8], at: usize, arena: &mut [u32], top: usize, dept
 #[cycle(aexpr_branch_case_choose_cond_cont_els_elsif_block_forall_label_looped_many_named_nested_one_scope_stmt_var_word)]
 fn elsif(text: &[u8], at: usize, arena: &mut [u32], top: usize, depth: usize) -> Built
     requires { Room text.now arena.old at top 12 }
-    ensures { Builds (stmtWords same) text.now arena.old arena.new at top 1 12 ((opened text.now depth).ifCont at) result }
+    ensures { Builds (stmt_words same) text.now arena.old arena.new at top 1 12 ((opened text.now depth).if_cont at) result }
 {
     if depth == 0 {
         return leaf::too_deep(text, at);
@@ -64,7 +64,7 @@ fn elsif(text: &[u8], at: usize, arena: &mut [u32], top: usize, depth: usize) ->
 #[cycle(aexpr_branch_case_choose_cond_cont_els_elsif_block_forall_label_looped_many_named_nested_one_scope_stmt_var_word)]
 pub(crate) fn cont(text: &[u8], at: usize, arena: &mut [u32], top: usize, depth: usize) -> Built
     requires { Room text.now arena.old at top 12 }
-    ensures { Builds (stmtWords same) text.now arena.old arena.new at top 1 12 (parseIfCont text.now (turns text.now) (opened text.now depth) at) result }
+    ensures { Builds (stmt_words same) text.now arena.old arena.new at top 1 12 (parse_if_cont text.now (turns text.now) (opened text.now depth) at) result }
 {
     match case(text, at, arena, top, depth) {
         Built::Ok(first, at1, top1) => {
@@ -85,7 +85,7 @@ pub(crate) fn cont(text: &[u8], at: usize, arena: &mut [u32], top: usize, depth:
 #[cycle(aexpr_branch_case_choose_cond_cont_els_elsif_block_forall_label_looped_many_named_nested_one_scope_stmt_var_word)]
 fn cond(text: &[u8], at: usize, arena: &mut [u32], top: usize, depth: usize) -> Built
     requires { Room text.now arena.old at top 12 }
-    ensures { Builds (stmtWords same) text.now arena.old arena.new at top 1 12 (condStmt text.now depth at) result }
+    ensures { Builds (stmt_words same) text.now arena.old arena.new at top 1 12 (cond_stmt text.now depth at) result }
 {
     let guard = expr(text, at, arena, top, depth);
     let Built::Ok(e, at1, top1) = guard else {
@@ -109,7 +109,7 @@ fn cond(text: &[u8], at: usize, arena: &mut [u32], top: usize, depth: usize) -> 
 #[cycle(aexpr_branch_case_choose_cond_cont_els_elsif_block_forall_label_looped_many_named_nested_one_scope_stmt_var_word)]
 fn els(text: &[u8], at: usize, arena: &mut [u32], top: usize, depth: usize) -> Built
     requires { Room text.now arena.old at top 4 }
-    ensures { Builds (stmtWords same) text.now arena.old arena.new at top 0 4 (parseElse text.now (turns text.now) (opened text.now depth) at) result }
+    ensures { Builds (stmt_words same) text.now arena.old arena.new at top 0 4 (parse_else text.now (turns text.now) (opened text.now depth) at) result }
 {
     match keyword(text, at, b"else") {
         Lexed::Ok(_, at1) => match keyword(text, at1, b"if") {
@@ -126,7 +126,7 @@ fn els(text: &[u8], at: usize, arena: &mut [u32], top: usize, depth: usize) -> B
 #[cycle(aexpr_branch_case_choose_cond_cont_els_elsif_block_forall_label_looped_many_named_nested_one_scope_stmt_var_word)]
 pub(crate) fn case(text: &[u8], at: usize, arena: &mut [u32], top: usize, depth: usize) -> Built
     requires { Room text.now arena.old at top 0 }
-    ensures { Leaves caseWords text.now arena.old arena.new at top (parseCase text.now (turns text.now) (opened text.now depth) at) result }
+    ensures { Leaves case_words text.now arena.old arena.new at top (parse_case text.now (turns text.now) (opened text.now depth) at) result }
 {
     let word = keyword(text, at, b"case");
     let Lexed::Ok(_, at1) = word else {

@@ -7,8 +7,8 @@ use mathlib.Core.List.{List, [], ◌∷◌, ◌++◌}
 use lib.ListN.{length, get_or, drop, set, length-set}
 use lib.Seq.{drop-cons, drop-set-lt, get_or-set_same}
 use lib.Pow.{pow_pos, pow-lt, add-lt-pow}
-use Rattle.parsing.specs.Arena.{Run, Node, Holds, empty, one, two, three, ident, unary, binary, item, pair, closed, headed, mostArena}
-use Rattle.reading.specs.Flat.{nodeHead, nodeParts, whole, next, last, head_of, parts_of, Small, Replaced}
+use Rattle.parsing.specs.Arena.{Run, Node, Holds, empty, one, two, three, ident, unary, binary, item, pair, closed, headed, most_arena}
+use Rattle.reading.specs.Flat.{node_head, node_parts, whole, next, last, head_of, parts_of, Small, Replaced}
 
 -- ---- frames in the place of another
 
@@ -67,7 +67,7 @@ few (push fr h p) = omega (arith, frame_below fr, few p)
 pub top_below : {arena : List ℕ} {top l w : ℕ} {fs : List ℕ} {g : Run} → Pending arena top l (w ∷ fs) g → w / 4 + 4 ≤ top
 top_below (push fr h p) = omega (arith, frame_below fr, few p)
 
-pub small : {arena : List ℕ} {top l : ℕ} (ps fs : List ℕ) {g : Run} → top ≤ mostArena → Pending arena top l (ps ++ fs) g → Small ps
+pub small : {arena : List ℕ} {top l : ℕ} (ps fs : List ℕ) {g : Run} → top ≤ most_arena → Pending arena top l (ps ++ fs) g → Small ps
 small [] fs h p = tt
 small (w ∷ ps) fs h (push fr k p) = (omega (arith, frame_below fr, few p), small ps fs h p)
 
@@ -111,31 +111,31 @@ module _ {arena : List ℕ} {n w tag x y z : ℕ} (e : w ≡ whole n) (a : Node 
   node-place : w / 4 ≡ n
   node-place = omega arith
 
-  head-is : (r : List ℕ) → head_of arena w r ≡ nodeHead tag x y z r
+  head-is : (r : List ℕ) → head_of arena w r ≡ node_head tag x y z r
   unfolding head_of
   head-is r = rw (node-kind, node-place, a.tagged, a.first, a.second, a.third)
 
-  parts_is : parts_of arena w ≡ nodeParts tag y z
+  parts_is : parts_of arena w ≡ node_parts tag y z
   unfolding parts_of
   parts_is = rw (node-kind, node-place, a.tagged, a.second, a.third)
 
-  visited : {top limit : ℕ} {run : Run} (ps fs : List ℕ) {ws : List ℕ} → nodeParts tag y z ≡ ps → Pending arena top limit (ps ++ fs) run
-      → ws ≡ nodeHead tag x y z (run []) → weight (ps ++ fs) < 2 ^ w + weight fs → Stepped arena top w fs ws
+  visited : {top limit : ℕ} {run : Run} (ps fs : List ℕ) {ws : List ℕ} → node_parts tag y z ≡ ps → Pending arena top limit (ps ++ fs) run
+      → ws ≡ node_head tag x y z (run []) → weight (ps ++ fs) < 2 ^ w + weight fs → Stepped arena top w fs ws
   visited {run = run} ps fs q p s h = stepped ps fs (parts_is ∙ q) p (s ∙ sym (head-is (run []))) h
 
   -- a node with no part, and one with two
-  leaf : {top m : ℕ} {fs ws : List ℕ} {g : Run} → nodeParts tag y z ≡ [] → Pending arena top m fs g → ws ≡ nodeHead tag x y z (g []) → Stepped arena top w fs ws
+  leaf : {top m : ℕ} {fs ws : List ℕ} {g : Run} → node_parts tag y z ≡ [] → Pending arena top m fs g → ws ≡ node_head tag x y z (g []) → Stepped arena top w fs ws
   leaf {fs = fs} q p s = visited [] fs q p s (none-less w (weight fs))
 
-  over : {top m l : ℕ} {fs ws : List ℕ} {f g : Run} (v : ℕ) {k : Run} → nodeParts tag y z ≡ whole y ∷ v ∷ [] → v + 2 ≤ w
+  over : {top m l : ℕ} {fs ws : List ℕ} {f g : Run} (v : ℕ) {k : Run} → node_parts tag y z ≡ whole y ∷ v ∷ [] → v + 2 ≤ w
       → y + 4 ≤ n → n + 4 ≤ l → l + 4 ≤ m → Holds arena y f → Frame arena l v k → Pending arena top m fs g
-      → ws ≡ nodeHead tag x y z (f (k (g []))) → Stepped arena top w fs ws
+      → ws ≡ node_head tag x y z (f (k (g []))) → Stepped arena top w fs ws
   over {fs = fs} v q u b c h o fr p s =
       visited (whole y ∷ v ∷ []) fs q (push (alone refl b o) c (push fr h p)) s (two-less (whole y) v w (weight fs) (omega arith) u)
 
 module _ {arena : List ℕ} {top l m : ℕ} {fs : List ℕ} {g : Run} (h : l + 4 ≤ m) (p : Pending arena top m fs g) where
   node-step : {n w : ℕ} {f : Run} → w ≡ whole n → n + 4 ≤ l → Holds arena n f → Stepped arena top w fs (f (g []))
-  unfolding nodeHead nodeParts
+  unfolding node_head node_parts
   node-step e c (empty a) = leaf e a refl p refl
   node-step e c (one a) = leaf e a refl p refl
   node-step e c (two a) = leaf e a refl p refl

@@ -4,7 +4,7 @@ use native.Mathlib.Omega.{arith}
 use mathlib.Core.Path.{◌≡◌, refl, sym, ap, ◌∙◌}
 use mathlib.Core.List.{List, [], ◌∷◌, append-nil}
 use lib.ListN.{length, get_or, drop, set, replicate, length-append, length-drop, length-set, drop_of_length-le}
-use Rattle.parsing.specs.Arena.{Run, Holds, mostArena}
+use Rattle.parsing.specs.Arena.{Run, Holds, most_arena}
 use Rattle.reading.specs.Flat.{whole, head_of, parts_of, Fit, Replaced, Written, Writes, Rooted, Flattened}
 use Rattle.reading.proofs.flat.Words.{fill_none}
 use Rattle.reading.proofs.flat.Frames.{rest, drop-set, alone, Pending, nothing, push, few, top_below, small, weight, Stepped, step}
@@ -58,7 +58,7 @@ module _ {arena : List ℕ} {top : ℕ} {total stack table : List ℕ} {sp out :
       }
 
   -- the frame and its parts keep the bounds of the arena and of the stack
-  pub walking-fits : top ≤ mostArena → top ≤ 4 * length stack → Fit (parts_of arena (get_or stack sp 0)) stack sp
+  pub walking-fits : top ≤ most_arena → top ≤ 4 * length stack → Fit (parts_of arena (get_or stack sp 0)) stack sp
   walking-fits k r =
       record {
         inside = h;
@@ -89,7 +89,7 @@ module _ {arena stack table : List ℕ} {root : ℕ} (q : Rooted arena stack tab
   pub rooted-stack : 0 < length stack
   rooted-stack = omega (arith, q.below, q.room)
 
-  pub rooted-small : root < mostArena
+  pub rooted-small : root < most_arena
   rooted-small = omega (arith, q.below, q.inside, q.small)
 
   abbrev begun : List ℕ

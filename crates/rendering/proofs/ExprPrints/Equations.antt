@@ -8,25 +8,25 @@ use lib.ListN.{length}
 use Rattle.lexing.specs.Answer.{pick}
 use Rattle.lexing.specs.Bytes.{bytes}
 use Rattle.tree.specs.Ast.{Binding, Operator, Expr, OperatorExpr, FunctionCallExpr, LabeledExpr, LetExpr, QuantifierExpr, ClosureExpr, Exprs, ◌then◌, Patterns, pattern}
-use Rattle.tree.specs.Ast.{ClosureBindings, closureBinding, ClosureProperties, closureProperty}
+use Rattle.tree.specs.Ast.{ClosureBindings, closure_binding, ClosureProperties, closure_property}
 use Rattle.tree.specs.Check.{NameIn}
 use Rattle.layout.specs.declared.power.BindingPower.{BindingPower}
 use Rattle.layout.specs.declared.power.Side.TheVariants.{Left, Right}
 use Rattle.layout.specs.declared.format.ExprFormatOption.{ExprFormatOption}
 use Rattle.layout.specs.declared.format.ExprFormatOption.TheVariants.{SingleLine}
 use Rattle.layout.specs.PrintUtil.{Space, More, Init, EndlessOperator, SubexpressionPower, Parenthesis, ToString, BindingStrength}
-use Rattle.layout.specs.Printer.{quantifierText, IdTypeDecl, Bindings, parameters, triggersEnd, ExpressionList, Expression, operands, patterns, closureBindings, triggers, properties}
-use Rattle.layout.specs.Printer.{breaksLine, isIf, conditional, binary, operatorForm, elseBranch, rightOperand}
+use Rattle.layout.specs.Printer.{quantifier_text, IdTypeDecl, Bindings, parameters, triggers_end, ExpressionList, Expression, operands, patterns, closure_bindings, triggers, properties}
+use Rattle.layout.specs.Printer.{breaks_line, is_if, conditional, binary, operator_form, else_branch, right_operand}
 use Rattle.rendering.specs.ExprParts.{operand}
-use Rattle.rendering.specs.Tables.{nameIn}
+use Rattle.rendering.specs.Tables.{name_in}
 
 -- an operator between its operands
 abbrev pub sign : Operator → ExprFormatOption → List ℕ → List ℕ
 sign o f r = bytes " " ++ (bytes (ToString o) ++ (Space f ++ r))
 
 -- the format after an operator, one choice
-abbrev pub rightFormat : Operator → ExprFormatOption → ExprFormatOption
-rightFormat o format = pick (breaksLine o) format SingleLine
+abbrev pub right_format : Operator → ExprFormatOption → ExprFormatOption
+right_format o format = pick (breaks_line o) format SingleLine
 
 module _ (text : List ℕ) (step : ℕ) where
   -- the names of the text
@@ -35,7 +35,7 @@ module _ (text : List ℕ) (step : ℕ) where
 
   -- a name as its part of the text
   abbrev name : N → List ℕ
-  name = nameIn text
+  name = name_in text
 
   -- an expression in a context and a format
   abbrev expr : Expr N → BindingPower → ExprFormatOption → List ℕ → List ℕ
@@ -66,20 +66,20 @@ module _ (text : List ℕ) (step : ℕ) where
   let-print n t d e context format = refl
 
   -- a quantifier's patterns and body, in a format one step deeper
-  abbrev pub quantifierTail : Patterns N → Expr N → BindingPower → ExprFormatOption → List ℕ → List ℕ
-  quantifierTail ps e context ind r = patterns name step ps ind (Space ind ++ body e context ind r)
+  abbrev pub quantifier_tail : Patterns N → Expr N → BindingPower → ExprFormatOption → List ℕ → List ℕ
+  quantifier_tail ps e context ind r = patterns name step ps ind (Space ind ++ body e context ind r)
 
   -- QuantifierExpr
   pub quantifier-print : (u : Bool) (bs : List (Binding N)) (ps : Patterns N) (e : Expr N) (context : BindingPower) (format : ExprFormatOption)
       → expr (QuantifierExpr u bs ps e) context format
-      ≡ (λ r. Parenthesis Left EndlessOperator context ++ Bindings name (bytes (quantifierText u)) bs (quantifierTail ps e context (More step format) r))
+      ≡ (λ r. Parenthesis Left EndlessOperator context ++ Bindings name (bytes (quantifier_text u)) bs (quantifier_tail ps e context (More step format) r))
   unfolding Expression
   quantifier-print u bs ps e context format = refl
 
   -- ClosureExpr
   pub closure-print : (bs : ClosureBindings N) (n t : N) (ps : ClosureProperties N) (context : BindingPower) (format : ExprFormatOption)
       → expr (ClosureExpr bs n t ps) context format
-      ≡ (λ r. bytes "lift " ++ closureBindings name step bs []
+      ≡ (λ r. bytes "lift " ++ closure_bindings name step bs []
       (bytes " into " ++ (name n ++ (bytes ": " ++ (name t ++ (bytes " by { " ++ properties name step ps [] (bytes " }" ++ r)))))))
   unfolding Expression
   closure-print bs n t ps context format = refl
@@ -106,15 +106,15 @@ module _ (text : List ℕ) (step : ℕ) where
 
   -- a closure's bindings
   pub closures-print : (sep : List ℕ) (n : N) (ps : List (Binding N)) (e : Expr N) (bs : ClosureBindings N)
-      → closureBindings name step (closureBinding n ps e bs) sep
-      ≡ (λ r. sep ++ (name n ++ parameters name ps (bytes " := " ++ expr e Init SingleLine (closureBindings name step bs (bytes ", ") r))))
-  unfolding closureBindings
+      → closure_bindings name step (closure_binding n ps e bs) sep
+      ≡ (λ r. sep ++ (name n ++ parameters name ps (bytes " := " ++ expr e Init SingleLine (closure_bindings name step bs (bytes ", ") r))))
+  unfolding closure_bindings
   closures-print sep n ps e bs = refl
 
   -- a closure's properties
   pub properties-print : (sep : List ℕ) (ts : Patterns N) (e : Expr N) (ps : ClosureProperties N)
-      → properties name step (closureProperty ts e ps) sep
-      ≡ (λ r. sep ++ triggers name step ts (bytes (triggersEnd ts) ++ expr e Init SingleLine (properties name step ps (bytes ", ") r)))
+      → properties name step (closure_property ts e ps) sep
+      ≡ (λ r. sep ++ triggers name step ts (bytes (triggers_end ts) ++ expr e Init SingleLine (properties name step ps (bytes ", ") r)))
   unfolding properties
   properties-print sep ts e ps = refl
 
@@ -124,7 +124,7 @@ module _ (text : List ℕ) (step : ℕ) where
   pub operator-print : (o : Operator) (es : Exprs N) (context : BindingPower) (format : ExprFormatOption)
       → expr (OperatorExpr o es) context format
       ≡ (λ r. Parenthesis Left (BindingStrength o) context
-      ++ operatorForm step o (operands name step es) context format (Parenthesis Right (BindingStrength o) context ++ r))
+      ++ operator_form step o (operands name step es) context format (Parenthesis Right (BindingStrength o) context ++ r))
   unfolding Expression
   operator-print o es context format = refl
 
@@ -132,42 +132,42 @@ module _ (text : List ℕ) (step : ℕ) where
   pub binary-print : (o : Operator) (a b : Expr N) (context : BindingPower) (format : ExprFormatOption)
       → binary o (operand text step a) (operand text step b) context format
       ≡ (λ r. expr a (SubexpressionPower (BindingStrength o) Left context) SingleLine
-      (sign o (rightFormat o format) (expr b (SubexpressionPower (BindingStrength o) Right context) (rightFormat o format) r)))
-  binary-print o a b context format = by-test (breaksLine o)
+      (sign o (right_format o format) (expr b (SubexpressionPower (BindingStrength o) Right context) (right_format o format) r)))
+  binary-print o a b context format = by-test (breaks_line o)
     where
       by-test : (v : Bool)
           → ◌≡◌ {A = List ℕ → List ℕ}
           (λ r. expr a (SubexpressionPower (BindingStrength o) Left context) SingleLine
-          (bytes " " ++ (bytes (ToString o) ++ rightOperand v (operand text step b) (SubexpressionPower (BindingStrength o) Right context) format r)))
+          (bytes " " ++ (bytes (ToString o) ++ right_operand v (operand text step b) (SubexpressionPower (BindingStrength o) Right context) format r)))
           (λ r. expr a (SubexpressionPower (BindingStrength o) Left context) SingleLine
           (sign o (pick v format SingleLine) (expr b (SubexpressionPower (BindingStrength o) Right context) (pick v format SingleLine) r)))
       by-test true = refl
       by-test false = refl
 
   -- the space before the expression after `else`, and its format
-  abbrev pub elseSpace : Expr N → ExprFormatOption → List ℕ
-  elseSpace c format = Space (pick (isIf c) SingleLine (More step format))
+  abbrev pub else_space : Expr N → ExprFormatOption → List ℕ
+  else_space c format = Space (pick (is_if c) SingleLine (More step format))
 
   -- the format of the expression after `else`
-  abbrev pub elseFormat : Expr N → ExprFormatOption → ExprFormatOption
-  elseFormat c format = pick (isIf c) format (More step format)
+  abbrev pub else_format : Expr N → ExprFormatOption → ExprFormatOption
+  else_format c format = pick (is_if c) format (More step format)
 
   -- a conditional's branches, the first in a format one step deeper
   abbrev pub branches : Operator → Expr N → Expr N → BindingPower → ExprFormatOption → ExprFormatOption → List ℕ → List ℕ
   branches o b c context format ind r =
       Space ind ++ expr b Init ind
-      (Space format ++ (bytes "else" ++ (elseSpace c format ++ expr c (SubexpressionPower (BindingStrength o) Right context) (elseFormat c format) r)))
+      (Space format ++ (bytes "else" ++ (else_space c format ++ expr c (SubexpressionPower (BindingStrength o) Right context) (else_format c format) r)))
 
   -- an IfThenElse of three operands
   pub conditional-print : (o : Operator) (a b c : Expr N) (context : BindingPower) (format : ExprFormatOption)
       → conditional step o (operand text step a) (operand text step b) (operand text step c) context format
       ≡ (λ r. bytes "if " ++ expr a Init SingleLine (branches o b c context format (More step format) r))
-  conditional-print o a b c context format = by-test (isIf c)
+  conditional-print o a b c context format = by-test (is_if c)
     where
       by-test : (v : Bool)
           → ◌≡◌ {A = List ℕ → List ℕ}
           (λ r. bytes "if " ++ expr a Init SingleLine (Space (More step format) ++ expr b Init (More step format)
-          (Space format ++ (bytes "else" ++ elseBranch v (operand text step c) (SubexpressionPower (BindingStrength o) Right context) format (More step format) r))))
+          (Space format ++ (bytes "else" ++ else_branch v (operand text step c) (SubexpressionPower (BindingStrength o) Right context) format (More step format) r))))
           (λ r. bytes "if " ++ expr a Init SingleLine (Space (More step format) ++ expr b Init (More step format)
           (Space format ++ (bytes "else" ++ (Space (pick v SingleLine (More step format)) ++ expr c (SubexpressionPower (BindingStrength o) Right context) (pick v format (More step format)) r)))))
       by-test true = refl

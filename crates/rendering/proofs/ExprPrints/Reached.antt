@@ -5,18 +5,18 @@ use mathlib.Core.Path.{◌≡◌, sym, ap, ◌∙◌, subst}
 use mathlib.Core.List.{List}
 use lib.ListN.{length}
 use Rattle.tree.specs.Ast.{Expr}
-use Rattle.tree.specs.Words.{exprWords}
+use Rattle.tree.specs.Words.{expr_words}
 use Rattle.tree.specs.Check.{NameIn}
 use Rattle.tree.specs.Counted.{CountedExpr}
 use Rattle.rendering.specs.declared.parts.Advance.{Advance}
 use Rattle.layout.specs.declared.power.BindingPower.{BindingPower}
 use Rattle.layout.specs.declared.format.ExprFormatOption.{ExprFormatOption}
 use Rattle.layout.specs.declared.format.ExprFormatOption.TheVariants.{SingleLine, MultipleLines}
-use Rattle.layout.specs.PrintUtil.{More, Deeper, startIndent}
+use Rattle.layout.specs.PrintUtil.{More, Deeper, start_indent}
 use Rattle.layout.specs.Indents.{held-format}
 use Rattle.layout.specs.Printer.{Expression}
-use Rattle.rendering.specs.Tables.{nameIn}
-use Rattle.rendering.specs.ExprParts.{Ready, anExpr}
+use Rattle.rendering.specs.Tables.{name_in}
+use Rattle.rendering.specs.ExprParts.{Ready, an_expr}
 use Rattle.rendering.specs.Wrote.{Wrote}
 use Rattle.rendering.specs.Parts.{Part, Done, Prints}
 use Rattle.rendering.proofs.Places.{Origin, Begun, PlaceOf, start, seen, print-of, ready-deeper}
@@ -53,24 +53,24 @@ sooner l k h m = let i = l.origin.known.inside in let r = l.origin.known.ranked 
 -- ---- formats and contexts
 
 -- one step deeper is a step more at most
-pub more-indent : (step : ℕ) (f : ExprFormatOption) → startIndent (More step f) ≤ startIndent f + step
+pub more-indent : (step : ℕ) (f : ExprFormatOption) → start_indent (More step f) ≤ start_indent f + step
 more-indent step SingleLine = omega arith
 more-indent step (MultipleLines i) = omega arith
 
 -- the format one step deeper, where a tree stands
-pub deeper-is : (o : Origin Call) (f : ExprFormatOption) → Ready o.table o.known.step o.at (startIndent f) → Deeper o.known.step f ≡ More o.known.step f
+pub deeper-is : (o : Origin Call) (f : ExprFormatOption) → Ready o.table o.known.step o.at (start_indent f) → Deeper o.known.step f ≡ More o.known.step f
 deeper-is o f k = held-format o.known.step f (let l = o.known.inside in let n = k.few in let s = k.short in let r = k.room in omega arith)
 
 -- the same of a format that was computed
 pub one_deeper : (l : Reached) {m : ExprFormatOption} → m ≡ Deeper l.origin.known.step l.origin.known.format
-    → Ready l.origin.table l.origin.known.step l.origin.at (startIndent l.origin.known.format) → m ≡ More l.origin.known.step l.origin.known.format
+    → Ready l.origin.table l.origin.known.step l.origin.at (start_indent l.origin.known.format) → m ≡ More l.origin.known.step l.origin.known.format
 one_deeper l e k = e ∙ deeper-is l.origin l.origin.known.format k
 
 -- the same of a format one step deeper
 pub ready-more : (l : Reached) {m : ExprFormatOption} → 1 ≤ l.taken → m ≡ Deeper l.origin.known.step l.origin.known.format
-    → Ready l.origin.table l.origin.known.step l.origin.at (startIndent l.origin.known.format) → Ready l.origin.table l.origin.known.step l.next (startIndent m)
+    → Ready l.origin.table l.origin.known.step l.origin.at (start_indent l.origin.known.format) → Ready l.origin.table l.origin.known.step l.next (start_indent m)
 ready-more l {m} h e k =
-    let s : startIndent m ≡ startIndent (More l.origin.known.step l.origin.known.format) = ap startIndent (one_deeper l e k) in
+    let s : start_indent m ≡ start_indent (More l.origin.known.step l.origin.known.format) = ap start_indent (one_deeper l e k) in
     let i = more-indent l.origin.known.step l.origin.known.format in
     ready-deeper l h (omega arith) k
 
@@ -85,19 +85,19 @@ same-print {A} F {b = b} {p = p} {b₁ = b₁} {p₁ = p₁} e w = subst (λ (x 
 
 -- an expression's print in a context and a format that are equal
 pub in-terms : (txt : List ℕ) (step : ℕ) (e : Expr (NameIn (length txt))) {c d : BindingPower} {f g : ExprFormatOption} {table rest b : List ℕ} {p : ℕ} {b₁ : List ℕ} {s : Advance} → c ≡ d → f ≡ g
-    → Done table (λ r. Expression (nameIn txt) step e c f r) rest b p b₁ s → Done table (λ r. Expression (nameIn txt) step e d g r) rest b p b₁ s
+    → Done table (λ r. Expression (name_in txt) step e c f r) rest b p b₁ s → Done table (λ r. Expression (name_in txt) step e d g r) rest b p b₁ s
 in-terms txt step e {d = d} {f = f} {table = table} {rest = rest} {b = b} {p = p} {b₁ = b₁} {s = s} h k x =
-    subst (λ (v : ExprFormatOption). Done table (λ r. Expression (nameIn txt) step e d v r) rest b p b₁ s) k
-    (subst (λ (v : BindingPower). Done table (λ r. Expression (nameIn txt) step e v f r) rest b p b₁ s) h x)
+    subst (λ (v : ExprFormatOption). Done table (λ r. Expression (name_in txt) step e d v r) rest b p b₁ s) k
+    (subst (λ (v : BindingPower). Done table (λ r. Expression (name_in txt) step e v f r) rest b p b₁ s) h x)
 
 -- an expression was printed, in a context and a format that the definition has in other terms
 abbrev pub expression : (l : Reached) (f : ExprFormatOption) {c : BindingPower} {b : List ℕ} {s : Advance}
-    → Prints (anExpr l.origin.known.text l.origin.table l.origin.known.counts l.origin.known.step l.next c f) l.origin.table l.next l.buffer l.pos b s
+    → Prints (an_expr l.origin.known.text l.origin.table l.origin.known.counts l.origin.known.step l.next c f) l.origin.table l.next l.buffer l.pos b s
     → (of : Begun l.origin → Expr (NameIn (length l.origin.known.text))) (ws : Begun l.origin → List ℕ)
-    → ((x : Begun l.origin) → Ready l.origin.table l.origin.known.step l.next (startIndent f) × CountedExpr (λ n. n.span) l.origin.known.counts (length l.origin.table) (of x) (ws x))
+    → ((x : Begun l.origin) → Ready l.origin.table l.origin.known.step l.next (start_indent f) × CountedExpr (λ n. n.span) l.origin.known.counts (length l.origin.table) (of x) (ws x))
     → (C : Begun l.origin → BindingPower) (F : Begun l.origin → ExprFormatOption) → ((x : Begun l.origin) → c ≡ C x) → ((x : Begun l.origin) → f ≡ F x)
-    → (Y : Begun l.origin → List ℕ → List ℕ) → ((x : Begun l.origin) → l.words x ≡ exprWords (λ n. n.span) (of x) (ws x))
-    → ((x : Begun l.origin) → l.print x ≡ (λ r. Expression (nameIn l.origin.known.text) l.origin.known.step (of x) (C x) (F x) (Y x r))) → Reached
+    → (Y : Begun l.origin → List ℕ → List ℕ) → ((x : Begun l.origin) → l.words x ≡ expr_words (λ n. n.span) (of x) (ws x))
+    → ((x : Begun l.origin) → l.print x ≡ (λ r. Expression (name_in l.origin.known.text) l.origin.known.step (of x) (C x) (F x) (Y x r))) → Reached
 expression l f q of ws g C F c d Y h k =
-    print-of l (λ x r. Expression (nameIn l.origin.known.text) l.origin.known.step (of x) (C x) (F x) r) ws Y q.forward
+    print-of l (λ x r. Expression (name_in l.origin.known.text) l.origin.known.step (of x) (C x) (F x) r) ws Y q.forward
     (λ x. in-terms l.origin.known.text l.origin.known.step (of x) (c x) (d x) (q.prints (of x) (ws x) (g x) (l.left x ∙ h x))) k

@@ -5,7 +5,7 @@ use mathlib.Core.Path.{◌≡◌, refl, ◌∙◌}
 use mathlib.Core.Bool.{Bool, true, false}
 use mathlib.Core.List.{List, [], ◌∷◌}
 use lib.ListN.{length, drop, get_or}
-use Rattle.tree.specs.Words.{boolWord}
+use Rattle.tree.specs.Words.{bool_word}
 use Rattle.tree.specs.Walk.{head_at}
 use Rattle.rendering.specs.declared.parts.Advance.{Advance}
 use Rattle.rendering.specs.Wrote.{Wrote}
@@ -69,7 +69,7 @@ Tells true g = g ≡ 0 → ⊥
 Tells false g = g ≡ 0
 
 -- a test against 0 tells the Bool
-pub told : (v t : Bool) {g : ℕ} → Tells v g → g ≡ boolWord t → v ≡ t
+pub told : (v t : Bool) {g : ℕ} → Tells v g → g ≡ bool_word t → v ≡ t
 told true true h e = refl
 told true false h e = absurd (h e)
 told false true h e = absurd (omega arith)

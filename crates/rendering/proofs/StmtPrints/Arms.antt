@@ -8,17 +8,17 @@ use mathlib.Core.List.{List, ◌∷◌, ◌++◌}
 use lib.ListN.{length, drop, get_or}
 use Rattle.lexing.specs.Bytes.{bytes}
 use Rattle.tree.specs.Ast.{Stmt, VarDecl, Assign, Reinit, Block, Call, Check, Assume, Reach, Assert, AForall, Choose, If, IfCase, Loop, LabeledStmt, Exit, Return, Probe}
-use Rattle.tree.specs.Words.{stmtWords}
+use Rattle.tree.specs.Words.{stmt_words}
 use Rattle.tree.specs.Kind.{stmt}
-use Rattle.tree.specs.Trees.{namesIn}
+use Rattle.tree.specs.Trees.{names_in}
 use Rattle.tree.specs.Walk.{tree-at-word}
 use Rattle.rendering.specs.declared.parts.Advance.{Advance}
 use Rattle.layout.specs.Statements.{shown}
-use Rattle.rendering.specs.Tables.{nameIn}
+use Rattle.rendering.specs.Tables.{name_in}
 use Rattle.rendering.specs.ExprParts.{Ready}
 use Rattle.rendering.specs.Wrote.{Wrote}
 use Rattle.rendering.specs.Parts.{Part, Done, Prints, Next}
-use Rattle.rendering.specs.StmtParts.{Simple, N, free, stmtCounted, simplePart, anAssign, aReinit, aCallStmt, anExit, anExpressionStmt}
+use Rattle.rendering.specs.StmtParts.{Simple, N, free, stmt_counted, simple_part, an_assign, a_reinit, a_call_stmt, an_exit, an_expression_stmt}
 use Rattle.rendering.proofs.PartPrints.Joins.{word_at}
 
 -- further on an indent fits that fitted before
@@ -63,53 +63,53 @@ text-alone {at = at} w = record { forward = le_refl at; prints = λ t rest g d. 
 module _ (text table counts : List ℕ) (step at : ℕ) {g : ℕ} (e : g ≡ get_or table at 0) (indent : ℕ) (followed : Bool) {b : List ℕ} {p : ℕ} {b₁ : List ℕ} where
   module _ {inner : ℕ} (n : Next table at inner) where
     -- word 22
-    pub is-assign : {s : Advance} → g ≡ 22 → Prints (anAssign text table counts step inner 0) table inner b p b₁ s → Prints (simplePart text table counts step at indent followed) table at b p b₁ s
+    pub is-assign : {s : Advance} → g ≡ 22 → Prints (an_assign text table counts step inner 0) table inner b p b₁ s → Prints (simple_part text table counts step at indent followed) table at b p b₁ s
     unfolding shown
     is-assign w x =
-        after-word (simplePart text table counts step at indent followed) (anAssign text table counts step inner 0) (λ a. Assign a.0 a.1) table at
-        (λ t rest d. let o = tree-at-word (namesIn (length text)) table at stmt t rest 22 d (sym e ∙ w) in ((o.0.0, o.0.1.0), o.1))
+        after-word (simple_part text table counts step at indent followed) (an_assign text table counts step inner 0) (λ a. Assign a.0 a.1) table at
+        (λ t rest d. let o = tree-at-word (names_in (length text)) table at stmt t rest 22 d (sym e ∙ w) in ((o.0.0, o.0.1.0), o.1))
         (λ a rest k. (on n.forward k.1, k.2)) (λ a. refl) 22 (λ a rest. refl) n x
 
     -- word 23
-    pub is-reinit : {s : Advance} → g ≡ 23 → Prints (aReinit text table counts step inner 0) table inner b p b₁ s → Prints (simplePart text table counts step at indent followed) table at b p b₁ s
+    pub is-reinit : {s : Advance} → g ≡ 23 → Prints (a_reinit text table counts step inner 0) table inner b p b₁ s → Prints (simple_part text table counts step at indent followed) table at b p b₁ s
     unfolding shown
     is-reinit w x =
-        after-word (simplePart text table counts step at indent followed) (aReinit text table counts step inner 0) (λ a. Reinit a) table at
-        (λ t rest d. let o = tree-at-word (namesIn (length text)) table at stmt t rest 23 d (sym e ∙ w) in (o.0.0, o.1))
+        after-word (simple_part text table counts step at indent followed) (a_reinit text table counts step inner 0) (λ a. Reinit a) table at
+        (λ t rest d. let o = tree-at-word (names_in (length text)) table at stmt t rest 23 d (sym e ∙ w) in (o.0.0, o.1))
         (λ a rest k. (on n.forward k.1, tt)) (λ a. refl) 23 (λ a rest. refl) n x
 
     -- word 25
-    pub is_call : {s : Advance} → g ≡ 25 → Prints (aCallStmt text table counts step inner 0) table inner b p b₁ s → Prints (simplePart text table counts step at indent followed) table at b p b₁ s
+    pub is_call : {s : Advance} → g ≡ 25 → Prints (a_call_stmt text table counts step inner 0) table inner b p b₁ s → Prints (simple_part text table counts step at indent followed) table at b p b₁ s
     unfolding shown
     is_call w x =
-        after-word (simplePart text table counts step at indent followed) (aCallStmt text table counts step inner 0) (λ a. Call a.0 a.1) table at
-        (λ t rest d. let o = tree-at-word (namesIn (length text)) table at stmt t rest 25 d (sym e ∙ w) in ((o.0.0, o.0.1.0), o.1))
+        after-word (simple_part text table counts step at indent followed) (a_call_stmt text table counts step inner 0) (λ a. Call a.0 a.1) table at
+        (λ t rest d. let o = tree-at-word (names_in (length text)) table at stmt t rest 25 d (sym e ∙ w) in ((o.0.0, o.0.1.0), o.1))
         (λ a rest k. (on n.forward k.1, k.2.1)) (λ a. refl) 25 (λ a rest. refl) n x
 
     -- word 36
-    pub is-exit : {s : Advance} → g ≡ 36 → Prints (anExit text) table inner b p b₁ s → Prints (simplePart text table counts step at indent followed) table at b p b₁ s
+    pub is-exit : {s : Advance} → g ≡ 36 → Prints (an_exit text) table inner b p b₁ s → Prints (simple_part text table counts step at indent followed) table at b p b₁ s
     unfolding shown
     is-exit w x =
-        after-word (simplePart text table counts step at indent followed) (anExit text) (λ a. Exit a) table at
-        (λ t rest d. let o = tree-at-word (namesIn (length text)) table at stmt t rest 36 d (sym e ∙ w) in (o.0.0, o.1))
+        after-word (simple_part text table counts step at indent followed) (an_exit text) (λ a. Exit a) table at
+        (λ t rest d. let o = tree-at-word (names_in (length text)) table at stmt t rest 36 d (sym e ∙ w) in (o.0.0, o.1))
         (λ a rest k. tt) (λ a. refl) 36 (λ a rest. refl) n x
 
     -- word 37
-    pub is-return : {p₁ : ℕ} → g ≡ 37 → Wrote (λ r. bytes "return\n" ++ r) b p b₁ p₁ → Prints (simplePart text table counts step at indent followed) table at b p b₁ (record { next = inner; pos = p₁ })
+    pub is-return : {p₁ : ℕ} → g ≡ 37 → Wrote (λ r. bytes "return\n" ++ r) b p b₁ p₁ → Prints (simple_part text table counts step at indent followed) table at b p b₁ (record { next = inner; pos = p₁ })
     unfolding shown
     is-return w x =
-        after-word (simplePart text table counts step at indent followed) (free (λ (u : Unit {0}) rest. rest) (λ u r. bytes "return\n" ++ r)) (λ a. Return) table at
-        (λ t rest d. let o = tree-at-word (namesIn (length text)) table at stmt t rest 37 d (sym e ∙ w) in (tt, o.1))
+        after-word (simple_part text table counts step at indent followed) (free (λ (u : Unit {0}) rest. rest) (λ u r. bytes "return\n" ++ r)) (λ a. Return) table at
+        (λ t rest d. let o = tree-at-word (names_in (length text)) table at stmt t rest 37 d (sym e ∙ w) in (tt, o.1))
         (λ a rest k. tt) (λ a. refl) 37 (λ a rest. refl) n (text-alone x)
 
   -- another word
-  pub is-expression : {s : Advance} → (g ≡ 22 → ⊥) → (g ≡ 23 → ⊥) → (g ≡ 25 → ⊥) → (g ≡ 36 → ⊥) → (g ≡ 37 → ⊥) → Prints (anExpressionStmt text table counts step at 0) table at b p b₁ s
-      → Prints (simplePart text table counts step at indent followed) table at b p b₁ s
+  pub is-expression : {s : Advance} → (g ≡ 22 → ⊥) → (g ≡ 23 → ⊥) → (g ≡ 25 → ⊥) → (g ≡ 36 → ⊥) → (g ≡ 37 → ⊥) → Prints (an_expression_stmt text table counts step at 0) table at b p b₁ s
+      → Prints (simple_part text table counts step at indent followed) table at b p b₁ s
   unfolding shown
   is-expression {s} h₂ h₃ h₅ h₆ h₇ x = record { forward = x.forward; prints = λ t rest k d. by_form t rest k.0 k.1 k.2 d }
     where
-      by_form : (t : Stmt (N text)) (rest : List ℕ) → Simple (get_or table at 0) → Ready table step at 0 → stmtCounted text table counts step at indent t rest
-          → drop at table ≡ stmtWords (λ n. n.span) t rest → Done table (λ r. (shown (nameIn text) step t).print indent followed r) rest b p b₁ s
+      by_form : (t : Stmt (N text)) (rest : List ℕ) → Simple (get_or table at 0) → Ready table step at 0 → stmt_counted text table counts step at indent t rest
+          → drop at table ≡ stmt_words (λ n. n.span) t rest → Done table (λ r. (shown (name_in text) step t).print indent followed r) rest b p b₁ s
       by_form (VarDecl v i t) rest k r c d = absurd (k.no-variable (word_at table at refl d))
       by_form (Assign n t) rest k r c d = absurd (h₂ (word_at table at e d))
       by_form (Reinit ns) rest k r c d = absurd (h₃ (word_at table at e d))

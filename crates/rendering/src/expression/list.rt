@@ -1,7 +1,7 @@
 // The sequences that hold expressions: each function prints the items from a place on and answers the place after them and the place in
 // the output.
 ghost use Rattle.rendering.specs.Parts.{Prints};
-ghost use Rattle.rendering.specs.ExprParts.{expressionList, patternList, triggerList, closureList, propertyList};
+ghost use Rattle.rendering.specs.ExprParts.{expression_list, pattern_list, trigger_list, closure_list, property_list};
 
 use crate::expression::expr;
 use crate::forms::pattern_head;
@@ -23,7 +23,7 @@ pub(crate) fn exprs(
     out: &mut [u8],
     pos: usize,
 ) -> Advance
-    ensures { Prints (expressionList text.now words.now counts.now step at first) words.now at out.old pos out.new result }
+    ensures { Prints (expression_list text.now words.now counts.now step at first) words.now at out.old pos out.new result }
 {
     let inner = after(words, at);
     if get(words, at) == NO_MORE {
@@ -56,7 +56,7 @@ pub(crate) fn patterns(
     out: &mut [u8],
     pos: usize,
 ) -> Advance
-    ensures { Prints (patternList text.now words.now counts.now step at ind) words.now at out.old pos out.new result }
+    ensures { Prints (pattern_list text.now words.now counts.now step at ind) words.now at out.old pos out.new result }
 {
     let inner = after(words, at);
     if get(words, at) == NO_MORE {
@@ -78,7 +78,7 @@ pub(crate) fn triggers(
     out: &mut [u8],
     pos: usize,
 ) -> Advance
-    ensures { Prints (triggerList text.now words.now counts.now step at) words.now at out.old pos out.new result }
+    ensures { Prints (trigger_list text.now words.now counts.now step at) words.now at out.old pos out.new result }
 {
     let inner = after(words, at);
     if get(words, at) == NO_MORE {
@@ -102,7 +102,7 @@ pub(crate) fn closures(
     out: &mut [u8],
     pos: usize,
 ) -> Advance
-    ensures { Prints (closureList text.now words.now counts.now step at first) words.now at out.old pos out.new result }
+    ensures { Prints (closure_list text.now words.now counts.now step at first) words.now at out.old pos out.new result }
 {
     let inner = after(words, at);
     if get(words, at) == NO_MORE {
@@ -135,7 +135,7 @@ pub(crate) fn properties(
     out: &mut [u8],
     pos: usize,
 ) -> Advance
-    ensures { Prints (propertyList text.now words.now counts.now step at first) words.now at out.old pos out.new result }
+    ensures { Prints (property_list text.now words.now counts.now step at first) words.now at out.old pos out.new result }
 {
     let inner = after(words, at);
     if get(words, at) == NO_MORE {

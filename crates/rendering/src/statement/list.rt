@@ -1,7 +1,7 @@
 // The sequences that hold statements: each function prints the items from a place on and answers the place after them and the place in
 // the output.
 ghost use Rattle.rendering.specs.Parts.{Prints};
-ghost use Rattle.rendering.specs.StmtParts.{statementList, lastStatements, branchList, caseSequence, aExprList};
+ghost use Rattle.rendering.specs.StmtParts.{statement_list, last_statements, branch_list, case_sequence, a_expr_list};
 
 use crate::around::{count_at, fewer};
 use crate::expression::expr;
@@ -24,7 +24,7 @@ pub(crate) fn list(
     out: &mut [u8],
     pos: usize,
 ) -> Advance
-    ensures { Prints (statementList text.now words.now counts.now step at indent) words.now at out.old pos out.new result }
+    ensures { Prints (statement_list text.now words.now counts.now step at indent) words.now at out.old pos out.new result }
 {
     stmts(
         text,
@@ -52,7 +52,7 @@ fn stmts(
     out: &mut [u8],
     pos: usize,
 ) -> Advance
-    ensures { Prints (lastStatements text.now words.now counts.now step at indent left) words.now at out.old pos out.new result }
+    ensures { Prints (last_statements text.now words.now counts.now step at indent left) words.now at out.old pos out.new result }
 {
     let inside = after(words, at);
     if get(words, at) == NO_MORE {
@@ -85,7 +85,7 @@ pub(crate) fn branches(
     out: &mut [u8],
     pos: usize,
 ) -> Advance
-    ensures { Prints (branchList text.now words.now counts.now step at indent) words.now at out.old pos out.new result }
+    ensures { Prints (branch_list text.now words.now counts.now step at indent) words.now at out.old pos out.new result }
 {
     let inside = after(words, at);
     if get(words, at) == NO_MORE {
@@ -108,7 +108,7 @@ pub(crate) fn cases(
     out: &mut [u8],
     pos: usize,
 ) -> Advance
-    ensures { Prints (caseSequence text.now words.now counts.now step at indent) words.now at out.old pos out.new result }
+    ensures { Prints (case_sequence text.now words.now counts.now step at indent) words.now at out.old pos out.new result }
 {
     let inside = after(words, at);
     if get(words, at) == NO_MORE {
@@ -145,7 +145,7 @@ pub(crate) fn aexprs(
     out: &mut [u8],
     pos: usize,
 ) -> Advance
-    ensures { Prints (aExprList text.now words.now counts.now step at indent prefix.now) words.now at out.old pos out.new result }
+    ensures { Prints (a_expr_list text.now words.now counts.now step at indent prefix.now) words.now at out.old pos out.new result }
 {
     let inside = after(words, at);
     if get(words, at) == NO_MORE {

@@ -7,10 +7,10 @@ use native.Mathlib.Omega.{arith}
 use lib.ListN.{length}
 use borrow.Author.Tests.{le-leb, lt-leb}
 use Rattle.tree.specs.Clash.{impossible}
-use Rattle.tree.specs.Limits.{mostWords}
+use Rattle.tree.specs.Limits.{most_words}
 use Rattle.tree.specs.Kind.{Kind}
 use Rattle.tree.specs.Check.{run, within, check}
-use Rattle.tree.specs.Notes.{kindNotes}
+use Rattle.tree.specs.Notes.{kind_notes}
 use Rattle.tree.specs.Tally.{marked, tally, counts}
 use Rattle.tree.specs.declared.Checked.{Checked}
 use Rattle.tree.specs.declared.Checked.TheVariants.{Tree, TooLong}
@@ -20,15 +20,15 @@ use Rattle.tree.proofs.count.Tie as tie
 
 -- a table that is walked
 module _ (ks : List Kind) (words : List ℕ) (len : ℕ) (before kinds : List ℕ) {r : Checked} {after later : List ℕ} where
-  walked : length words ≤ mostWords
-      → (r ≡ run (within len) ks 0 words) × (after ≡ tally (within len) (marked ks none) 0 words before) × (r ≡ Tree → later ≡ kindNotes (within len) ks 0 words kinds)
-      → (r ≡ check ks words len) × (after ≡ counts ks words len before) × (r ≡ Tree → later ≡ kindNotes (within len) ks 0 words kinds)
-  walked h e = (e.0 ∙ sym (simp (le-leb (length words) mostWords h)), e.1 ∙ sym (simp (le-leb (length words) mostWords h)), e.2)
+  walked : length words ≤ most_words
+      → (r ≡ run (within len) ks 0 words) × (after ≡ tally (within len) (marked ks none) 0 words before) × (r ≡ Tree → later ≡ kind_notes (within len) ks 0 words kinds)
+      → (r ≡ check ks words len) × (after ≡ counts ks words len before) × (r ≡ Tree → later ≡ kind_notes (within len) ks 0 words kinds)
+  walked h e = (e.0 ∙ sym (simp (le-leb (length words) most_words h)), e.1 ∙ sym (simp (le-leb (length words) most_words h)), e.2)
 
 -- a table that is too long
-unwalked : (ks : List Kind) (words : List ℕ) (len : ℕ) (before kinds : List ℕ) → mostWords < length words
-    → (TooLong ≡ check ks words len) × (before ≡ counts ks words len before) × (TooLong ≡ Tree → kinds ≡ kindNotes (within len) ks 0 words kinds)
-unwalked ks words len before kinds h = (sym (simp (lt-leb (length words) mostWords h)), sym (simp (lt-leb (length words) mostWords h)), λ e. impossible cc)
+unwalked : (ks : List Kind) (words : List ℕ) (len : ℕ) (before kinds : List ℕ) → most_words < length words
+    → (TooLong ≡ check ks words len) × (before ≡ counts ks words len before) × (TooLong ≡ Tree → kinds ≡ kind_notes (within len) ks 0 words kinds)
+unwalked ks words len before kinds h = (sym (simp (lt-leb (length words) most_words h)), sym (simp (lt-leb (length words) most_words h)), λ e. impossible cc)
 
 returns : tie.Need-returns
 returns c = walked _ _ _ _ _ (omega arith) c.before.before.before.before.before.walk.ensures

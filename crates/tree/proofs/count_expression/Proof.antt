@@ -1,15 +1,15 @@
 -- `count_expression` meets its contract: the row EXPR is the kind `expr`, by computation.
 use mathlib.Core.Path.{ap}
-use Rattle.tree.specs.Check.{checkExpression, expressionRefusal, refusal}
-use Rattle.tree.specs.Tally.{expressionCounts}
+use Rattle.tree.specs.Check.{check_expression, expression_refusal, refusal}
+use Rattle.tree.specs.Tally.{expression_counts}
 use Rattle.tree.specs.KindNumbers.{kind_of}
-use Rattle.tree.specs.Rows.{digits, kindsOf}
+use Rattle.tree.specs.Rows.{digits, kinds_of}
 use borrow.Author.Rules.{rules}
 use Rattle.tree.proofs.count_expression.Statement.{statement}
 use Rattle.tree.proofs.count_expression.Tie as tie
 
 returns : tie.Need-returns
-unfolding checkExpression expressionRefusal expressionCounts kindsOf digits kind_of
+unfolding check_expression expression_refusal expression_counts kinds_of digits kind_of
 returns c = (ap refusal c.before.before.before.count.ensures.0, c.before.before.before.count.ensures.1)
 
 pub count-expression-spec : {M : Type 1} → statement M

@@ -1,15 +1,15 @@
 -- `count_program` meets its contract: the row PROGRAM is the kinds of a program's fields, by computation.
 use mathlib.Core.Path.{ap}
-use Rattle.tree.specs.Check.{checkProgram, programRefusal, refusal}
-use Rattle.tree.specs.Tally.{programCounts}
+use Rattle.tree.specs.Check.{check_program, program_refusal, refusal}
+use Rattle.tree.specs.Tally.{program_counts}
 use Rattle.tree.specs.KindNumbers.{kind_of}
-use Rattle.tree.specs.Rows.{digits, kindsOf}
+use Rattle.tree.specs.Rows.{digits, kinds_of}
 use borrow.Author.Rules.{rules}
 use Rattle.tree.proofs.count_program.Statement.{statement}
 use Rattle.tree.proofs.count_program.Tie as tie
 
 returns : tie.Need-returns
-unfolding checkProgram programRefusal programCounts kindsOf digits kind_of
+unfolding check_program program_refusal program_counts kinds_of digits kind_of
 returns c = (ap refusal c.before.before.before.count.ensures.0, c.before.before.before.count.ensures.1)
 
 pub count-program-spec : {M : Type 1} → statement M

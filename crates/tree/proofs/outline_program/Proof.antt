@@ -2,31 +2,31 @@
 use borrow.Author.Rules.{rules}
 use native.Mathlib.Omega.{arith}
 use mathlib.Core.Path.{refl, sym, ap, ◌∙◌}
-use Rattle.tree.specs.Check.{checkProgram, refusal, programRefusal}
+use Rattle.tree.specs.Check.{check_program, refusal, program_refusal}
 use Rattle.tree.specs.KindNumbers.{kind_of}
-use Rattle.tree.specs.Rows.{digits, kindsOf}
+use Rattle.tree.specs.Rows.{digits, kinds_of}
 use Rattle.tree.proofs.OutlineAnswers.{accepted, refusal-of, refused-keeps, kinds-copied, ends-copied}
 use Rattle.tree.proofs.outline_program.Statement.{statement}
 use Rattle.tree.proofs.outline_program.Tie as tie
 
 find-ends-requires : tie.Need-find-ends-requires
-unfolding checkProgram kindsOf digits kind_of
+unfolding check_program kinds_of digits kind_of
 find-ends-requires c κs = (accepted c.before.before.before.before.before.before.before.before.before.before.before.before.before.before.args.words.now c.before.before.before.before.before.before.before.before.before.before.before.before.before.before.args.text-len c.before.before.before.enum_told.given.1 c.before.before.before.before.before.before.before.count.ensures.0).0
 
 fill-requires : tie.Need-fill-requires
-unfolding checkProgram kindsOf digits kind_of
+unfolding check_program kinds_of digits kind_of
 fill-requires c κs =
     let a = accepted c.before.before.before.before.before.before.before.before.before.before.before.before.before.before.before.before.before.before.args.words.now c.before.before.before.before.before.before.before.before.before.before.before.before.before.before.before.before.before.before.args.text-len c.before.before.before.before.before.before.before.enum_told.given.1 c.before.before.before.before.before.before.before.before.before.before.before.count.ensures.0 in
     omega (arith, a.0, c.before.before.before.before.before.before.before.before.before.noted2.given, c.before.before.before.before.before.before.before.before.before.before.before.before.before.before.blank.ensures)
 
 fill-requires-2 : tie.Need-fill-requires-2
-unfolding checkProgram kindsOf digits kind_of
+unfolding check_program kinds_of digits kind_of
 fill-requires-2 c κs =
     let a = accepted c.before.before.before.before.before.before.before.before.before.before.before.before.before.before.before.before.before.before.before.before.before.before.before.args.words.now c.before.before.before.before.before.before.before.before.before.before.before.before.before.before.before.before.before.before.before.before.before.before.before.args.text-len c.before.before.before.before.before.before.before.before.before.before.before.before.enum_told.given.1 c.before.before.before.before.before.before.before.before.before.before.before.before.before.before.before.before.count.ensures.0 in
     omega (arith, a.0, c.before.before.before.before.before.before.before.found2.given, c.before.before.before.before.before.before.before.before.before.before.before.blank2.ensures)
 
 returns : tie.Need-returns
-unfolding checkProgram programRefusal kindsOf digits kind_of
+unfolding check_program program_refusal kinds_of digits kind_of
 returns c =
     let s = c.before.before.before.before.before.before.before.before.before.before.before.before.before.before.before.before.before.before.before.before.before.before.before.before.before.before.args in
     let w = s.words.now in
@@ -40,7 +40,7 @@ returns c =
     )
 
 returns-2 : tie.Need-returns-2
-unfolding checkProgram programRefusal kindsOf digits kind_of
+unfolding check_program program_refusal kinds_of digits kind_of
 returns-2 c =
     let s = c.before.before.before.before.before.before.before.before.before.before.before.before.args in
     let h = sym c.before.checked.given.1 ∙ c.before.before.before.before.before.count.ensures.0 in
@@ -48,7 +48,7 @@ returns-2 c =
     (ap refusal h, (refused-keeps s.words.now s.text-len e s.kinds.now).0, (refused-keeps s.words.now s.text-len e s.ends.now).1)
 
 returns-3 : tie.Need-returns-3
-unfolding checkProgram programRefusal kindsOf digits kind_of
+unfolding check_program program_refusal kinds_of digits kind_of
 returns-3 c =
     let s = c.before.before.before.before.before.before.before.before.before.before.before.args in
     let h = sym c.enum-told2.given.1 ∙ c.before.before.before.before.count.ensures.0 in

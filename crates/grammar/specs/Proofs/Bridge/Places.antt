@@ -5,15 +5,15 @@ use Rattle.std.proofs.Math.Path.{refl, sym, ap}
 use mathlib.Core.List.{List, [], ◌∷◌}
 use Rattle.std.proofs.Math.Option.{Option, none}
 use Rattle.std.proofs.Math.Seq.{drop-drop}
-use Rattle.lexing.specs.Answer.{Answer, ok, refused, unclosedComment, pick}
-use Rattle.lexing.specs.Bytes.{isDigit, run, starts_with, bytes}
+use Rattle.lexing.specs.Answer.{Answer, ok, refused, unclosed_comment, pick}
+use Rattle.lexing.specs.Bytes.{is_digit, run, starts_with, bytes}
 use Rattle.lexing.specs.Blanks.{Blanks, passed, unclosed, W}
 use Rattle.lexing.specs.RunLaws.{run_inside}
 use Rattle.lexing.specs.BlankLaws.{W-inside}
-use Rattle.lexing.specs.Tokens.{identifierLength, mostNatural}
-use Rattle.lexing.specs.TokenLaws.{identifier-inside, startsWith-inside}
-use Rattle.grammar.specs.Tokens.{Token, name, nat, mark, sign, illegal, Spelling, ◌is◌, signs, Cut, token, nothing, signAt, naturalAt, name_at}
-use Rattle.grammar.specs.Tokens.{tokenAt, tokensAfter, afterBlanks, cut}
+use Rattle.lexing.specs.Tokens.{identifier_length, most_natural}
+use Rattle.lexing.specs.TokenLaws.{identifier-inside, starts_with-inside}
+use Rattle.grammar.specs.Tokens.{Token, name, nat, mark, sign, illegal, Spelling, ◌is◌, signs, Cut, token, nothing, sign_at, natural_at, name_at}
+use Rattle.grammar.specs.Tokens.{token_at, tokens_after, after_blanks, cut}
 use Rattle.tree.specs.Clash.{impossible}
 use Rattle.grammar.specs.Proofs.Laws.Stops.{Misses}
 use Rattle.grammar.specs.Proofs.Laws.Limited.{limited}
@@ -23,7 +23,7 @@ use Rattle.grammar.specs.Proofs.Bridge.Relation.{tokens}
 -- a natural past the limit is illegal
 abbrev pub limit : Token → Token
 limit (name w) = name w
-limit (nat n) = pick (leb n mostNatural) (nat n) illegal
+limit (nat n) = pick (leb n most_natural) (nat n) illegal
 limit (mark k) = mark k
 limit (sign g) = sign g
 limit illegal = illegal
@@ -37,29 +37,29 @@ limited-first (sign g) ts = refl
 limited-first illegal ts = refl
 
 -- a token lies inside the text
-sign-inside : (g : List Spelling) (s : List ℕ) {o : Token} {n : ℕ} → signAt g s ≡ token o n → n ≤ length s
-unfolding signAt
+sign-inside : (g : List Spelling) (s : List ℕ) {o : Token} {n : ℕ} → sign_at g s ≡ token o n → n ≤ length s
+unfolding sign_at
 sign-inside [] s e = impossible (cc)
 sign-inside (◌is◌ w t ∷ g) s {o} {n} e = by_sign (starts_with (bytes w) s) refl e (λ e. sign-inside g s e)
   where
-    by_sign : (x : Bool) → starts_with (bytes w) s ≡ x → (elim x as (λ _. Cut) [ true ↦ token t (length (bytes w)) | false ↦ signAt g s ]) ≡ token o n
-        → (signAt g s ≡ token o n → n ≤ length s) → n ≤ length s
-    by_sign true p e ih = let h : length (bytes w) ≡ n = cc in rw (← h) (startsWith-inside (bytes w) s p)
+    by_sign : (x : Bool) → starts_with (bytes w) s ≡ x → (elim x as (λ _. Cut) [ true ↦ token t (length (bytes w)) | false ↦ sign_at g s ]) ≡ token o n
+        → (sign_at g s ≡ token o n → n ≤ length s) → n ≤ length s
+    by_sign true p e ih = let h : length (bytes w) ≡ n = cc in rw (← h) (starts_with-inside (bytes w) s p)
     by_sign false p e ih = ih e
 
-natural-inside : (k : ℕ) (s : List ℕ) {o : Token} {n : ℕ} → k ≤ length s → naturalAt k s ≡ token o n → n ≤ length s
-unfolding naturalAt
+natural-inside : (k : ℕ) (s : List ℕ) {o : Token} {n : ℕ} → k ≤ length s → natural_at k s ≡ token o n → n ≤ length s
+unfolding natural_at
 natural-inside zero s h e = sign-inside signs s e
 natural-inside (suc k) s {n} h e = let i : suc k ≡ n = cc in rw (← i) h
 
 name-inside : (k : ℕ) (s : List ℕ) {o : Token} {n : ℕ} → k ≤ length s → name_at k s ≡ token o n → n ≤ length s
 unfolding name_at
-name-inside zero s h e = natural-inside (run isDigit s) s (run_inside isDigit s) e
+name-inside zero s h e = natural-inside (run is_digit s) s (run_inside is_digit s) e
 name-inside (suc k) s {n} h e = let i : suc k ≡ n = cc in rw (← i) h
 
-token-inside : (s : List ℕ) {o : Token} {n : ℕ} → tokenAt s ≡ token o n → n ≤ length s
-unfolding tokenAt
-token-inside s e = name-inside (identifierLength s) s (identifier-inside s) e
+token-inside : (s : List ℕ) {o : Token} {n : ℕ} → token_at s ≡ token o n → n ≤ length s
+unfolding token_at
+token-inside s e = name-inside (identifier_length s) s (identifier-inside s) e
 
 module _ (text : List ℕ) (at : ℕ) where
   -- the tokens after one of n bytes, by the blanks after it
@@ -68,20 +68,20 @@ module _ (text : List ℕ) (at : ℕ) where
   follow n (unclosed place) = illegal ∷ []
 
   -- a byte rule's answer with the value v after a token of n bytes
-  abbrev pub readThen : {A : Type 0} → A → ℕ → Blanks → Answer A
-  readThen v n (passed k) = ok v (at + (n + k))
-  readThen v n (unclosed place) = refused unclosedComment (at + (n + place))
+  abbrev pub read_then : {A : Type 0} → A → ℕ → Blanks → Answer A
+  read_then v n (passed k) = ok v (at + (n + k))
+  read_then v n (unclosed place) = refused unclosed_comment (at + (n + place))
 
-  follow-cut : (n : ℕ) (b : Blanks) → limited (afterBlanks b (λ k. tokensAfter k (drop n (drop at text)))) ≡ follow n b
+  follow-cut : (n : ℕ) (b : Blanks) → limited (after_blanks b (λ k. tokens_after k (drop n (drop at text)))) ≡ follow n b
   unfolding tokens
   follow-cut n (passed k) =
       ap limited
-      (tokens-drop k (drop n (drop at text)) ∙ ap (tokensAfter 0) (drop-drop k n (drop at text) ∙ drop-drop (n + k) at text)
+      (tokens-drop k (drop n (drop at text)) ∙ ap (tokens_after 0) (drop-drop k n (drop at text) ∙ drop-drop (n + k) at text)
       ∙ sym (tokens-drop (at + (n + k)) text))
   follow-cut n (unclosed place) = refl
 
   -- a token, and the tokens after its blanks
-  pub tokens-here : {o : Token} {n : ℕ} → tokenAt (drop at text) ≡ token o (suc n)
+  pub tokens-here : {o : Token} {n : ℕ} → token_at (drop at text) ≡ token o (suc n)
       → tokens text at ≡ limit o ∷ follow (suc n) (W (drop (suc n) (drop at text)))
   unfolding tokens cut
   tokens-here {o} {n} e =
@@ -89,7 +89,7 @@ module _ (text : List ℕ) (at : ℕ) where
       ∙ ap (λ l. limit o ∷ l) (follow-cut (suc n) (W (drop (suc n) (drop at text))))
 
   -- a token and its blanks lie inside the text
-  pub inside-here : {o : Token} {n k : ℕ} → tokenAt (drop at text) ≡ token o (suc n) → W (drop (suc n) (drop at text)) ≡ passed k
+  pub inside-here : {o : Token} {n k : ℕ} → token_at (drop at text) ≡ token o (suc n) → W (drop (suc n) (drop at text)) ≡ passed k
       → at + (suc n + k) ≤ length text
   inside-here {n} {k} e w =
       let i : suc n ≤ length (drop at text) = token-inside (drop at text) e in
@@ -97,10 +97,10 @@ module _ (text : List ℕ) (at : ℕ) where
       omega (arith, length-drop at text, length-drop (suc n) (drop at text))
 
   -- where no token can be cut
-  pub nothing-here : {X : Type 0} (look : Token → Option X) → look illegal ≡ none → tokenAt (drop at text) ≡ nothing → Misses look (tokens text at)
-  unfolding tokens tokensAfter
+  pub nothing-here : {X : Type 0} (look : Token → Option X) → look illegal ≡ none → token_at (drop at text) ≡ nothing → Misses look (tokens text at)
+  unfolding tokens tokens_after
   nothing-here look i e = rw (tokens-drop at text) (by_bytes (drop at text) e)
     where
-      by_bytes : (s : List ℕ) → tokenAt s ≡ nothing → Misses look (limited (tokensAfter 0 s))
+      by_bytes : (s : List ℕ) → token_at s ≡ nothing → Misses look (limited (tokens_after 0 s))
       by_bytes [] e = tt
       by_bytes (a ∷ s) e = rw (tokens-illegal a s e) i

@@ -2,7 +2,7 @@
 use Rattle.std.specs.Prelude.{ℕ, ◌≤◌, ◌≡◌, refl, List, ◌∷◌, length}
 use Rattle.std.proofs.Math.Option.{Option, some}
 use Rattle.lexing.specs.Answer.{Answer, ok, refused}
-use Rattle.grammar.specs.Tokens.{Token, illegal, tokensAfter}
+use Rattle.grammar.specs.Tokens.{Token, illegal, tokens_after}
 use Rattle.grammar.specs.Parser as parser
 use Rattle.grammar.specs.Parser.{Parsed, parsed, failed, see}
 use Rattle.grammar.specs.Steps.{after}
@@ -12,7 +12,7 @@ use Rattle.grammar.specs.Proofs.Laws.Stops.{Misses, see-misses}
 
 -- the tokens from a place on, a natural past the limit counted as illegal
 unfoldable pub tokens : List ℕ → ℕ → List Token
-tokens text at = limited (tokensAfter at text)
+tokens text at = limited (tokens_after at text)
 
 -- the token side can't go on: it fails, or an illegal token is next
 pub data Halted {A : Type 0} : Parsed A → Type 0 where

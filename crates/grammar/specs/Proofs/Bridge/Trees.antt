@@ -1,15 +1,15 @@
 -- Trees over a text that are no operator trees stay so under every operator and in every call.
 use Rattle.std.specs.Prelude.{ℕ, ◌≡◌, refl, List, true}
 use Rattle.tree.specs.Ast.{Span, Expr, BLiteral, ILiteral, CustomLiteral, IdExpr, OperatorExpr, FunctionCallExpr, LabeledExpr, LetExpr}
-use Rattle.tree.specs.Ast.{QuantifierExpr, ClosureExpr, Exprs, noExprs, ◌then◌, Operator}
+use Rattle.tree.specs.Ast.{QuantifierExpr, ClosureExpr, Exprs, no_exprs, ◌then◌, Operator}
 use Rattle.tree.specs.Resolve as resolved
-use Rattle.tree.specs.Resolve.{mapExprs, resolveExpr}
+use Rattle.tree.specs.Resolve.{map_exprs, resolve_expr}
 use Rattle.grammar.specs.Grammar.{Tree, Build, straight, swapped, build, single}
 use Rattle.grammar.specs.OperatorTrees.{Operators, AllOperators, OperatorTree}
 
 -- a list of trees over a text, with each name as its bytes
-abbrev pub resolveExprs : List ℕ → Exprs Span → Exprs (List ℕ)
-resolveExprs text = mapExprs (resolved.bytes_of text)
+abbrev pub resolve_exprs : List ℕ → Exprs Span → Exprs (List ℕ)
+resolve_exprs text = map_exprs (resolved.bytes_of text)
 
 -- a list of operator trees
 abbrev pub OperatorTrees : Exprs (List ℕ) → Type 0
@@ -17,17 +17,17 @@ OperatorTrees = AllOperators (λ w. true) (λ op u. true)
 
 -- no operator tree over the text
 abbrev pub Bad : List ℕ → Expr Span → Type 0
-Bad text e = OperatorTree (resolveExpr text e) → ⊥
+Bad text e = OperatorTree (resolve_expr text e) → ⊥
 
 -- a list with a tree that is no operator tree
 abbrev pub BadList : List ℕ → Exprs Span → Type 0
-BadList text es = OperatorTrees (resolveExprs text es) → ⊥
+BadList text es = OperatorTrees (resolve_exprs text es) → ⊥
 
 -- at most two operands
 abbrev pub Few : Exprs (List ℕ) → Type 0
-Few noExprs = Unit {0}
-Few (◌then◌ t noExprs) = Unit {0}
-Few (◌then◌ t (◌then◌ u noExprs)) = Unit {0}
+Few no_exprs = Unit {0}
+Few (◌then◌ t no_exprs) = Unit {0}
+Few (◌then◌ t (◌then◌ u no_exprs)) = Unit {0}
 Few (◌then◌ t (◌then◌ u (◌then◌ v es))) = ⊥
 
 -- the root of an operator tree
@@ -52,10 +52,10 @@ root (Operators.call n x) = tt
 root (Operators.unary n x) = tt
 root (Operators.binary n x y f) = tt
 
-binary-inv : {op : Operator} {t u : Tree} → OperatorTree (OperatorExpr op (◌then◌ t (◌then◌ u noExprs))) → OperatorTree t × OperatorTree u
+binary-inv : {op : Operator} {t u : Tree} → OperatorTree (OperatorExpr op (◌then◌ t (◌then◌ u no_exprs))) → OperatorTree t × OperatorTree u
 binary-inv (Operators.binary n x y f) = (x, y)
 
-unary-inv : {op : Operator} {t : Tree} → OperatorTree (OperatorExpr op (◌then◌ t noExprs)) → OperatorTree t
+unary-inv : {op : Operator} {t : Tree} → OperatorTree (OperatorExpr op (◌then◌ t no_exprs)) → OperatorTree t
 unary-inv (Operators.unary n x) = x
 
 call-inv : {w : List ℕ} {es : Exprs (List ℕ)} → OperatorTree (FunctionCallExpr w es) → OperatorTrees es
@@ -66,7 +66,7 @@ next-inv (AllOperators.next x y) = (x, y)
 
 module _ (text : List ℕ) where
   -- names as bytes before or after a tree is built
-  pub resolve-build : (b : Build) (e e' : Expr Span) → build b (resolveExpr text e) (resolveExpr text e') ≡ resolveExpr text (build b e e')
+  pub resolve-build : (b : Build) (e e' : Expr Span) → build b (resolve_expr text e) (resolve_expr text e') ≡ resolve_expr text (build b e e')
   resolve-build (straight op) e e' = refl
   resolve-build (swapped op) e e' = refl
 

@@ -6,21 +6,21 @@ use Rattle.std.proofs.Math.Path.{refl}
 use Rattle.std.proofs.Math.Bool.{true, false}
 use Rattle.std.proofs.Math.ListN.{drop}
 use Rattle.lexing.specs.Answer.{Answer, ok, moved}
-use Rattle.lexing.specs.Bytes.{isDigit, canStartIdentifierChar, run, starts_with, sameBytes, bytes}
+use Rattle.lexing.specs.Bytes.{is_digit, can_start_identifier_char, run, starts_with, same_bytes, bytes}
 use Rattle.lexing.specs.Blanks.{Blanks, passed, unclosed, W}
 use Rattle.lexing.specs.Tokens as lexing
-use Rattle.lexing.specs.Tokens.{closed, lexeme, identifierLength}
-use Rattle.lexing.specs.TokenLaws.{sameBytes-true, sameBytes-refl, startsWith-true}
+use Rattle.lexing.specs.Tokens.{closed, lexeme, identifier_length}
+use Rattle.lexing.specs.TokenLaws.{same_bytes-true, same_bytes-refl, starts_with-true}
 use Rattle.tree.specs.Ast.{Span, Expr, BLiteral, IdExpr}
 use Rattle.tree.specs.Resolve.{part}
-use Rattle.grammar.specs.Words.{one_of, isName}
+use Rattle.grammar.specs.Words.{one_of, is_name}
 use Rattle.grammar.specs.Tokens.{Token, name, lparen}
 use Rattle.grammar.specs.Grammar.{Tree}
-use Rattle.grammar.specs.Parser.{Parsed, parsed, failed, Parser, see, isNat, isWord, parseNamed, parseExcluded, parseOperand}
-use Rattle.grammar.specs.Steps.{Reader, after, T, Sym, signAt, spanned, parseName, parseNat}
+use Rattle.grammar.specs.Parser.{Parsed, parsed, failed, Parser, see, is_nat, is_word, parse_named, parse_excluded, parse_operand}
+use Rattle.grammar.specs.Steps.{Reader, after, T, Sym, sign_at, spanned, parse_name, parse_nat}
 use Rattle.grammar.specs.Rules as rules
 use Rattle.tree.specs.Clash.{impossible}
-use Rattle.grammar.specs.Proofs.Laws.Views.{speltMark}
+use Rattle.grammar.specs.Proofs.Laws.Views.{spelt_mark}
 use Rattle.grammar.specs.Proofs.Bridge.Relation.{Halted, fails, waits, Ends, refuses, reads, ends, absent, agree, dead}
 use Rattle.grammar.specs.Proofs.Bridge.Relation.{ends-then, dead-then}
 use Rattle.grammar.specs.Proofs.Bridge.Places.{follow}
@@ -58,44 +58,44 @@ unfolding after
 ends-or q refuses = refuses
 ends-or q (reads p) = reads p
 
-differ : (a b : List ℕ) → sameBytes a b ≡ false → sameBytes b a ≡ false
-differ a b e = by_bytes (sameBytes b a) refl
+differ : (a b : List ℕ) → same_bytes a b ≡ false → same_bytes b a ≡ false
+differ a b e = by_bytes (same_bytes b a) refl
   where
-    by_bytes : (x : Bool) → sameBytes b a ≡ x → x ≡ false
-    by_bytes true p = let q : b ≡ a = sameBytes-true b a p in impossible (cc (sameBytes-refl a))
+    by_bytes : (x : Bool) → same_bytes b a ≡ x → x ≡ false
+    by_bytes true p = let q : b ≡ a = same_bytes-true b a p in impossible (cc (same_bytes-refl a))
     by_bytes false p = refl
 
 -- A word of n bytes with the blanks b after it, at a place where neither a digit nor `|` nor `(` stands.
 module _ (text : List ℕ) (m : ℕ) {c : Reader (Expr Span)} {e : Parser} (l : Level text c e) (at n : ℕ)
-    (word : identifierLength (drop at text) ≡ suc n) (inside : (k : ℕ) → W (drop (suc n) (drop at text)) ≡ passed k → at + (suc n + k) ≤ length text) where
+    (word : identifier_length (drop at text) ≡ suc n) (inside : (k : ℕ) → W (drop (suc n) (drop at text)) ≡ passed k → at + (suc n + k) ≤ length text) where
   abbrev w : List ℕ
   w = take (suc n) (drop at text)
 
   abbrev b : Blanks
   b = W (drop (suc n) (drop at text))
 
-  keyword-here : (v : List ℕ) → sameBytes w v ≡ true → moved at (lexing.keyword v (drop at text)) ≡ moved at (closed 0 (suc n) b)
+  keyword-here : (v : List ℕ) → same_bytes w v ≡ true → moved at (lexing.keyword v (drop at text)) ≡ moved at (closed 0 (suc n) b)
   unfolding lexing.keyword lexeme
   keyword-here v p = rw (word, p) refl
 
-  keyword-not : (v : List ℕ) → sameBytes w v ≡ false → moved at (lexing.keyword v (drop at text)) ≡ Answer.none
+  keyword-not : (v : List ℕ) → same_bytes w v ≡ false → moved at (lexing.keyword v (drop at text)) ≡ Answer.none
   unfolding lexing.keyword
   keyword-not v p = rw (word, p) refl
 
   -- the branch of a keyword
   keyword-branch : (v : String) (go : ℕ → ℕ → Answer (Expr Span)) (q : Answer (Expr Span)) {o : Parsed Tree}
       → (w ≡ bytes v → SimExpr text (after (after (moved at (closed 0 (suc n) b)) Answer.none go) q (λ a next. ok a next)) o)
-      → (sameBytes w (bytes v) ≡ false → SimExpr text q o) → SimExpr text (after (after (T text v at) Answer.none go) q (λ a next. ok a next)) o
-  keyword-branch v go q {o} f g = by (sameBytes w (bytes v)) refl
+      → (same_bytes w (bytes v) ≡ false → SimExpr text q o) → SimExpr text (after (after (T text v at) Answer.none go) q (λ a next. ok a next)) o
+  keyword-branch v go q {o} f g = by (same_bytes w (bytes v)) refl
     where
-      by : (x : Bool) → sameBytes w (bytes v) ≡ x → SimExpr text (after (after (T text v at) Answer.none go) q (λ a next. ok a next)) o
-      by true p = rw (keyword-here (bytes v) p) (f (sameBytes-true w (bytes v) p))
+      by : (x : Bool) → same_bytes w (bytes v) ≡ x → SimExpr text (after (after (T text v at) Answer.none go) q (λ a next. ok a next)) o
+      by true p = rw (keyword-here (bytes v) p) (f (same_bytes-true w (bytes v) p))
       by false p = skip go q (keyword-not (bytes v) p) (g p)
 
   -- a word that begins no operand
   excluded : (v : String) (go : ℕ → ℕ → Answer (Expr Span)) (q : Answer (Expr Span)) → ((x at₁ : ℕ) → Ends (Bad text) (go x at₁))
-      → ((us : List Token) → Halted (parseOperand m e (name (bytes v) ∷ us))) → w ≡ bytes v
-      → SimExpr text (after (after (moved at (closed 0 (suc n) b)) Answer.none go) q (λ a next. ok a next)) (parseOperand m e (name w ∷ follow text at (suc n) b))
+      → ((us : List Token) → Halted (parse_operand m e (name (bytes v) ∷ us))) → w ≡ bytes v
+      → SimExpr text (after (after (moved at (closed 0 (suc n) b)) Answer.none go) q (λ a next. ok a next)) (parse_operand m e (name w ∷ follow text at (suc n) b))
   excluded v go q f h p = rw p (dead (ends (ends-or q (ends-then _ _ (lexeme-ends 0 at (suc n) b) f))) (h (follow text at (suc n) b)))
 
   literal-by : (x : Bool) (q : Answer (Expr Span)) (b : Blanks) → ((k : ℕ) → b ≡ passed k → at + (suc n + k) ≤ length text)
@@ -107,72 +107,72 @@ module _ (text : List ℕ) (m : ℕ) {c : Reader (Expr Span)} {e : Parser} (l : 
 
   -- `false` and `true`
   literal : (v : String) (x : Bool) (q : Answer (Expr Span))
-      → ((us : List Token) → parseOperand m e (name (bytes v) ∷ us) ≡ parsed (BLiteral x) us) → w ≡ bytes v
+      → ((us : List Token) → parse_operand m e (name (bytes v) ∷ us) ≡ parsed (BLiteral x) us) → w ≡ bytes v
       → SimExpr text (after (after (moved at (closed 0 (suc n) b)) Answer.none (λ _ next. ok (BLiteral x) next)) q (λ a next. ok a next))
-      (parseOperand m e (name w ∷ follow text at (suc n) b))
+      (parse_operand m e (name w ∷ follow text at (suc n) b))
   literal v x q f p = rw (p, f (follow text at (suc n) b)) (literal-by x q b inside)
 
   old-by : (q : Answer (Expr Span)) (b : Blanks)
-      → SimExpr text (after (after (moved at (closed 0 (suc n) b)) Answer.none (λ _ at₁. rules.afterOld text at₁)) q (λ a next. ok a next))
-      (see isWord (follow text at (suc n) b) failed (λ v us. parsed (IdExpr v true) us))
-  unfolding after see isWord
+      → SimExpr text (after (after (moved at (closed 0 (suc n) b)) Answer.none (λ _ at₁. rules.after_old text at₁)) q (λ a next. ok a next))
+      (see is_word (follow text at (suc n) b) failed (λ v us. parsed (IdExpr v true) us))
+  unfolding after see is_word
   old-by q (passed k) = kept q (old-ends text (at + (suc n + k))) (old-sim text (at + (suc n + k)))
   old-by q (unclosed place) = dead (ends refuses) fails
 
   old : (q : Answer (Expr Span)) → w ≡ bytes "old"
-      → SimExpr text (after (after (moved at (closed 0 (suc n) b)) Answer.none (λ _ at₁. rules.afterOld text at₁)) q (λ a next. ok a next))
-      (parseOperand m e (name w ∷ follow text at (suc n) b))
-  unfolding parseOperand parseExcluded see isNat isWord isName one_of sameBytes
+      → SimExpr text (after (after (moved at (closed 0 (suc n) b)) Answer.none (λ _ at₁. rules.after_old text at₁)) q (λ a next. ok a next))
+      (parse_operand m e (name w ∷ follow text at (suc n) b))
+  unfolding parse_operand parse_excluded see is_nat is_word is_name one_of same_bytes
   old q p = rw p (old-by q b)
 
   name_by : (b : Blanks) → ((k : ℕ) → b ≡ passed k → at + (suc n + k) ≤ length text)
       → SimExpr text
-      (after (after (spanned text at (moved at (closed (suc n) (suc n) b))) Answer.none (λ n at₁. rules.afterName text m c n at₁)) Answer.none
-      (λ a next. ok a next)) (parseNamed m e w (follow text at (suc n) b))
+      (after (after (spanned text at (moved at (closed (suc n) (suc n) b))) Answer.none (λ n at₁. rules.after_name text m c n at₁)) Answer.none
+      (λ a next. ok a next)) (parse_named m e w (follow text at (suc n) b))
   unfolding after part
   name_by (passed k) i = last-branch (name-sim text m l (record { start = at; len = suc n }) (at + (suc n + k)) (i k refl))
   name_by (unclosed place) i = dead (ends refuses) (named-halts text m l w [])
 
-  named : isName w ≡ true → signAt text (speltMark lparen) at ≡ Answer.none
+  named : is_name w ≡ true → sign_at text (spelt_mark lparen) at ≡ Answer.none
       → SimExpr text
-      (after (after (parseName text at) Answer.none (λ n at₁. rules.afterName text m c n at₁))
-      (after (signAt text (speltMark lparen) at) Answer.none (λ _ at₁. rules.afterParen text c at₁)) (λ a next. ok a next))
-      (parseOperand m e (name w ∷ follow text at (suc n) b))
-  unfolding parseOperand see isNat isWord lexing.parseId lexeme after
+      (after (after (parse_name text at) Answer.none (λ n at₁. rules.after_name text m c n at₁))
+      (after (sign_at text (spelt_mark lparen) at) Answer.none (λ _ at₁. rules.after_paren text c at₁)) (λ a next. ok a next))
+      (parse_operand m e (name w ∷ follow text at (suc n) b))
+  unfolding parse_operand see is_nat is_word lexing.parse_id lexeme after
   named p q = rw (p, q, word) (name_by b inside)
 
   no_operand : (us : List Token)
-      → Halted (parseOperand m e (name (bytes "if") ∷ us)) × Halted (parseOperand m e (name (bytes "val") ∷ us))
-      × Halted (parseOperand m e (name (bytes "forall") ∷ us)) × Halted (parseOperand m e (name (bytes "exists") ∷ us))
-      × Halted (parseOperand m e (name (bytes "lift") ∷ us))
-  unfolding parseOperand parseExcluded see isNat isWord isName one_of sameBytes
+      → Halted (parse_operand m e (name (bytes "if") ∷ us)) × Halted (parse_operand m e (name (bytes "val") ∷ us))
+      × Halted (parse_operand m e (name (bytes "forall") ∷ us)) × Halted (parse_operand m e (name (bytes "exists") ∷ us))
+      × Halted (parse_operand m e (name (bytes "lift") ∷ us))
+  unfolding parse_operand parse_excluded see is_nat is_word is_name one_of same_bytes
   no_operand us = (fails, fails, fails, fails, fails)
 
   literals : (us : List Token)
-      → (parseOperand m e (name (bytes "false") ∷ us) ≡ parsed (BLiteral false) us) × (parseOperand m e (name (bytes "true") ∷ us) ≡ parsed (BLiteral true) us)
-  unfolding parseOperand parseExcluded see isNat isWord isName one_of sameBytes
+      → (parse_operand m e (name (bytes "false") ∷ us) ≡ parsed (BLiteral false) us) × (parse_operand m e (name (bytes "true") ∷ us) ≡ parsed (BLiteral true) us)
+  unfolding parse_operand parse_excluded see is_nat is_word is_name one_of same_bytes
   literals us = (refl, refl)
 
-  no-natural : run isDigit (drop at text) ≡ 0 → parseNat text at ≡ Answer.none
+  no-natural : run is_digit (drop at text) ≡ 0 → parse_nat text at ≡ Answer.none
   unfolding lexing.natural
   no-natural d = rw d refl
 
   no-bar : Sym text "|" at ≡ Answer.none
-  unfolding lexing.sign identifierLength canStartIdentifierChar
+  unfolding lexing.sign identifier_length can_start_identifier_char
   no-bar = by-bar (starts_with (bytes "|") (drop at text)) refl
     where
       by-bar : (x : Bool) → starts_with (bytes "|") (drop at text) ≡ x → Sym text "|" at ≡ Answer.none
       by-bar true p =
-          let s : drop at text ≡ 124 ∷ drop 1 (drop at text) = startsWith-true (bytes "|") (drop at text) p in
+          let s : drop at text ≡ 124 ∷ drop 1 (drop at text) = starts_with-true (bytes "|") (drop at text) p in
           let z : 0 ≡ suc n = rw s at word in
           impossible (cc)
       by-bar false p = rw p refl
 
-  is_name : sameBytes w (bytes "if") ≡ false → sameBytes w (bytes "val") ≡ false → sameBytes w (bytes "forall") ≡ false → sameBytes w (bytes "exists") ≡ false
-      → sameBytes w (bytes "lift") ≡ false → sameBytes w (bytes "false") ≡ false → sameBytes w (bytes "true") ≡ false → sameBytes w (bytes "old") ≡ false
-      → isName w ≡ true
-  unfolding isName one_of
-  is_name n₁ n₂ n₃ n₄ n₅ n₆ n₇ n₈ =
+  is_name_lem : same_bytes w (bytes "if") ≡ false → same_bytes w (bytes "val") ≡ false → same_bytes w (bytes "forall") ≡ false → same_bytes w (bytes "exists") ≡ false
+      → same_bytes w (bytes "lift") ≡ false → same_bytes w (bytes "false") ≡ false → same_bytes w (bytes "true") ≡ false → same_bytes w (bytes "old") ≡ false
+      → is_name w ≡ true
+  unfolding is_name one_of
+  is_name_lem n₁ n₂ n₃ n₄ n₅ n₆ n₇ n₈ =
       rw (
         differ w (bytes "if") n₁,
         differ w (bytes "val") n₂,
@@ -186,9 +186,9 @@ module _ (text : List ℕ) (m : ℕ) {c : Reader (Expr Span)} {e : Parser} (l : 
       refl
 
   -- an operand that begins with a word
-  pub word-sim : run isDigit (drop at text) ≡ 0 → signAt text (speltMark lparen) at ≡ Answer.none
-      → SimExpr text (rules.parsePrimaryExpr text m c at) (parseOperand m e (name w ∷ follow text at (suc n) b))
-  unfolding rules.parsePrimaryExpr rules.parseAtomicExpr
+  pub word-sim : run is_digit (drop at text) ≡ 0 → sign_at text (spelt_mark lparen) at ≡ Answer.none
+      → SimExpr text (rules.parse_primary_expr text m c at) (parse_operand m e (name w ∷ follow text at (suc n) b))
+  unfolding rules.parse_primary_expr rules.parse_atomic_expr
   word-sim d p =
       keyword-branch "if" _ _ (excluded "if" _ _ (λ _ at₁. if-ends text c at₁) (λ us. (no_operand us).0)) λ n₁.
       keyword-branch "val" _ _ (excluded "val" _ _ (λ _ at₁. val-ends text c at₁) (λ us. (no_operand us).1)) λ n₂.
@@ -198,4 +198,4 @@ module _ (text : List ℕ) (m : ℕ) {c : Reader (Expr Span)} {e : Parser} (l : 
       keyword-branch "false" _ _ (literal "false" false _ (λ us. (literals us).0)) λ n₆.
       keyword-branch "true" _ _ (literal "true" true _ (λ us. (literals us).1)) λ n₇.
       skip _ _ (no-natural d)
-      (skip _ _ no-bar (keyword-branch "old" _ _ (old _) λ n₈. named (is_name n₁ n₂ n₃ n₄ n₅ n₆ n₇ n₈) p))
+      (skip _ _ no-bar (keyword-branch "old" _ _ (old _) λ n₈. named (is_name_lem n₁ n₂ n₃ n₄ n₅ n₆ n₇ n₈) p))

@@ -3,12 +3,12 @@ use Prim.Native.Nat.{ℕ, zero, suc}
 use Rattle.std.proofs.Common.{arith, lt-ltb}
 use Rattle.std.specs.Prelude.{◌≡◌, refl, ◌↔◌, Bool, ◌&&◌, ◌||◌, not, List, [], ◌∷◌, drop, take, length, ltb, leb}
 use Rattle.std.proofs.Math.Bool.{true, false}
-use Rattle.lexing.specs.Answer.{Answer, ok, refused, moved, largeNatural, pick}
-use Rattle.lexing.specs.Bytes.{isDigit, run, starts_with, sameBytes}
+use Rattle.lexing.specs.Answer.{Answer, ok, refused, moved, large_natural, pick}
+use Rattle.lexing.specs.Bytes.{is_digit, run, starts_with, same_bytes}
 use Rattle.lexing.specs.Blanks.{Blanks, passed, unclosed, W}
-use Rattle.lexing.specs.Tokens.{closed, lexeme, unlessEmpty, identifierLength, decimal, mostNatural, parseId, keyword, sign, signNotPrefix, natural}
+use Rattle.lexing.specs.Tokens.{closed, lexeme, unless_empty, identifier_length, decimal, most_natural, parse_id, keyword, sign, sign_not_prefix, natural}
 use Rattle.tree.specs.Clash.{impossible}
-use Rattle.grammar.specs.Steps.{after, ◌or◌, keywordAt, signAt, parseName, parseNat}
+use Rattle.grammar.specs.Steps.{after, ◌or◌, keyword_at, sign_at, parse_name, parse_nat}
 
 -- an answer keeps a token, or is refused, exactly where the test is true
 pub data Keeps {A : Type 0} : Bool → Answer A → Type 0 where
@@ -72,7 +72,7 @@ picked true h = h
 picked false h = nothing
 
 -- a token of some bytes
-nonempty : (n : ℕ) {r : Answer ℕ} → Keeps true r → Keeps (ltb 0 n) (unlessEmpty n r)
+nonempty : (n : ℕ) {r : Answer ℕ} → Keeps true r → Keeps (ltb 0 n) (unless_empty n r)
 nonempty zero h = nothing
 nonempty (suc n) h = rw (lt-ltb 0 (suc n) (omega arith)) h
 
@@ -92,46 +92,46 @@ placed at refuses = refuses
 placed at nothing = nothing
 
 -- a name stands at the start of a text; it is w
-abbrev pub isNamed : List ℕ → Bool
-isNamed s = ltb 0 (identifierLength s)
+abbrev pub is_named : List ℕ → Bool
+is_named s = ltb 0 (identifier_length s)
 
-abbrev pub isWord : List ℕ → List ℕ → Bool
-isWord w s = isNamed s && sameBytes (take (identifierLength s) s) w
+abbrev pub is_word : List ℕ → List ℕ → Bool
+is_word w s = is_named s && same_bytes (take (identifier_length s) s) w
 
 module _ (text : List ℕ) (at : ℕ) where
   -- signs, names, words and naturals
   abbrev here : List ℕ
   here = drop at text
 
-  pub sign-keeps : (w : List ℕ) → Keeps (starts_with w (drop at text)) (signAt text w at)
+  pub sign-keeps : (w : List ℕ) → Keeps (starts_with w (drop at text)) (sign_at text w at)
   unfolding sign
   sign-keeps w = placed at (picked (starts_with w here) (lexeme-keeps 0 (length w) here))
 
-  pub notPrefix-keeps : (w longer : List ℕ)
-      → Keeps (not (starts_with longer (drop at text)) && starts_with w (drop at text)) (moved at (signNotPrefix w longer (drop at text)))
-  unfolding signNotPrefix sign
-  notPrefix-keeps w longer = placed at (by-longer (starts_with longer here))
+  pub not_prefix-keeps : (w longer : List ℕ)
+      → Keeps (not (starts_with longer (drop at text)) && starts_with w (drop at text)) (moved at (sign_not_prefix w longer (drop at text)))
+  unfolding sign_not_prefix sign
+  not_prefix-keeps w longer = placed at (by-longer (starts_with longer here))
     where
       by-longer : (b : Bool) → Keeps (not b && starts_with w here) (pick b Answer.none (sign w here))
       by-longer true = nothing
       by-longer false = picked (starts_with w here) (lexeme-keeps 0 (length w) here)
 
-  pub name-keeps : Keeps (isNamed (drop at text)) (parseName text at)
-  unfolding parseId
-  name-keeps = led (λ _ _. keeps) (placed at (nonempty (identifierLength here) (lexeme-keeps _ _ here)))
+  pub name-keeps : Keeps (is_named (drop at text)) (parse_name text at)
+  unfolding parse_id
+  name-keeps = led (λ _ _. keeps) (placed at (nonempty (identifier_length here) (lexeme-keeps _ _ here)))
 
-  pub word_keeps : (b : ℕ) (w : List ℕ) → Keeps (isWord (b ∷ w) (drop at text)) (keywordAt text (b ∷ w) at)
-  unfolding keyword sameBytes
-  word_keeps b w = placed at (by_length (identifierLength here))
+  pub word_keeps : (b : ℕ) (w : List ℕ) → Keeps (is_word (b ∷ w) (drop at text)) (keyword_at text (b ∷ w) at)
+  unfolding keyword same_bytes
+  word_keeps b w = placed at (by_length (identifier_length here))
     where
-      by_length : (n : ℕ) → Keeps (ltb 0 n && sameBytes (take n here) (b ∷ w)) (pick (sameBytes (take n here) (b ∷ w)) (lexeme 0 n here) Answer.none)
+      by_length : (n : ℕ) → Keeps (ltb 0 n && same_bytes (take n here) (b ∷ w)) (pick (same_bytes (take n here) (b ∷ w)) (lexeme 0 n here) Answer.none)
       by_length zero = nothing
-      by_length (suc n) = rw (lt-ltb 0 (suc n) (omega arith)) (picked (sameBytes (take (suc n) here) (b ∷ w)) (lexeme-keeps 0 (suc n) here))
+      by_length (suc n) = rw (lt-ltb 0 (suc n) (omega arith)) (picked (same_bytes (take (suc n) here) (b ∷ w)) (lexeme-keeps 0 (suc n) here))
 
-  pub natural-keeps : Keeps (ltb 0 (run isDigit (drop at text))) (parseNat text at)
+  pub natural-keeps : Keeps (ltb 0 (run is_digit (drop at text))) (parse_nat text at)
   unfolding natural
-  natural-keeps = placed at (nonempty (run isDigit here) (by_size (leb (decimal 0 (take (run isDigit here) here)) mostNatural)))
+  natural-keeps = placed at (nonempty (run is_digit here) (by_size (leb (decimal 0 (take (run is_digit here) here)) most_natural)))
     where
-      by_size : (b : Bool) → Keeps true (pick b (lexeme (decimal 0 (take (run isDigit here) here)) (run isDigit here) here) (refused largeNatural 0))
+      by_size : (b : Bool) → Keeps true (pick b (lexeme (decimal 0 (take (run is_digit here) here)) (run is_digit here) here) (refused large_natural 0))
       by_size true = lexeme-keeps _ _ here
       by_size false = refuses

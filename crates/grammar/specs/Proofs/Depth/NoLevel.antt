@@ -6,11 +6,11 @@ use mathlib.Core.List.{List, [], ◌∷◌}
 use Rattle.std.proofs.Math.ListN.{drop}
 use Rattle.lexing.specs.RunLaws.{pick-both}
 use Rattle.lexing.specs.Answer.{Answer, ok, refused, moved, pick}
-use Rattle.lexing.specs.Bytes.{starts_with, sameBytes, bytes}
+use Rattle.lexing.specs.Bytes.{starts_with, same_bytes, bytes}
 use Rattle.lexing.specs.BlankLaws.{W-closed}
-use Rattle.lexing.specs.Tokens.{lexeme, unlessEmpty, identifierLength, parseId, keyword, sign}
-use Rattle.grammar.specs.Steps.{Reader, after, ◌or◌, keywordAt, signAt, parseName}
-use Rattle.grammar.specs.Rules.{opensExpr, parseExpr}
+use Rattle.lexing.specs.Tokens.{lexeme, unless_empty, identifier_length, parse_id, keyword, sign}
+use Rattle.grammar.specs.Steps.{Reader, after, ◌or◌, keyword_at, sign_at, parse_name}
+use Rattle.grammar.specs.Rules.{opens_expr, parse_expr}
 use Rattle.grammar.specs.Statements as rules
 use Rattle.grammar.specs.ClaimTerms.{Unopened, nothing, too-deep, GalleryUnopened}
 
@@ -37,27 +37,27 @@ module _ (text : List ℕ) where
   picked : (at : ℕ) (b : Bool) (n : ℕ) → Unrefused (moved at (pick b (lexeme 0 n (drop at text)) Answer.none))
   picked at b n = pick-both (λ r. Unrefused (moved at r)) b (lexeme-unrefused at 0 n (drop at text)) misses
 
-  word-unrefused : (w : List ℕ) (at : ℕ) → Unrefused (keywordAt text w at)
+  word-unrefused : (w : List ℕ) (at : ℕ) → Unrefused (keyword_at text w at)
   unfolding keyword
-  word-unrefused w at = let s = drop at text in picked at (sameBytes (take (identifierLength s) s) w) (identifierLength s)
+  word-unrefused w at = let s = drop at text in picked at (same_bytes (take (identifier_length s) s) w) (identifier_length s)
 
-  sign-unrefused : (w : List ℕ) (at : ℕ) → Unrefused (signAt text w at)
+  sign-unrefused : (w : List ℕ) (at : ℕ) → Unrefused (sign_at text w at)
   unfolding sign
   sign-unrefused w at = picked at (starts_with w (drop at text)) (length w)
 
-  name-unrefused : (at : ℕ) → Unrefused (parseName text at)
-  unfolding parseId
-  name-unrefused at = step (by_length (identifierLength (drop at text))) misses (λ _ _. reads)
+  name-unrefused : (at : ℕ) → Unrefused (parse_name text at)
+  unfolding parse_id
+  name-unrefused at = step (by_length (identifier_length (drop at text))) misses (λ _ _. reads)
     where
-      by_length : (n : ℕ) → Unrefused (moved at (unlessEmpty n (lexeme n n (drop at text))))
+      by_length : (n : ℕ) → Unrefused (moved at (unless_empty n (lexeme n n (drop at text))))
       by_length zero = misses
       by_length (suc n) = lexeme-unrefused at (suc n) (suc n) (drop at text)
 
   -- one of the words, and a name with its mark
-  wordOf-unrefused : (ws : List String) (at : ℕ) → Unrefused (rules.word_of text ws at)
+  word_of-unrefused : (ws : List String) (at : ℕ) → Unrefused (rules.word_of text ws at)
   unfolding rules.word_of
-  wordOf-unrefused [] at = misses
-  wordOf-unrefused (w ∷ ws) at = step (word-unrefused (bytes w) at) (wordOf-unrefused ws at) (λ _ _. reads)
+  word_of-unrefused [] at = misses
+  word_of-unrefused (w ∷ ws) at = step (word-unrefused (bytes w) at) (word_of-unrefused ws at) (λ _ _. reads)
 
   marked-unrefused : (at : ℕ) → Unrefused (rules.atomic text (rules.mark text) at)
   unfolding rules.atomic rules.mark
@@ -66,7 +66,7 @@ module _ (text : List ℕ) where
   -- ---- depth
 
   -- refusal 3 where a token is kept
-  deep : {A B : Type 0} {r : Answer A} (at : ℕ) → Unrefused r → Unopened at (rules.tooDeep text {B = B} at r)
+  deep : {A B : Type 0} {r : Answer A} (at : ℕ) → Unrefused r → Unopened at (rules.too_deep text {B = B} at r)
   unfolding after
   deep at reads = too-deep
   deep at misses = nothing
@@ -84,12 +84,12 @@ module _ (text : List ℕ) where
 
   -- No rule is opened where no level is left.
   pub none_left : (m : ℕ) → GalleryUnopened (rules.gallery text m zero)
-  unfolding rules.gallery parseExpr
+  unfolding rules.gallery parse_expr
   none_left m =
       record {
-        expr = λ at. opens at (opensExpr (drop at text));
+        expr = λ at. opens at (opens_expr (drop at text));
         block = λ at. deep at (sign-unrefused _ at);
-        stmt = λ at. either (deep at (sign-unrefused _ at)) (either (deep at (wordOf-unrefused rules.statementWords at)) (deep at (marked-unrefused at)));
-        ifCont = λ at. opens at (opensExpr (drop at text));
+        stmt = λ at. either (deep at (sign-unrefused _ at)) (either (deep at (word_of-unrefused rules.statement_words at)) (deep at (marked-unrefused at)));
+        if_cont = λ at. opens at (opens_expr (drop at text));
         loop = λ at. deep at (word-unrefused _ at);
       }

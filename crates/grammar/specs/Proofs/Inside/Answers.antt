@@ -6,16 +6,16 @@ use Rattle.std.specs.Prelude.{◌≡◌, Bool, true, false, List, [], ◌∷◌,
 use Rattle.std.proofs.Math.Path.{refl}
 use Rattle.std.proofs.Math.ListN.{length, length-drop}
 use Rattle.lexing.specs.Answer.{Answer, ok, refused, moved, pick}
-use Rattle.lexing.specs.Bytes.{customLiteralChar, run}
+use Rattle.lexing.specs.Bytes.{custom_literal_char, run}
 use Rattle.lexing.specs.Blanks.{Blanks, passed, unclosed, W}
 use Rattle.lexing.specs.BlankLaws.{reach, W-inside}
 use Rattle.lexing.specs.RunLaws.{run_inside}
-use Rattle.lexing.specs.Tokens.{closed, lexeme, unlessEmpty, identifierLength, parseId, parseCustomLiteral, keyword, sign, signNotPrefix, natural}
-use Rattle.lexing.specs.TokenLaws.{Token, absent, too_large, present, identifier-inside, natural-token, sign-token, signNotPrefix-token, keyword-token}
+use Rattle.lexing.specs.Tokens.{closed, lexeme, unless_empty, identifier_length, parse_id, parse_custom_literal, keyword, sign, sign_not_prefix, natural}
+use Rattle.lexing.specs.TokenLaws.{Token, absent, too_large, present, identifier-inside, natural-token, sign-token, sign_not_prefix-token, keyword-token}
 use Rattle.tree.specs.Ast.{Span}
 use Rattle.tree.specs.Clash.{impossible}
-use Rattle.grammar.specs.Steps.{Reader, after, ◌or◌, spanned, parseName, parseLiteralText}
-use Rattle.grammar.specs.Rules.{Sequence, commaTail, parseNonemptyCommaDelimitedSeq, parseCommaDelimitedSeq, parseListed}
+use Rattle.grammar.specs.Steps.{Reader, after, ◌or◌, spanned, parse_name, parse_literal_text}
+use Rattle.grammar.specs.Rules.{Sequence, comma_tail, parse_nonempty_comma_delimited_seq, parse_comma_delimited_seq, parse_listed}
 use Rattle.grammar.specs.Statements.{rep}
 use Rattle.grammar.specs.ClaimTerms.{ByRule, unusable-token, depth, large-natural}
 
@@ -108,14 +108,14 @@ module _ (text : List ℕ) (at : ℕ) (h : at ≤ length text) where
   pub sign-placed : (w : List ℕ) → Gives Any (length text) (moved at (sign w (drop at text)))
   sign-placed w = lexed (sign-token w _)
 
-  pub notPrefix-placed : (w longer : List ℕ) → Gives Any (length text) (moved at (signNotPrefix w longer (drop at text)))
-  notPrefix-placed w longer = lexed (signNotPrefix-token w longer _)
+  pub not_prefix-placed : (w longer : List ℕ) → Gives Any (length text) (moved at (sign_not_prefix w longer (drop at text)))
+  not_prefix-placed w longer = lexed (sign_not_prefix-token w longer _)
 
   pub keyword-placed : (w : List ℕ) → Gives Any (length text) (moved at (keyword w (drop at text)))
   keyword-placed w = lexed (keyword-token w _)
 
 -- what `search` lists after the laws of a rule's own steps
-pub ruleset steps = (either, token, given, nothing, unusable, natural-placed, sign-placed, notPrefix-placed, keyword-placed)
+pub ruleset steps = (either, token, given, nothing, unusable, natural-placed, sign-placed, not_prefix-placed, keyword-placed)
 
 -- ---- sequences
 
@@ -135,20 +135,20 @@ module _ (text : List ℕ) {A L : Type 0} {q : Sequence A L} {P : A → Type 0} 
   rep-gives (suc n) at l =
       step _ (h at l) (given k.none l) (λ a g at₁ l₁. step _ (rep-gives n at₁ l₁) nothing (λ s t _. given (k.more a g s t)))
 
-  commaTail-gives : (n : ℕ) → ReadsIn R (length text) (commaTail text q n item)
-  unfolding commaTail
-  commaTail-gives zero at l = given k.none l
-  commaTail-gives (suc n) at l =
+  comma_tail-gives : (n : ℕ) → ReadsIn R (length text) (comma_tail text q n item)
+  unfolding comma_tail
+  comma_tail-gives zero at l = given k.none l
+  comma_tail-gives (suc n) at l =
       token (sign-placed text at l _) (given k.none l)
-      (λ _ at₁ l₁. step _ (h at₁ l₁) (unusable l₁) (λ a g at₂ l₂. step _ (commaTail-gives n at₂ l₂) nothing (λ s t _. given (k.more a g s t))))
+      (λ _ at₁ l₁. step _ (h at₁ l₁) (unusable l₁) (λ a g at₂ l₂. step _ (comma_tail-gives n at₂ l₂) nothing (λ s t _. given (k.more a g s t))))
 
   module _ (m : ℕ) where
-    pub nonempty-gives : ReadsIn R (length text) (parseNonemptyCommaDelimitedSeq text m q item)
-    unfolding parseNonemptyCommaDelimitedSeq
-    nonempty-gives at l = step _ (h at l) nothing (λ a g at₁ l₁. step _ (commaTail-gives m at₁ l₁) nothing (λ s t _. given (k.more a g s t)))
+    pub nonempty-gives : ReadsIn R (length text) (parse_nonempty_comma_delimited_seq text m q item)
+    unfolding parse_nonempty_comma_delimited_seq
+    nonempty-gives at l = step _ (h at l) nothing (λ a g at₁ l₁. step _ (comma_tail-gives m at₁ l₁) nothing (λ s t _. given (k.more a g s t)))
 
-    pub listed-gives : (close : List ℕ) → ReadsIn R (length text) (parseListed text m q item close)
-    unfolding parseListed parseCommaDelimitedSeq
+    pub listed-gives : (close : List ℕ) → ReadsIn R (length text) (parse_listed text m q item close)
+    unfolding parse_listed parse_comma_delimited_seq
     listed-gives close at l =
         step _ (either (nonempty-gives at l) (given k.none l)) (unusable l)
         (λ s g at₁ l₁. token (sign-placed text at₁ l₁ close) (unusable l₁) (λ _ _. given g))
@@ -163,18 +163,18 @@ pub record Keeping (text : List ℕ) : Type 0 where
 module _ {text : List ℕ} (K : Keeping text) where
   -- a token of n bytes whose value is n
   span-kept : (at n : ℕ) (r : Answer ℕ) → n ≤ length (drop at text) → Gives (λ v. v ≡ n) (length text) (moved at r)
-      → Gives (Fixed K.keep) (length text) (spanned text at (moved at (unlessEmpty n r)))
+      → Gives (Fixed K.keep) (length text) (spanned text at (moved at (unless_empty n r)))
   unfolding after
   span-kept at zero r l g = nothing
   span-kept at (suc n) r l g = step _ g nothing (λ v e _. given (K.kept (record { start = at; len = v }) (omega (arith, length-drop at text))))
 
-  pub name-kept : ReadsIn (Fixed K.keep) (length text) (parseName text)
-  unfolding parseId
+  pub name-kept : ReadsIn (Fixed K.keep) (length text) (parse_name text)
+  unfolding parse_id
   name-kept at l =
-      span-kept at (identifierLength (drop at text)) _ (identifier-inside (drop at text)) (lexeme-given text at l _ _ (identifier-inside (drop at text)))
+      span-kept at (identifier_length (drop at text)) _ (identifier-inside (drop at text)) (lexeme-given text at l _ _ (identifier-inside (drop at text)))
 
-  pub literal-kept : ReadsIn (Fixed K.keep) (length text) (parseLiteralText text)
-  unfolding parseCustomLiteral
+  pub literal-kept : ReadsIn (Fixed K.keep) (length text) (parse_literal_text text)
+  unfolding parse_custom_literal
   literal-kept at l =
-      let inside = run_inside customLiteralChar (drop at text) in
-      span-kept at (run customLiteralChar (drop at text)) _ inside (given {next = at + run customLiteralChar (drop at text)} refl (omega (arith, inside, length-drop at text)))
+      let inside = run_inside custom_literal_char (drop at text) in
+      span-kept at (run custom_literal_char (drop at text)) _ inside (given {next = at + run custom_literal_char (drop at text)} refl (omega (arith, inside, length-drop at text)))

@@ -7,7 +7,7 @@ use Rattle.std.proofs.Math.Option.{some}
 use Rattle.std.proofs.Math.ListN.{length, length-append}
 use Rattle.grammar.specs.Tokens.{Token}
 use Rattle.grammar.specs.Grammar.{Tree, Class, Build, build, row, binary, Rule, Left, Right, Once, Either, first, second}
-use Rattle.grammar.specs.Parser.{parsed, Parser, Tail, after, see, inClass, leftTail, rightTail, onceTail, eitherTail}
+use Rattle.grammar.specs.Parser.{parsed, Parser, Tail, after, see, in_class, left_tail, right_tail, once_tail, either_tail}
 use Rattle.grammar.specs.Parser.{continued}
 use Rattle.grammar.specs.Proofs.Laws.Looks.{class-sees}
 use Rattle.grammar.specs.Proofs.Laws.Stops.{Misses, see-misses, rank, Stops, stops-fewer, stops-operator, other-class}
@@ -79,14 +79,14 @@ pub record LevelComplete (n n' m : ℕ) (S T : Rule) (q : Tail) : Type 0 where
   pub chain : {ts : List Token} {u : Tree} → T ts u → length ts ≤ m → (rest : List Token) → Stops n' rest → Chain (λ t us. Stops n us) S q ts u rest
 
 module _ {n m : ℕ} {S : Rule} {p : Parser} (s : Complete n m S p) (c : Class) (tight : n < rank c) where
-  pub left-halts : (k : ℕ) (t : Tree) (ts : List Token) → Misses (inClass c) ts → leftTail k c p t ts ≡ parsed t ts
-  unfolding leftTail
+  pub left-halts : (k : ℕ) (t : Tree) (ts : List Token) → Misses (in_class c) ts → left_tail k c p t ts ≡ parsed t ts
+  unfolding left_tail
   left-halts zero t ts h = refl
-  left-halts (suc k) t ts h = see-misses (inClass c) ts _ _ h
+  left-halts (suc k) t ts h = see-misses (in_class c) ts _ _ h
 
   left_step : (k : ℕ) (t : Tree) {u : Tree} {us : List Token} {b : Build} (o : Token) → binary o ≡ some (row c b) → S us u → length us ≤ m → (rest : List Token)
-      → Stops n rest → 0 < k → leftTail k c p t (o ∷ us ++ rest) ≡ leftTail (pred k) c p (build b t u) rest
-  unfolding leftTail after see
+      → Stops n rest → 0 < k → left_tail k c p t (o ∷ us ++ rest) ≡ left_tail (pred k) c p (build b t u) rest
+  unfolding left_tail after see
   left_step zero t o l d h rest st z = absurd (omega arith)
   left_step (suc k) t o l d h rest st z = rw (class-sees c o l, s.parses d h rest st) refl
 
@@ -101,7 +101,7 @@ module _ {n m : ℕ} {S : Rule} {p : Parser} (s : Complete n m S p) (c : Class) 
     begins : Begins c u rest tree tail
     turns : ℕ
     enough : m ≤ turns + length ts
-    goes : leftTail m c p tree tail ≡ leftTail turns c p u rest
+    goes : left_tail m c p tree tail ≡ left_tail turns c p u rest
 
   fed-more : {ts us : List Token} {t u : Tree} {b : Build} (o : Token) → binary o ≡ some (row c b) → S us u → length (ts ++ o ∷ us) ≤ m → (rest : List Token)
       → Stops n rest → Fed ts t (o ∷ us ++ rest) → Fed (ts ++ o ∷ us) (build b t u) rest
@@ -128,7 +128,7 @@ module _ {n m : ℕ} {S : Rule} {p : Parser} (s : Complete n m S p) (c : Class) 
       fed-more o l x h rest st (feed d (omega (arith, length-append ts (o ∷ us))) (o ∷ us ++ rest) (stops-operator o l tight))
 
   left-chain : {n' : ℕ} → rank c ≤ n' → {ts : List Token} {u : Tree} → Left c S ts u → length ts ≤ m → (rest : List Token) → Stops n' rest
-      → Chain (Begins c u rest) S (leftTail m c p) ts u rest
+      → Chain (Begins c u rest) S (left_tail m c p) ts u rest
   left-chain {n'} w {u} d h rest st =
       let f = feed d h rest (stops-fewer (omega arith) st) in
       record {
@@ -139,29 +139,29 @@ module _ {n m : ℕ} {S : Rule} {p : Parser} (s : Complete n m S p) (c : Class) 
         short = f.short;
         operand = f.operand;
         begins = f.begins;
-        goes = f.goes ∙ left-halts f.turns u rest (st.noOperator c w);
+        goes = f.goes ∙ left-halts f.turns u rest (st.no_operator c w);
       }
 
   -- operators to the left
-  pub left-tail : {n' : ℕ} → rank c ≤ n' → TailComplete n' m c S (Left c S) (leftTail m c p)
+  pub left-tail : {n' : ℕ} → rank c ≤ n' → TailComplete n' m c S (Left c S) (left_tail m c p)
   left-tail w = record { chain = λ d h rest st. left-chain w d h rest st }
 
-  right-halts : (k : ℕ) (t : Tree) (ts : List Token) → Misses (inClass c) ts → rightTail k c p t ts ≡ parsed t ts
-  unfolding rightTail
+  right-halts : (k : ℕ) (t : Tree) (ts : List Token) → Misses (in_class c) ts → right_tail k c p t ts ≡ parsed t ts
+  unfolding right_tail
   right-halts zero t ts h = refl
-  right-halts (suc k) t ts h = see-misses (inClass c) ts _ _ h
+  right-halts (suc k) t ts h = see-misses (in_class c) ts _ _ h
 
   right-step : (k : ℕ) (t : Tree) {u : Tree} {us rest : List Token} {b : Build} (o : Token) → binary o ≡ some (row c b) → length us ≤ m → Stops n rest → 0 < k
-      → Chain (Begins c u rest) S (rightTail (pred k) c p) us u rest → rightTail k c p t (o ∷ us ++ rest) ≡ parsed (build b t u) rest
-  unfolding rightTail after see
+      → Chain (Begins c u rest) S (right_tail (pred k) c p) us u rest → right_tail k c p t (o ∷ us ++ rest) ≡ parsed (build b t u) rest
+  unfolding right_tail after see
   right-step zero t o l h st z f = absurd (omega arith)
   right-step (suc k) t o l h st z f =
       let short : length f.run ≤ m = (let i : _ ≤ _ = f.short in omega arith) in
       rw (class-sees c o l, f.split, s.parses f.operand short f.tail (begins-stops tight st f.begins), f.goes) refl
 
   right-chain : {n' : ℕ} → rank c ≤ n' → (k : ℕ) {ts : List Token} {u : Tree} → Right c S ts u → length ts ≤ k → length ts ≤ m → (rest : List Token) → Stops n' rest
-      → Chain (Begins c u rest) S (rightTail k c p) ts u rest
-  right-chain w k {u} (Right.one d) i h rest st = alone S d done (right-halts k u rest (st.noOperator c w))
+      → Chain (Begins c u rest) S (right_tail k c p) ts u rest
+  right-chain w k {u} (Right.one d) i h rest st = alone S d done (right-halts k u rest (st.no_operator c w))
   right-chain w k (Right.more {ts} {us} {t} d o l r) i h rest st =
       let long : length (ts ++ o ∷ us) ≡ length ts + suc (length us) = length-append ts (o ∷ us) in
       followed S d (o ∷ us) (operator o l)
@@ -169,24 +169,24 @@ module _ {n m : ℕ} {S : Rule} {p : Parser} (s : Complete n m S p) (c : Class) 
       (right-chain w (pred k) r (omega arith) (omega arith) rest st))
 
   -- operators to the right
-  pub right-tail : {n' : ℕ} → rank c ≤ n' → TailComplete n' m c S (Right c S) (rightTail m c p)
+  pub right-tail : {n' : ℕ} → rank c ≤ n' → TailComplete n' m c S (Right c S) (right_tail m c p)
   right-tail w = record { chain = λ d h rest st. right-chain w m d h h rest st }
 
   once-step : (t : Tree) {u : Tree} {us : List Token} {b : Build} (o : Token) → binary o ≡ some (row c b) → S us u → length us ≤ m → (rest : List Token)
-      → Stops n rest → onceTail c p t (o ∷ us ++ rest) ≡ parsed (build b t u) rest
-  unfolding onceTail after see
+      → Stops n rest → once_tail c p t (o ∷ us ++ rest) ≡ parsed (build b t u) rest
+  unfolding once_tail after see
   once-step t o l d h rest st = rw (class-sees c o l, s.parses d h rest st) refl
 
   once-chain : {n' : ℕ} → rank c ≤ n' → {ts : List Token} {u : Tree} → Once c S ts u → length ts ≤ m → (rest : List Token) → Stops n' rest
-      → Chain (Begins c u rest) S (onceTail c p) ts u rest
-  unfolding onceTail
-  once-chain w (Once.one d) h rest st = alone S d done (see-misses (inClass c) rest _ _ (st.noOperator c w))
+      → Chain (Begins c u rest) S (once_tail c p) ts u rest
+  unfolding once_tail
+  once-chain w (Once.one d) h rest st = alone S d done (see-misses (in_class c) rest _ _ (st.no_operator c w))
   once-chain w (Once.two {ts} {us} {t} d o l x) h rest st =
       let long : length (ts ++ o ∷ us) ≡ length ts + suc (length us) = length-append ts (o ∷ us) in
       followed S d (o ∷ us) (operator o l) (once-step t o l x (omega arith) rest (stops-fewer (omega arith) st))
 
   -- at most one operator
-  pub once-tail : {n' : ℕ} → rank c ≤ n' → TailComplete n' m c S (Once c S) (onceTail c p)
+  pub once-tail : {n' : ℕ} → rank c ≤ n' → TailComplete n' m c S (Once c S) (once_tail c p)
   once-tail w = record { chain = λ d h rest st. once-chain w d h rest st }
 
 -- one class of operators on a level
@@ -195,26 +195,26 @@ only tight w f = record { chain = λ d h rest st. remade (λ t us b e. (begins-s
 
 -- two classes, of which one follows
 module _ {n n' m : ℕ} {c c' : Class} {S T T' : Rule} {q q' : Tail} (f : TailComplete n' m c S T q) (f' : TailComplete n' m c' S T' q')
-    (halts : (t : Tree) (ts : List Token) → Misses (inClass c') ts → q' t ts ≡ parsed t ts) (tight : n < rank c) (apart : rank c < rank c') (w : rank c' ≤ n') where
-  either_first : {t u : Tree} {us rest : List Token} → Stops n' rest → Begins c u rest t us → q t us ≡ parsed u rest → eitherTail c q q' t us ≡ parsed u rest
-  unfolding eitherTail see
-  either_first {u} {rest} st done e = see-misses (inClass c) rest _ _ (st.noOperator c (omega arith)) ∙ halts u rest (st.noOperator c' w)
+    (halts : (t : Tree) (ts : List Token) → Misses (in_class c') ts → q' t ts ≡ parsed t ts) (tight : n < rank c) (apart : rank c < rank c') (w : rank c' ≤ n') where
+  either_first : {t u : Tree} {us rest : List Token} → Stops n' rest → Begins c u rest t us → q t us ≡ parsed u rest → either_tail c q q' t us ≡ parsed u rest
+  unfolding either_tail see
+  either_first {u} {rest} st done e = see-misses (in_class c) rest _ _ (st.no_operator c (omega arith)) ∙ halts u rest (st.no_operator c' w)
   either_first st (operator o l) e = rw (class-sees c o l) e
 
-  either_second : {t u : Tree} {us rest : List Token} → Stops n' rest → Begins c' u rest t us → q' t us ≡ parsed u rest → eitherTail c q q' t us ≡ parsed u rest
-  unfolding eitherTail see
-  either_second {rest} st done e = see-misses (inClass c) rest _ _ (st.noOperator c (omega arith)) ∙ e
+  either_second : {t u : Tree} {us rest : List Token} → Stops n' rest → Begins c' u rest t us → q' t us ≡ parsed u rest → either_tail c q q' t us ≡ parsed u rest
+  unfolding either_tail see
+  either_second {rest} st done e = see-misses (in_class c) rest _ _ (st.no_operator c (omega arith)) ∙ e
   either_second st (operator o l) e = rw (other-class c o l (λ p. let r = ap rank p in omega arith)) e
 
   either-chain : {ts : List Token} {u : Tree} → Either T T' ts u → length ts ≤ m → (rest : List Token) → Stops n' rest
-      → Chain (λ t us. Stops n us) S (eitherTail c q q') ts u rest
+      → Chain (λ t us. Stops n us) S (either_tail c q q') ts u rest
   either-chain (first d) h rest st =
       remade (λ t us b e. (begins-stops tight (stops-fewer (omega arith) st) b, either_first st b e)) (f.chain d h rest st)
   either-chain (second d) h rest st =
       remade (λ t us b e. (begins-stops (omega arith) (stops-fewer (omega arith) st) b, either_second st b e)) (f'.chain d h rest st)
 
   -- operators of one class or of another
-  pub either-tail : LevelComplete n n' m S (Either T T') (eitherTail c q q')
+  pub either-tail : LevelComplete n n' m S (Either T T') (either_tail c q q')
   either-tail = record { chain = λ d h rest st. either-chain d h rest st }
 
 module _ {n n' m : ℕ} {S T : Rule} {p : Parser} {q : Tail} (s : Complete n m S p) (f : LevelComplete n n' m S T q) where

@@ -4,24 +4,24 @@ use Rattle.std.proofs.Common.{arith}
 use Rattle.grammar.specs.Tokens.{Token, mark, rparen}
 use Rattle.grammar.specs.Grammar.{Rule, Whole, EquivExpr, role, unary, product, sum, comparison, conjunction, disjunction, implication}
 use Rattle.grammar.specs.Grammar.{explication, equivalence}
-use Rattle.grammar.specs.Parser.{Parser, failed, after, see, isNat, isWord, isMark, parseOperand, parseUnary, continued, parseEquivExpr}
-use Rattle.grammar.specs.Parser.{parseExpr}
+use Rattle.grammar.specs.Parser.{Parser, failed, after, see, is_nat, is_word, is_mark, parse_operand, parse_unary, continued, parse_equiv_expr}
+use Rattle.grammar.specs.Parser.{parse_expr}
 use Rattle.grammar.specs.Proofs.Laws.Complete.{Complete, left-tail, left-halts, right-tail, once-tail, only, either-tail, level}
 use Rattle.grammar.specs.Proofs.Laws.CompleteOperand.{operand-complete, unprefixed, unary-complete}
 
 -- no expression begins with a closing bracket
-no-unary : (k m : ℕ) (e : Parser) (ts : List Token) → parseUnary k (parseOperand m e) (mark rparen ∷ ts) ≡ failed
-unfolding parseUnary parseOperand see isNat isWord isMark unary role
+no-unary : (k m : ℕ) (e : Parser) (ts : List Token) → parse_unary k (parse_operand m e) (mark rparen ∷ ts) ≡ failed
+unfolding parse_unary parse_operand see is_nat is_word is_mark unary role
 no-unary zero m e ts = refl
 no-unary (suc k) m e ts = refl
 
-no-expr : (m d : ℕ) (ts : List Token) → parseExpr m d (mark rparen ∷ ts) ≡ failed
-unfolding parseExpr continued after
+no-expr : (m d : ℕ) (ts : List Token) → parse_expr m d (mark rparen ∷ ts) ≡ failed
+unfolding parse_expr continued after
 no-expr m zero ts = refl
-no-expr m (suc d) ts = rw (no-unary m m (parseExpr m d) ts) refl
+no-expr m (suc d) ts = rw (no-unary m m (parse_expr m d) ts) refl
 
 -- each level, from the tightest
-equiv-complete : {m : ℕ} {E : Rule} {e : Parser} → Complete 8 m E e → ((ts : List Token) → e (mark rparen ∷ ts) ≡ failed) → Complete 8 m (EquivExpr E) (parseEquivExpr m e)
+equiv-complete : {m : ℕ} {E : Rule} {e : Parser} → Complete 8 m E e → ((ts : List Token) → e (mark rparen ∷ ts) ≡ failed) → Complete 8 m (EquivExpr E) (parse_equiv_expr m e)
 equiv-complete {m} {e} s closed =
     let u = unary-complete (operand-complete s closed) (unprefixed m e) in
     let f = level u (only {n' = 1} (omega arith) (omega arith) (left-tail u product (omega arith) (omega arith))) in
@@ -36,8 +36,8 @@ equiv-complete {m} {e} s closed =
     level i (only (omega arith) (omega arith) (left-tail i equivalence (omega arith) (omega arith)))
 
 -- at a depth of at least the derivation's
-pub whole-complete : (m d d' : ℕ) → d ≤ d' → Complete 8 m (Whole d) (parseExpr m d')
-unfolding parseExpr Whole
+pub whole-complete : (m d d' : ℕ) → d ≤ d' → Complete 8 m (Whole d) (parse_expr m d')
+unfolding parse_expr Whole
 whole-complete m zero d' k = record { parses = λ x h rest st. absurd x }
 whole-complete m (suc d) zero k = absurd (omega arith)
 whole-complete m (suc d) (suc d') k = equiv-complete (whole-complete m d d' (omega arith)) (no-expr m d')

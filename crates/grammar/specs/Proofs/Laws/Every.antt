@@ -3,19 +3,19 @@ use Prim.Native.Nat.{ℕ, zero, suc}
 use Rattle.std.specs.Prelude.{◌≡◌, refl, Bool, true, false, ◌&&◌, List, [], ◌∷◌, ◌++◌}
 use Rattle.std.proofs.Math.Option.{Option, none, some}
 use Rattle.lexing.specs.RunLaws.{pick-both}
-use Rattle.tree.specs.Ast.{Operator, BLiteral, ILiteral, IdExpr, FunctionCallExpr, Exprs, noExprs, ◌then◌, ArgumentCount}
-use Rattle.lexing.specs.Bytes.{sameBytes, bytes}
-use Rattle.grammar.specs.Words.{isName}
+use Rattle.tree.specs.Ast.{Operator, BLiteral, ILiteral, IdExpr, FunctionCallExpr, Exprs, no_exprs, ◌then◌, ArgumentCount}
+use Rattle.lexing.specs.Bytes.{same_bytes, bytes}
+use Rattle.grammar.specs.Words.{is_name}
 use Rattle.grammar.specs.Tokens.{Token, name, nat, mark, sign, illegal, lparen, rparen, comma, Sign, '!', '-', '*', '+', '==', '!=', '<'}
 use Rattle.grammar.specs.Tokens.{'<=', '>=', '>', '&&', '||', '==>', '<==', '<==>'}
-use Rattle.grammar.specs.Grammar.{Tree, Rule, Class, Build, row, Role, before, between, both, neither, signRole, wordRole, role}
-use Rattle.grammar.specs.Grammar.{asUnary, asBinary, straight, swapped, build, single, word, binary, unary, Series, Items, Operand, Unary}
+use Rattle.grammar.specs.Grammar.{Tree, Rule, Class, Build, row, Role, before, between, both, neither, sign_role, word_role, role}
+use Rattle.grammar.specs.Grammar.{as_unary, as_binary, straight, swapped, build, single, word, binary, unary, Series, Items, Operand, Unary}
 use Rattle.grammar.specs.Grammar.{Left, Right, Once, Either, Whole, UnaryExpr, FactorExpr, TermExpr, JuctExpr, LogicalExpr, ImpExpExpr}
 use Rattle.grammar.specs.Grammar.{EquivExpr}
 use Rattle.grammar.specs.Grammar.{product, sum, comparison, conjunction, disjunction, implication, explication, equivalence}
 use Rattle.grammar.specs.OperatorTrees.{Operators, AllOperators, OperatorTree}
 use Rattle.tree.specs.Clash.{impossible}
-use Rattle.grammar.specs.Grammar.{last, also, empty, series, falsehood, truth, natural, variable, oldVariable, call, bracketed, bare}
+use Rattle.grammar.specs.Grammar.{last, also, empty, series, falsehood, truth, natural, variable, old_variable, call, bracketed, bare}
 use Rattle.grammar.specs.Grammar.{prefixed, first, second}
 
 -- P and Q are kept by every rule: P of runs of tokens and their trees, Q of runs and their lists of trees
@@ -23,13 +23,13 @@ pub record Invariant (P : Rule) (Q : List Token → Exprs (List ℕ) → Type 0)
   pub false-kept : P (word "false" ∷ []) (BLiteral false)
   pub true-kept : P (word "true" ∷ []) (BLiteral true)
   pub nat-kept : (n : ℕ) → P (nat n ∷ []) (ILiteral n)
-  pub name-kept : (w : List ℕ) → isName w ≡ true → P (name w ∷ []) (IdExpr w false)
+  pub name-kept : (w : List ℕ) → is_name w ≡ true → P (name w ∷ []) (IdExpr w false)
   pub old-kept : (w : List ℕ) → P (word "old" ∷ name w ∷ []) (IdExpr w true)
-  pub call_kept : (w : List ℕ) (ts : List Token) (es : Exprs (List ℕ)) → isName w ≡ true → Q ts es
+  pub call_kept : (w : List ℕ) (ts : List Token) (es : Exprs (List ℕ)) → is_name w ≡ true → Q ts es
       → P (name w ∷ mark lparen ∷ ts ++ mark rparen ∷ []) (FunctionCallExpr w es)
   pub bracket-kept : (ts : List Token) (t : Tree) → P ts t → P (mark lparen ∷ ts ++ mark rparen ∷ []) t
-  pub empty-kept : Q [] noExprs
-  pub last-kept : (ts : List Token) (t : Tree) → P ts t → Q ts (◌then◌ t noExprs)
+  pub empty-kept : Q [] no_exprs
+  pub last-kept : (ts : List Token) (t : Tree) → P ts t → Q ts (◌then◌ t no_exprs)
   pub also_kept : (ts us : List Token) (t : Tree) (es : Exprs (List ℕ)) → P ts t → Q us es → Q (ts ++ mark comma ∷ us) (◌then◌ t es)
   pub unary_kept : (o : Token) (op : Operator) (ts : List Token) (t : Tree) → unary o ≡ some op → P ts t → P (o ∷ ts) (single op t)
   pub binary-kept : (o : Token) (c : Class) (b : Build) (ts us : List Token) (t u : Tree) → binary o ≡ some (row c b) → P ts t → P us u
@@ -53,7 +53,7 @@ module _ {P : Rule} {Q : List Token → Exprs (List ℕ) → Type 0} (k : Invari
   operand-kept i truth = k.true-kept
   operand-kept i natural = k.nat-kept _
   operand-kept i (variable n) = k.name-kept _ n
-  operand-kept i oldVariable = k.old-kept _
+  operand-kept i old_variable = k.old-kept _
   operand-kept i (call n x) = k.call_kept _ _ _ n (items_kept i x)
   operand-kept i (bracketed d) = k.bracket-kept _ _ (i.holds d)
 
@@ -102,19 +102,19 @@ module _ {P : Rule} {Q : List Token → Exprs (List ℕ) → Type 0} (k : Invari
   whole-kept d ts t x = (every d).holds x
 
 -- no token is illegal
-abbrev pub isLegal : Token → Bool
-isLegal (name w) = true
-isLegal (nat n) = true
-isLegal (mark k) = true
-isLegal (sign g) = true
-isLegal illegal = false
+abbrev pub is_legal : Token → Bool
+is_legal (name w) = true
+is_legal (nat n) = true
+is_legal (mark k) = true
+is_legal (sign g) = true
+is_legal illegal = false
 
 -- no token of a run is illegal
-abbrev pub allLegal : List Token → Bool
-allLegal [] = true
-allLegal (o ∷ ts) = isLegal o && allLegal ts
+abbrev pub all_legal : List Token → Bool
+all_legal [] = true
+all_legal (o ∷ ts) = is_legal o && all_legal ts
 
-legal-append : (ts us : List Token) → allLegal (ts ++ us) ≡ (allLegal ts && allLegal us)
+legal-append : (ts us : List Token) → all_legal (ts ++ us) ≡ (all_legal ts && all_legal us)
 legal-append [] us = refl
 legal-append (name w ∷ ts) us = legal-append ts us
 legal-append (nat n ∷ ts) us = legal-append ts us
@@ -138,14 +138,14 @@ word-or-sign f e (mark k) l = impossible (cc)
 word-or-sign f e (sign g) l = tt
 word-or-sign f e illegal l = impossible (cc)
 
-legal-operator : (o : Token) → WordOrSign o → isLegal o ≡ true
+legal-operator : (o : Token) → WordOrSign o → is_legal o ≡ true
 legal-operator (name w) x = refl
 legal-operator (nat n) x = refl
 legal-operator (mark k) x = refl
 legal-operator (sign g) x = refl
 legal-operator illegal x = absurd x
 
-legal-kept : Invariant (λ ts t. allLegal ts ≡ true) (λ ts es. allLegal ts ≡ true)
+legal-kept : Invariant (λ ts t. all_legal ts ≡ true) (λ ts es. all_legal ts ≡ true)
 unfolding unary binary
 legal-kept =
     record {
@@ -159,27 +159,27 @@ legal-kept =
       empty-kept = refl;
       last-kept = λ ts t h. h;
       also_kept = λ ts us t es h i. rw (legal-append ts (mark comma ∷ us), h) i;
-      unary_kept = λ o op ts t l h. rw (legal-operator o (word-or-sign asUnary refl o l)) h;
-      binary-kept = λ o c b ts us t u l h i. rw (legal-append ts (o ∷ us), h, legal-operator o (word-or-sign asBinary refl o l)) i;
+      unary_kept = λ o op ts t l h. rw (legal-operator o (word-or-sign as_unary refl o l)) h;
+      binary-kept = λ o c b ts us t u l h i. rw (legal-append ts (o ∷ us), h, legal-operator o (word-or-sign as_binary refl o l)) i;
     }
 
 -- a derivation's tokens are legal
-pub legal : (d : ℕ) (ts : List Token) (t : Tree) → Whole d ts t → allLegal ts ≡ true
+pub legal : (d : ℕ) (ts : List Token) (t : Tree) → Whole d ts t → all_legal ts ≡ true
 legal = whole-kept legal-kept
 
 -- the operator table has unary operators before an operand and binary ones between two
-abbrev operatorIn : Build → Operator
-operatorIn (straight op) = op
-operatorIn (swapped op) = op
+abbrev operator_in : Build → Operator
+operator_in (straight op) = op
+operator_in (swapped op) = op
 
 abbrev Counted : Role → Type 0
 Counted (before op) = ArgumentCount op ≡ 1
-Counted (between c b) = ArgumentCount (operatorIn b) ≡ 2
-Counted (both op c b) = (ArgumentCount op ≡ 1) × (ArgumentCount (operatorIn b) ≡ 2)
+Counted (between c b) = ArgumentCount (operator_in b) ≡ 2
+Counted (both op c b) = (ArgumentCount op ≡ 1) × (ArgumentCount (operator_in b) ≡ 2)
 Counted neither = Unit {0}
 
-sign-counted : (g : Sign) → Counted (signRole g)
-unfolding signRole
+sign-counted : (g : Sign) → Counted (sign_role g)
+unfolding sign_role
 sign-counted '!' = refl
 sign-counted '-' = (refl, refl)
 sign-counted '*' = refl
@@ -197,26 +197,26 @@ sign-counted '<==' = refl
 sign-counted '<==>' = refl
 
 counted : (o : Token) → Counted (role o)
-unfolding role wordRole
-counted (name w) = pick-both Counted (sameBytes w (bytes "div")) refl (pick-both Counted (sameBytes w (bytes "mod")) refl tt)
+unfolding role word_role
+counted (name w) = pick-both Counted (same_bytes w (bytes "div")) refl (pick-both Counted (same_bytes w (bytes "mod")) refl tt)
 counted (nat n) = tt
 counted (mark k) = tt
 counted (sign g) = sign-counted g
 counted illegal = tt
 
-unary-counted : (r : Role) {op : Operator} → Counted r → asUnary r ≡ some op → ArgumentCount op ≡ 1
+unary-counted : (r : Role) {op : Operator} → Counted r → as_unary r ≡ some op → ArgumentCount op ≡ 1
 unary-counted (before op) h l = cc
 unary-counted (between c b) h l = impossible (cc)
 unary-counted (both op c b) h l = cc h.0
 unary-counted neither h l = impossible (cc)
 
-binary-counted : (r : Role) {c : Class} {b : Build} → Counted r → asBinary r ≡ some (row c b) → ArgumentCount (operatorIn b) ≡ 2
+binary-counted : (r : Role) {c : Class} {b : Build} → Counted r → as_binary r ≡ some (row c b) → ArgumentCount (operator_in b) ≡ 2
 binary-counted (before op) h l = impossible (cc)
 binary-counted (between c b) h l = cc
 binary-counted (both op c b) h l = cc h.1
 binary-counted neither h l = impossible (cc)
 
-built : (b : Build) (t u : Tree) → ArgumentCount (operatorIn b) ≡ 2 → OperatorTree t → OperatorTree u → OperatorTree (build b t u)
+built : (b : Build) (t u : Tree) → ArgumentCount (operator_in b) ≡ 2 → OperatorTree t → OperatorTree u → OperatorTree (build b t u)
 built (straight op) t u n x y = Operators.binary n x y refl
 built (swapped op) t u n x y = Operators.binary n y x refl
 

@@ -4,7 +4,7 @@ use Rattle.std.proofs.Common.{sym, ◌∙◌, subst, append-nil, arith}
 use Rattle.std.proofs.Math.Option.{Option, none, some}
 use Rattle.grammar.specs.Tokens.{Token}
 use Rattle.grammar.specs.Grammar.{Tree, Whole}
-use Rattle.grammar.specs.Parser.{Parsed, parsed, failed, parseExpr, whole, parse}
+use Rattle.grammar.specs.Parser.{Parsed, parsed, failed, parse_expr, whole, parse}
 use Rattle.tree.specs.Clash.{impossible}
 use Rattle.grammar.specs.Proofs.Laws.Stops.{stops_end}
 use Rattle.grammar.specs.Proofs.Laws.SoundWhole.{whole-sound}
@@ -16,15 +16,15 @@ whole-inv (parsed t (o ∷ ts)) e = impossible (cc)
 whole-inv failed e = impossible (cc)
 
 -- with any number of turns
-pub turns-sound : (m d : ℕ) (ts : List Token) {t : Tree} → whole (parseExpr m d ts) ≡ some t → Whole d ts t
+pub turns-sound : (m d : ℕ) (ts : List Token) {t : Tree} → whole (parse_expr m d ts) ≡ some t → Whole d ts t
 turns-sound m d ts {t} e =
-    let r = (whole-sound m d).reads (whole-inv (parseExpr m d ts) e) in
+    let r = (whole-sound m d).reads (whole-inv (parse_expr m d ts) e) in
     subst (λ us. Whole d us t) (sym (r.split ∙ append-nil r.run)) r.derived
 
 -- with turns for all the tokens, at any depth of at least the derivation's
-pub turns-complete : (m d d' : ℕ) → d ≤ d' → (ts : List Token) → length ts ≤ m → (t : Tree) → Whole d ts t → whole (parseExpr m d' ts) ≡ some t
+pub turns-complete : (m d d' : ℕ) → d ≤ d' → (ts : List Token) → length ts ≤ m → (t : Tree) → Whole d ts t → whole (parse_expr m d' ts) ≡ some t
 turns-complete m d d' k ts h t x =
-    let e : parseExpr m d' (ts ++ []) ≡ parsed t [] = (whole-complete m d d' k).parses x h [] stops_end in
+    let e : parse_expr m d' (ts ++ []) ≡ parsed t [] = (whole-complete m d d' k).parses x h [] stops_end in
     rw (rw (append-nil ts) at e) refl
 
 -- the parser's tree has a derivation

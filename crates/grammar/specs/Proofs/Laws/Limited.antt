@@ -3,45 +3,45 @@ use Rattle.std.specs.Prelude.{ℕ, suc, ◌≤◌, ◌<◌, length, ◌≡◌, r
 use Rattle.std.proofs.Common.{arith, sym, ap, subst}
 use Rattle.std.proofs.Math.Option.{some}
 use Rattle.lexing.specs.Answer.{pick}
-use Rattle.lexing.specs.Tokens.{mostNatural}
+use Rattle.lexing.specs.Tokens.{most_natural}
 use Rattle.grammar.specs.Tokens.{Token, name, nat, mark, sign, illegal, cut}
 use Rattle.grammar.specs.Grammar.{Tree, Whole, Derives}
-use Rattle.grammar.specs.OperatorTrees.{smallNaturals}
-use Rattle.grammar.specs.Parser.{whole, parseExpr}
+use Rattle.grammar.specs.OperatorTrees.{small_naturals}
+use Rattle.grammar.specs.Parser.{whole, parse_expr}
 use Rattle.tree.specs.Clash.{impossible}
 use Rattle.grammar.specs.Proofs.Laws.Exact.{turns-sound, turns-complete}
 use Rattle.grammar.specs.Proofs.Laws.Cut.{cut-few}
-use Rattle.grammar.specs.Proofs.Laws.Every.{allLegal, legal}
+use Rattle.grammar.specs.Proofs.Laws.Every.{all_legal, legal}
 
 abbrev pub limited : List Token → List Token
 limited [] = []
 limited (name w ∷ ts) = name w ∷ limited ts
-limited (nat n ∷ ts) = pick (leb n mostNatural) (nat n) illegal ∷ limited ts
+limited (nat n ∷ ts) = pick (leb n most_natural) (nat n) illegal ∷ limited ts
 limited (mark k ∷ ts) = mark k ∷ limited ts
 limited (sign g ∷ ts) = sign g ∷ limited ts
 limited (illegal ∷ ts) = illegal ∷ limited ts
 
-limited-small : (ts : List Token) → allLegal (limited ts) ≡ true → smallNaturals ts ≡ true
-unfolding smallNaturals
+limited-small : (ts : List Token) → all_legal (limited ts) ≡ true → small_naturals ts ≡ true
+unfolding small_naturals
 limited-small [] e = refl
 limited-small (name w ∷ ts) e = limited-small ts e
-limited-small (nat n ∷ ts) e = by-limit (leb n mostNatural) (limited-small ts) e
+limited-small (nat n ∷ ts) e = by-limit (leb n most_natural) (limited-small ts) e
   where
-    by-limit : (b : Bool) → (allLegal (limited ts) ≡ true → smallNaturals ts ≡ true) → allLegal (pick b (nat n) illegal ∷ limited ts) ≡ true
-        → (b && smallNaturals ts) ≡ true
+    by-limit : (b : Bool) → (all_legal (limited ts) ≡ true → small_naturals ts ≡ true) → all_legal (pick b (nat n) illegal ∷ limited ts) ≡ true
+        → (b && small_naturals ts) ≡ true
     by-limit true ih e = ih e
     by-limit false ih e = e
 limited-small (mark k ∷ ts) e = limited-small ts e
 limited-small (sign g ∷ ts) e = limited-small ts e
 limited-small (illegal ∷ ts) e = impossible (cc)
 
-limited-same : (ts : List Token) → smallNaturals ts ≡ true → limited ts ≡ ts
-unfolding smallNaturals
+limited-same : (ts : List Token) → small_naturals ts ≡ true → limited ts ≡ ts
+unfolding small_naturals
 limited-same [] e = refl
 limited-same (name w ∷ ts) e = ap (λ l. name w ∷ l) (limited-same ts e)
-limited-same (nat n ∷ ts) e = by-limit (leb n mostNatural) (limited-same ts) e
+limited-same (nat n ∷ ts) e = by-limit (leb n most_natural) (limited-same ts) e
   where
-    by-limit : (b : Bool) → (smallNaturals ts ≡ true → limited ts ≡ ts) → (b && smallNaturals ts) ≡ true → pick b (nat n) illegal ∷ limited ts ≡ nat n ∷ ts
+    by-limit : (b : Bool) → (small_naturals ts ≡ true → limited ts ≡ ts) → (b && small_naturals ts) ≡ true → pick b (nat n) illegal ∷ limited ts ≡ nat n ∷ ts
     by-limit true ih e = ap (λ l. nat n ∷ l) (ih e)
     by-limit false ih e = impossible (cc)
 limited-same (mark k ∷ ts) e = ap (λ l. mark k ∷ l) (limited-same ts e)
@@ -49,9 +49,9 @@ limited-same (sign g ∷ ts) e = ap (λ l. sign g ∷ l) (limited-same ts e)
 limited-same (illegal ∷ ts) e = ap (λ l. illegal ∷ l) (limited-same ts e)
 
 -- exactly the derivations whose naturals keep the limit
-pub limited-whole : (d : ℕ) (ts : List Token) (t : Tree) → Whole d (limited ts) t ↔ (Whole d ts t × (smallNaturals ts ≡ true))
+pub limited-whole : (d : ℕ) (ts : List Token) (t : Tree) → Whole d (limited ts) t ↔ (Whole d ts t × (small_naturals ts ≡ true))
 limited-whole d ts t = (
-  λ x. let h : smallNaturals ts ≡ true = limited-small ts (legal d (limited ts) t x) in (subst (λ l. Whole d l t) (limited-same ts h) x, h),
+  λ x. let h : small_naturals ts ≡ true = limited-small ts (legal d (limited ts) t x) in (subst (λ l. Whole d l t) (limited-same ts h) x, h),
   λ r. subst (λ l. Whole d l t) (sym (limited-same ts r.1)) r.0,
 )
 
@@ -65,7 +65,7 @@ limited-length (illegal ∷ ts) = ap suc (limited-length ts)
 
 -- the parser on a text's limited tokens, with a turn for each byte and one more
 pub parse-limited : (m d : ℕ) (text : List ℕ) (t : Tree) → length text < m
-    → (whole (parseExpr m d (limited (cut text))) ≡ some t) ↔ (Derives d text t × (smallNaturals (cut text) ≡ true))
+    → (whole (parse_expr m d (limited (cut text))) ≡ some t) ↔ (Derives d text t × (small_naturals (cut text) ≡ true))
 parse-limited m d text t h =
     let few : length (limited (cut text)) ≤ m = omega (arith, limited-length (cut text), cut-few text) in (
       λ e. (limited-whole d (cut text) t).0 (turns-sound m d (limited (cut text)) e),

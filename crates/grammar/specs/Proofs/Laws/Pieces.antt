@@ -5,16 +5,16 @@ use Rattle.std.proofs.Math.Seq.{take-append_seam, drop-append_seam}
 use Rattle.std.proofs.lemmas.Bool.{lt-leb}
 use Rattle.lexing.specs.RunLaws.{both_true}
 use Rattle.lexing.specs.Answer.{pick}
-use Rattle.lexing.specs.Bytes.{isSpace, isDigit, canStartIdentifierChar, identifierChar, run, starts_with}
+use Rattle.lexing.specs.Bytes.{is_space, is_digit, can_start_identifier_char, identifier_char, run, starts_with}
 use Rattle.lexing.specs.Blanks.{passed, blank}
-use Rattle.lexing.specs.Tokens.{identifierLength, decimal}
-use Rattle.grammar.specs.Words.{isIdentifier}
+use Rattle.lexing.specs.Tokens.{identifier_length, decimal}
+use Rattle.grammar.specs.Words.{is_identifier}
 use Rattle.grammar.specs.Tokens.{Sign, '!', '-', '*', '+', '==', '!=', '<', '<=', '>=', '>', '&&', '||', '==>', '<==', '<==>', Mark}
 use Rattle.grammar.specs.Tokens.{lparen, rparen, comma}
-use Rattle.grammar.specs.Tokens.{Token, name, nat, mark, sign, token, tokenAt, cut}
+use Rattle.grammar.specs.Tokens.{Token, name, nat, mark, sign, token, token_at, cut}
 use Rattle.tree.specs.Clash.{impossible}
 use Rattle.grammar.specs.Proofs.Laws.Cut.{cut-token}
-use Rattle.grammar.specs.Proofs.Laws.Views.{spelt, speltMark, word-token, digit-token, sign-token, mark-token}
+use Rattle.grammar.specs.Proofs.Laws.Views.{spelt, spelt_mark, word-token, digit-token, sign-token, mark-token}
 
 -- no byte that satisfies p stands at the start
 abbrev pub Ends : (ℕ → Bool) → List ℕ → Type 0
@@ -42,18 +42,18 @@ no_run p (b ∷ s) h = rw (h, run) refl
 run_ends : (p : ℕ → Bool) (w s : List ℕ) → run p w ≡ length w → Ends p s → run p (w ++ s) ≡ length w
 run_ends p w s e h = let n : run p s ≡ 0 = no_run p s h in omega (arith, run-append p w s e)
 
-piece : (a : ℕ) (w s : List ℕ) (t : Token) → blank (a ∷ w ++ s) ≡ passed 0 → tokenAt (a ∷ w ++ s) ≡ token t (suc (length w))
+piece : (a : ℕ) (w s : List ℕ) (t : Token) → blank (a ∷ w ++ s) ≡ passed 0 → token_at (a ∷ w ++ s) ≡ token t (suc (length w))
     → cut (a ∷ w ++ s) ≡ t ∷ cut s
 piece a w s t b e = cut-token (a ∷ w ++ s) b e ∙ ap (λ l. t ∷ cut l) (drop-append_seam w s)
 
 -- a byte that begins no blank
-no-blank : (a : ℕ) (s : List ℕ) → isSpace a ≡ false → eqb 47 a ≡ false → blank (a ∷ s) ≡ passed 0
+no-blank : (a : ℕ) (s : List ℕ) → is_space a ≡ false → eqb 47 a ≡ false → blank (a ∷ s) ≡ passed 0
 unfolding blank starts_with
 no-blank a s h k = rw (h, k) refl
 
 -- a byte that begins a name
-letter-byte : (a : ℕ) → canStartIdentifierChar a ≡ true → (65 ≤ a) ⊎ (a ≡ 37)
-unfolding canStartIdentifierChar
+letter-byte : (a : ℕ) → can_start_identifier_char a ≡ true → (65 ≤ a) ⊎ (a ≡ 37)
+unfolding can_start_identifier_char
 letter-byte a e = by_tests (leb 65 a) (eqb a 37) refl refl
   where
     by_tests : (x y : Bool) → leb 65 a ≡ x → eqb a 37 ≡ y → (65 ≤ a) ⊎ (a ≡ 37)
@@ -61,11 +61,11 @@ letter-byte a e = by_tests (leb 65 a) (eqb a 37) refl refl
     by_tests false true p q = inr (eqb-true a 37 q)
     by_tests false false p q =
         let h : a < 65 = leb-false 65 a p in
-        let f : canStartIdentifierChar a ≡ false = rw (lt-leb 97 a (omega arith), p, q) refl in
+        let f : can_start_identifier_char a ≡ false = rw (lt-leb 97 a (omega arith), p, q) refl in
         impossible (cc)
 
-letter-no-space : (a : ℕ) → (65 ≤ a) ⊎ (a ≡ 37) → isSpace a ≡ false
-unfolding isSpace
+letter-no-space : (a : ℕ) → (65 ≤ a) ⊎ (a ≡ 37) → is_space a ≡ false
+unfolding is_space
 letter-no-space a (inl h) =
     rw (ne_eqb a 32 (λ e. omega arith), ne_eqb a 9 (λ e. omega arith), ne_eqb a 13 (λ e. omega arith), ne_eqb a 10 (λ e. omega arith)) refl
 letter-no-space a (inr h) = rw h refl
@@ -75,24 +75,24 @@ letter-no-comment a (inl h) = ne_eqb 47 a (λ e. omega arith)
 letter-no-comment a (inr h) = rw h refl
 
 -- the bytes of a name
-name-bytes : (a : ℕ) (w : List ℕ) → isIdentifier (a ∷ w) ≡ true → (canStartIdentifierChar a ≡ true) × (run identifierChar w ≡ length w)
-unfolding isIdentifier identifierLength
+name-bytes : (a : ℕ) (w : List ℕ) → is_identifier (a ∷ w) ≡ true → (can_start_identifier_char a ≡ true) × (run identifier_char w ≡ length w)
+unfolding is_identifier identifier_length
 name-bytes a w e =
-    let h : identifierLength (a ∷ w) ≡ suc (length w) = eqb-true _ _ (both_true (leb 1 (suc (length w))) _ e).1 in
-    by_first (canStartIdentifierChar a) refl h
+    let h : identifier_length (a ∷ w) ≡ suc (length w) = eqb-true _ _ (both_true (leb 1 (suc (length w))) _ e).1 in
+    by_first (can_start_identifier_char a) refl h
   where
-    by_first : (b : Bool) → canStartIdentifierChar a ≡ b → pick b (suc (run identifierChar w)) 0 ≡ suc (length w)
-        → (canStartIdentifierChar a ≡ true) × (run identifierChar w ≡ length w)
+    by_first : (b : Bool) → can_start_identifier_char a ≡ b → pick b (suc (run identifier_char w)) 0 ≡ suc (length w)
+        → (can_start_identifier_char a ≡ true) × (run identifier_char w ≡ length w)
     by_first true p h = (p, omega arith)
     by_first false p h = absurd (omega arith)
 
-name-at : (a : ℕ) (w s : List ℕ) → canStartIdentifierChar a ≡ true → run identifierChar w ≡ length w → Ends identifierChar s
-    → tokenAt (a ∷ w ++ s) ≡ token (name (a ∷ w)) (suc (length w))
-name-at a w s e h k = rw (run_ends identifierChar w s h k, take-append_seam w s) at (word-token a (w ++ s) e)
+name-at : (a : ℕ) (w s : List ℕ) → can_start_identifier_char a ≡ true → run identifier_char w ≡ length w → Ends identifier_char s
+    → token_at (a ∷ w ++ s) ≡ token (name (a ∷ w)) (suc (length w))
+name-at a w s e h k = rw (run_ends identifier_char w s h k, take-append_seam w s) at (word-token a (w ++ s) e)
 
 -- a name
-pub cut-name : (w s : List ℕ) → isIdentifier w ≡ true → Ends identifierChar s → cut (w ++ s) ≡ name w ∷ cut s
-unfolding isIdentifier
+pub cut-name : (w s : List ℕ) → is_identifier w ≡ true → Ends identifier_char s → cut (w ++ s) ≡ name w ∷ cut s
+unfolding is_identifier
 cut-name [] s e k = impossible (cc)
 cut-name (a ∷ w) s e k =
     let (p, h) = name-bytes a w e in
@@ -100,17 +100,17 @@ cut-name (a ∷ w) s e k =
     piece a w s (name (a ∷ w)) (no-blank a (w ++ s) (letter-no-space a l) (letter-no-comment a l)) (name-at a w s p h k)
 
 -- the bytes of a natural
-digit-bytes : (a : ℕ) (w : List ℕ) → run isDigit (a ∷ w) ≡ suc (length w) → (isDigit a ≡ true) × (run isDigit w ≡ length w)
+digit-bytes : (a : ℕ) (w : List ℕ) → run is_digit (a ∷ w) ≡ suc (length w) → (is_digit a ≡ true) × (run is_digit w ≡ length w)
 unfolding run
-digit-bytes a w e = by_first (isDigit a) e
+digit-bytes a w e = by_first (is_digit a) e
   where
-    by_first : (b : Bool) → ◌≡◌ {A = ℕ} (elim b [ true ↦ suc (run isDigit w) | false ↦ 0 ]) (suc (length w)) → (b ≡ true) × (run isDigit w ≡ length w)
+    by_first : (b : Bool) → ◌≡◌ {A = ℕ} (elim b [ true ↦ suc (run is_digit w) | false ↦ 0 ]) (suc (length w)) → (b ≡ true) × (run is_digit w ≡ length w)
     by_first true e = (refl, omega arith)
     by_first false e = absurd (omega arith)
 
 -- a digit begins neither a name nor a blank
-digit-byte : (a : ℕ) → isDigit a ≡ true → (canStartIdentifierChar a ≡ false) × (isSpace a ≡ false) × (eqb 47 a ≡ false)
-unfolding isDigit canStartIdentifierChar isSpace
+digit-byte : (a : ℕ) → is_digit a ≡ true → (can_start_identifier_char a ≡ false) × (is_space a ≡ false) × (eqb 47 a ≡ false)
+unfolding is_digit can_start_identifier_char is_space
 digit-byte a e =
     let (p, q) = both_true (leb 48 a) (leb a 57) e in
     let l : 48 ≤ a = leb-true 48 a p in
@@ -120,12 +120,12 @@ digit-byte a e =
       ne_eqb 47 a (λ e. omega arith),
     )
 
-nat-at : (a : ℕ) (w s : List ℕ) → canStartIdentifierChar a ≡ false → isDigit a ≡ true → run isDigit w ≡ length w → Ends isDigit s
-    → tokenAt (a ∷ w ++ s) ≡ token (nat (decimal 0 (a ∷ w))) (suc (length w))
-nat-at a w s e d h k = rw (run_ends isDigit w s h k, take-append_seam w s) at (digit-token a (w ++ s) e d)
+nat-at : (a : ℕ) (w s : List ℕ) → can_start_identifier_char a ≡ false → is_digit a ≡ true → run is_digit w ≡ length w → Ends is_digit s
+    → token_at (a ∷ w ++ s) ≡ token (nat (decimal 0 (a ∷ w))) (suc (length w))
+nat-at a w s e d h k = rw (run_ends is_digit w s h k, take-append_seam w s) at (digit-token a (w ++ s) e d)
 
 -- a natural
-pub cut-nat : (w s : List ℕ) → 0 < length w → run isDigit w ≡ length w → Ends isDigit s → cut (w ++ s) ≡ nat (decimal 0 w) ∷ cut s
+pub cut-nat : (w s : List ℕ) → 0 < length w → run is_digit w ≡ length w → Ends is_digit s → cut (w ++ s) ≡ nat (decimal 0 w) ∷ cut s
 cut-nat [] s z e k = absurd (omega arith)
 cut-nat (a ∷ w) s z e k =
     let (d, h) = digit-bytes a w e in
@@ -148,7 +148,7 @@ clear (b ∷ s) h = by_tests (eqb 61 b) (eqb 62 b) h
 
 -- a sign
 pub cut-sign : (g : Sign) (s : List ℕ) → Ends lengthens s → cut (spelt g ++ s) ≡ sign g ∷ cut s
-unfolding blank isSpace starts_with
+unfolding blank is_space starts_with
 cut-sign '!' s h = piece 33 [] s (sign '!') refl (sign-token '!' s (clear s h).0)
 cut-sign '-' s h = piece 45 [] s (sign '-') refl (sign-token '-' s tt)
 cut-sign '*' s h = piece 42 [] s (sign '*') refl (sign-token '*' s tt)
@@ -166,8 +166,8 @@ cut-sign '<==' s h = piece 60 (61 ∷ 61 ∷ []) s (sign '<==') refl (sign-token
 cut-sign '<==>' s h = piece 60 (61 ∷ 61 ∷ 62 ∷ []) s (sign '<==>') refl (sign-token '<==>' s tt)
 
 -- a bracket or comma
-pub cut-mark : (k : Mark) (s : List ℕ) → cut (speltMark k ++ s) ≡ mark k ∷ cut s
-unfolding blank isSpace starts_with
+pub cut-mark : (k : Mark) (s : List ℕ) → cut (spelt_mark k ++ s) ≡ mark k ∷ cut s
+unfolding blank is_space starts_with
 cut-mark lparen s = piece 40 [] s (mark lparen) refl (mark-token lparen s)
 cut-mark rparen s = piece 41 [] s (mark rparen) refl (mark-token rparen s)
 cut-mark comma s = piece 44 [] s (mark comma) refl (mark-token comma s)

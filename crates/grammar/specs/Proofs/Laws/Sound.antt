@@ -5,7 +5,7 @@ use Rattle.std.proofs.Common.{sym, ◌∙◌, ap, subst₂, append-nil, append_a
 use Rattle.std.proofs.Math.Option.{some}
 use Rattle.grammar.specs.Tokens.{Token}
 use Rattle.grammar.specs.Grammar.{Tree, Class, Build, build, row, binary, Rule, Left, Right, Once, Either, first, second}
-use Rattle.grammar.specs.Parser.{parsed, Parser, Tail, leftTail, rightTail, onceTail, eitherTail}
+use Rattle.grammar.specs.Parser.{parsed, Parser, Tail, left_tail, right_tail, once_tail, either_tail}
 use Rattle.grammar.specs.Parser.{continued}
 use Rattle.grammar.specs.Proofs.Laws.ParserSteps.{after-inv, see-cases}
 use Rattle.grammar.specs.Proofs.Laws.Looks.{class-inv}
@@ -53,9 +53,9 @@ joined {rest} r x =
     }
 
 module _ {S : Rule} {p : Parser} (s : Sound S p) (c : Class) where
-  left-more : (m : ℕ) {us : List Token} {t : Tree} → Left c S us t → {ts : List Token} {u : Tree} {rest : List Token} → leftTail m c p t ts ≡ parsed u rest
+  left-more : (m : ℕ) {us : List Token} {t : Tree} → Left c S us t → {ts : List Token} {u : Tree} {rest : List Token} → left_tail m c p t ts ≡ parsed u rest
       → Extends (Left c S) us ts u rest
-  unfolding leftTail
+  unfolding left_tail
   left-more zero d e = no_more d e
   left-more (suc m) {us} {t} d {ts} {u} {rest} e =
       see-cases (λ ts. Extends (Left c S) us ts u rest) ts e (λ e. no_more d e)
@@ -68,21 +68,21 @@ module _ {S : Rule} {p : Parser} (s : Sound S p) (c : Class) where
       → parsed (build b t w) ws ≡ parsed u rest → Extends (Right c S) us (o ∷ vs) u rest
   right-step d o l r e = and-more o r.run r.split (no_more (Right.more d o l r.derived) e)
 
-  right-more : (m : ℕ) {us : List Token} {t : Tree} → S us t → {ts : List Token} {u : Tree} {rest : List Token} → rightTail m c p t ts ≡ parsed u rest
+  right-more : (m : ℕ) {us : List Token} {t : Tree} → S us t → {ts : List Token} {u : Tree} {rest : List Token} → right_tail m c p t ts ≡ parsed u rest
       → Extends (Right c S) us ts u rest
-  unfolding rightTail
+  unfolding right_tail
   right-more zero d e = no_more (Right.one d) e
   right-more (suc m) {us} {t} d {ts} {u} {rest} e =
       see-cases (λ ts. Extends (Right c S) us ts u rest) ts e (λ e. no_more (Right.one d) e)
       (λ o vs b l e.
       let a = after-inv (p vs) e in
       let r = s.reads a.first in
-      let a' = after-inv (rightTail m c p a.value a.left) a.next in
+      let a' = after-inv (right_tail m c p a.value a.left) a.next in
       right-step d o (class-inv c o l) (joined r (right-more m r.derived a'.first)) a'.next)
 
-  once_more : {us : List Token} {t : Tree} → S us t → {ts : List Token} {u : Tree} {rest : List Token} → onceTail c p t ts ≡ parsed u rest
+  once_more : {us : List Token} {t : Tree} → S us t → {ts : List Token} {u : Tree} {rest : List Token} → once_tail c p t ts ≡ parsed u rest
       → Extends (Once c S) us ts u rest
-  unfolding onceTail
+  unfolding once_tail
   once_more {us} {t} d {ts} {u} {rest} e =
       see-cases (λ ts. Extends (Once c S) us ts u rest) ts e (λ e. no_more (Once.one d) e)
       (λ o vs b l e.
@@ -91,28 +91,28 @@ module _ {S : Rule} {p : Parser} (s : Sound S p) (c : Class) where
       and-more o r.run r.split (no_more (Once.two d o (class-inv c o l) r.derived) a.next))
 
   -- operators to the left
-  pub left-tail : (m : ℕ) → TailSound S (Left c S) (leftTail m c p)
+  pub left-tail : (m : ℕ) → TailSound S (Left c S) (left_tail m c p)
   left-tail m = record { extends = λ d e. left-more m (Left.one d) e }
 
   -- operators to the right
-  pub right-tail : (m : ℕ) → TailSound S (Right c S) (rightTail m c p)
+  pub right-tail : (m : ℕ) → TailSound S (Right c S) (right_tail m c p)
   right-tail m = record { extends = λ d e. right-more m d e }
 
   -- at most one operator
-  pub once-tail : TailSound S (Once c S) (onceTail c p)
+  pub once-tail : TailSound S (Once c S) (once_tail c p)
   once-tail = record { extends = λ d e. once_more d e }
 
 module _ {S T T' : Rule} {q q' : Tail} (c : Class) (f : TailSound S T q) (f' : TailSound S T' q') where
-  either-more : {us : List Token} {t : Tree} → S us t → {ts : List Token} {u : Tree} {rest : List Token} → eitherTail c q q' t ts ≡ parsed u rest
+  either-more : {us : List Token} {t : Tree} → S us t → {ts : List Token} {u : Tree} {rest : List Token} → either_tail c q q' t ts ≡ parsed u rest
       → Extends (Either T T') us ts u rest
-  unfolding eitherTail
+  unfolding either_tail
   either-more {us} {t} d {ts} {u} {rest} e =
       see-cases (λ any. Extends (Either T T') us ts u rest) ts e
       (λ e. let x = f'.extends d e in record { run = x.run; split = x.split; derived = second x.derived })
       (λ o vs b l e. let x = f.extends d e in record { run = x.run; split = x.split; derived = first x.derived })
 
   -- operators of one class or of another
-  pub either-tail : TailSound S (Either T T') (eitherTail c q q')
+  pub either-tail : TailSound S (Either T T') (either_tail c q q')
   either-tail = record { extends = λ d e. either-more d e }
 
 module _ {S T : Rule} {p : Parser} {q : Tail} (s : Sound S p) (f : TailSound S T q) where

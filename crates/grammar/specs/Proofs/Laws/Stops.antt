@@ -6,7 +6,7 @@ use Rattle.grammar.specs.Tokens.{Token, name, nat, mark, sign, illegal, Mark, lp
 use Rattle.grammar.specs.Grammar.{Class, Class-discrete, product, sum, comparison, conjunction, disjunction, implication, explication}
 use Rattle.grammar.specs.Grammar.{equivalence}
 use Rattle.grammar.specs.Grammar.{Build, Row, row, role, binary}
-use Rattle.grammar.specs.Parser.{Parsed, see, isMark, inClass}
+use Rattle.grammar.specs.Parser.{Parsed, see, is_mark, in_class}
 use Rattle.tree.specs.Clash.{impossible}
 
 -- no token that `look` accepts stands at the start
@@ -43,30 +43,30 @@ rank equivalence = 8
 
 -- neither a call's bracket nor an operator of the first n classes stands at the start
 pub record Stops (n : ℕ) (ts : List Token) : Type 0 where
-  pub noCall : Misses (isMark lparen) ts
-  pub noOperator : (c : Class) → rank c ≤ n → Misses (inClass c) ts
+  pub no_call : Misses (is_mark lparen) ts
+  pub no_operator : (c : Class) → rank c ≤ n → Misses (in_class c) ts
 
 -- what stops at a strength stops at each lower one
 pub stops-fewer : {n n' : ℕ} {ts : List Token} → n ≤ n' → Stops n' ts → Stops n ts
-stops-fewer h s = record { noCall = s.noCall; noOperator = λ c k. s.noOperator c (omega arith) }
+stops-fewer h s = record { no_call = s.no_call; no_operator = λ c k. s.no_operator c (omega arith) }
 
 -- the end stops every expression
 pub stops_end : {n : ℕ} → Stops n []
-stops_end = record { noCall = tt; noOperator = λ c k. tt }
+stops_end = record { no_call = tt; no_operator = λ c k. tt }
 
 -- a closing bracket stops every expression
 pub stops-rparen : {n : ℕ} {ts : List Token} → Stops n (mark rparen ∷ ts)
-unfolding isMark inClass binary role
-stops-rparen = record { noCall = refl; noOperator = λ c k. refl }
+unfolding is_mark in_class binary role
+stops-rparen = record { no_call = refl; no_operator = λ c k. refl }
 
 -- a comma stops every expression
 pub stops-comma : {n : ℕ} {ts : List Token} → Stops n (mark comma ∷ ts)
-unfolding isMark inClass binary role
-stops-comma = record { noCall = refl; noOperator = λ c k. refl }
+unfolding is_mark in_class binary role
+stops-comma = record { no_call = refl; no_operator = λ c k. refl }
 
 -- an operator is no bracket
-unmarked : (k : Mark) (o : Token) {r : Row} → binary o ≡ some r → isMark k o ≡ none
-unfolding isMark binary role
+unmarked : (k : Mark) (o : Token) {r : Row} → binary o ≡ some r → is_mark k o ≡ none
+unfolding is_mark binary role
 unmarked k (name w) e = refl
 unmarked k (nat n) e = refl
 unmarked k (mark k') e = impossible (cc)
@@ -74,8 +74,8 @@ unmarked k (sign g) e = refl
 unmarked k illegal e = refl
 
 -- an operator of one class is none of another
-pub other-class : (c : Class) (o : Token) {c' : Class} {b : Build} → binary o ≡ some (row c' b) → (c ≡ c' → ⊥) → inClass c o ≡ none
-unfolding inClass
+pub other-class : (c : Class) (o : Token) {c' : Class} {b : Build} → binary o ≡ some (row c' b) → (c ≡ c' → ⊥) → in_class c o ≡ none
+unfolding in_class
 other-class c o {c'} {b} e n = rw e (by-class (Class-discrete c c'))
   where
     by-class : (d : Dec (c ≡ c')) → ◌≡◌ {A = Option Build} (elim d [ yes p ↦ some b | no n ↦ none ]) none
@@ -85,4 +85,4 @@ other-class c o {c'} {b} e n = rw e (by-class (Class-discrete c c'))
 -- an operator stops the expressions that bind tighter
 pub stops-operator : {n : ℕ} {c : Class} {b : Build} {ts : List Token} (o : Token) → binary o ≡ some (row c b) → n < rank c → Stops n (o ∷ ts)
 stops-operator {c} o e h =
-    record { noCall = unmarked lparen o e; noOperator = λ c' k. other-class c' o e (λ p. let q = ap rank p in omega arith) }
+    record { no_call = unmarked lparen o e; no_operator = λ c' k. other-class c' o e (λ p. let q = ap rank p in omega arith) }

@@ -4,12 +4,12 @@ use Prim.Native.Nat.{ℕ, zero, suc, ◌+◌, ◌*◌, ◌≤◌}
 use Rattle.std.proofs.Common.{arith}
 use Rattle.std.specs.Prelude.{Bool, true, false, List, [], ◌∷◌, length, drop}
 use Rattle.lexing.specs.Answer.{Answer, ok, refused, moved, pick}
-use Rattle.lexing.specs.Tokens.{parseId, parseCustomLiteral, keyword, sign, signNotPrefix, natural}
-use Rattle.lexing.specs.TokenLaws.{Within, parseId-within, parseCustomLiteral-within, natural-within, sign-within, signNotPrefix-within, keyword-within}
-use Rattle.grammar.specs.Steps.{Reader, after, ◌or◌, keywordAt, signAt, parseName, parseLiteralText, parseNat}
-use Rattle.grammar.specs.Rules.{Sequence, commaTail, parseNonemptyCommaDelimitedSeq, parseCommaDelimitedSeq, parseListed}
+use Rattle.lexing.specs.Tokens.{parse_id, parse_custom_literal, keyword, sign, sign_not_prefix, natural}
+use Rattle.lexing.specs.TokenLaws.{Within, parse_id-within, parse_custom_literal-within, natural-within, sign-within, sign_not_prefix-within, keyword-within}
+use Rattle.grammar.specs.Steps.{Reader, after, ◌or◌, keyword_at, sign_at, parse_name, parse_literal_text, parse_nat}
+use Rattle.grammar.specs.Rules.{Sequence, comma_tail, parse_nonempty_comma_delimited_seq, parse_comma_delimited_seq, parse_listed}
 use Rattle.grammar.specs.Statements.{rep}
-use Rattle.grammar.specs.Proofs.Size.Sizes.{seqSize}
+use Rattle.grammar.specs.Proofs.Size.Sizes.{seq_size}
 
 -- n words are at most five for each byte from `at` to `next`, and so many more
 abbrev pub Few : ℕ → ℕ → ℕ → ℕ → Type 0
@@ -74,27 +74,27 @@ token-few k n at Answer.none h = nothing
 token-few k n at (refused number place) h = refuses
 
 module _ (text : List ℕ) where
-  pub keyword-few : (w : List ℕ) → FewWords (λ _. 5 * length w) 0 (keywordAt text w)
+  pub keyword-few : (w : List ℕ) → FewWords (λ _. 5 * length w) 0 (keyword_at text w)
   keyword-few w at = token-few _ _ at (keyword w (drop at text)) (keyword-within w (drop at text))
 
-  pub sign-few : (w : List ℕ) → FewWords (λ _. 5 * length w) 0 (signAt text w)
+  pub sign-few : (w : List ℕ) → FewWords (λ _. 5 * length w) 0 (sign_at text w)
   sign-few w at = token-few _ _ at (sign w (drop at text)) (sign-within w (drop at text))
 
-  pub notPrefix-few : (w longer : List ℕ) → FewWords (λ _. 5 * length w) 0 (λ at. moved at (signNotPrefix w longer (drop at text)))
-  notPrefix-few w longer at = token-few _ _ at (signNotPrefix w longer (drop at text)) (signNotPrefix-within w longer (drop at text))
+  pub not_prefix-few : (w longer : List ℕ) → FewWords (λ _. 5 * length w) 0 (λ at. moved at (sign_not_prefix w longer (drop at text)))
+  not_prefix-few w longer at = token-few _ _ at (sign_not_prefix w longer (drop at text)) (sign_not_prefix-within w longer (drop at text))
 
-  pub natural-few : FewWords (λ _. 5) 0 (parseNat text)
+  pub natural-few : FewWords (λ _. 5) 0 (parse_nat text)
   natural-few at = token-few 1 _ at (natural (drop at text)) (natural-within (drop at text))
 
-  pub name-few : FewWords (λ _. 5) 0 (parseName text)
-  name-few at = step _ _ (token-few 1 _ at (parseId (drop at text)) (parseId-within (drop at text))) nothing (λ _ _. few)
+  pub name-few : FewWords (λ _. 5) 0 (parse_name text)
+  name-few at = step _ _ (token-few 1 _ at (parse_id (drop at text)) (parse_id-within (drop at text))) nothing (λ _ _. few)
 
-  pub literal-few : FewWords (λ _. 5) 0 (parseLiteralText text)
-  literal-few at = step _ _ (token-few 1 _ at (parseCustomLiteral (drop at text)) (parseCustomLiteral-within (drop at text))) nothing (λ _ _. few)
+  pub literal-few : FewWords (λ _. 5) 0 (parse_literal_text text)
+  literal-few at = step _ _ (token-few 1 _ at (parse_custom_literal (drop at text)) (parse_custom_literal-within (drop at text))) nothing (λ _ _. few)
 
   -- after a word, whose first byte allows five words more
   pub led : {A : Type 0} {size : A → ℕ} {rule : Reader A} → FewWords size 5 rule → (b : ℕ) (w : List ℕ) (at : ℕ)
-      → FewAt size at 0 (after (keywordAt text (b ∷ w) at) Answer.none (λ _ at₁. rule at₁))
+      → FewAt size at 0 (after (keyword_at text (b ∷ w) at) Answer.none (λ _ at₁. rule at₁))
   led h b w at = by (keyword-few (b ∷ w)) at nothing (λ _ at₁ p. since (omega arith) (h at₁))
 
 -- ---- sequences
@@ -105,7 +105,7 @@ pub record Sums {A L : Type 0} (q : Sequence A L) (each : A → ℕ) (all : L �
   pub more : (a : A) (l : L) → all (q.cons a l) ≤ item each a + all l
 
 -- a list
-pub list-sums : {A : Type 0} (each : A → ℕ) → Sums (record { nil = []; cons = ◌∷◌ }) each (seqSize each) 1
+pub list-sums : {A : Type 0} (each : A → ℕ) → Sums (record { nil = []; cons = ◌∷◌ }) each (seq_size each) 1
 list-sums each = record { none = omega arith; more = λ a l. omega arith }
 
 module _ {A L : Type 0} {q : Sequence A L} {each : A → ℕ} {all : L → ℕ} {end : ℕ} (k : Sums q each all end) where
@@ -118,20 +118,20 @@ module _ {A L : Type 0} {q : Sequence A L} {each : A → ℕ} {all : L → ℕ} 
 
   -- of items that have up to five more, as many as a comma allows
   module _ (text : List ℕ) {rule : Reader A} (over : ℕ) (small : over ≤ 5) (h : FewWords (item each) over rule) where
-    commaTail-few : (n : ℕ) → FewWords all end (commaTail text q n rule)
-    unfolding commaTail
-    commaTail-few zero at = few {a = q.nil} {next = at} (omega (arith, k.none))
-    commaTail-few (suc n) at =
+    comma_tail-few : (n : ℕ) → FewWords all end (comma_tail text q n rule)
+    unfolding comma_tail
+    comma_tail-few zero at = few {a = q.nil} {next = at} (omega (arith, k.none))
+    comma_tail-few (suc n) at =
         by (sign-few text _) at (few (omega (arith, k.none)))
-        (λ _ at₁ p₁. by h at₁ refuses (λ a at₂ p₂. by (commaTail-few n) at₂ nothing (λ l at₃ p₃. few (omega (arith, k.more a l)))))
+        (λ _ at₁ p₁. by h at₁ refuses (λ a at₂ p₂. by (comma_tail-few n) at₂ nothing (λ l at₃ p₃. few (omega (arith, k.more a l)))))
 
     module _ (m : ℕ) where
-      pub nonempty-few : FewWords all (over + end) (parseNonemptyCommaDelimitedSeq text m q rule)
-      unfolding parseNonemptyCommaDelimitedSeq
-      nonempty-few at = by h at nothing (λ a at₁ p₁. by (commaTail-few m) at₁ nothing (λ l at₂ p₂. few (omega (arith, k.more a l))))
+      pub nonempty-few : FewWords all (over + end) (parse_nonempty_comma_delimited_seq text m q rule)
+      unfolding parse_nonempty_comma_delimited_seq
+      nonempty-few at = by h at nothing (λ a at₁ p₁. by (comma_tail-few m) at₁ nothing (λ l at₂ p₂. few (omega (arith, k.more a l))))
 
-      pub listed-few : (close : List ℕ) → FewWords all (over + end) (parseListed text m q rule close)
-      unfolding parseListed parseCommaDelimitedSeq
+      pub listed-few : (close : List ℕ) → FewWords all (over + end) (parse_listed text m q rule close)
+      unfolding parse_listed parse_comma_delimited_seq
       listed-few close at =
           step all (over + end) (either (nonempty-few at) (few (omega (arith, k.none)))) refuses
           (λ l at₁ p₁. by (sign-few text close) at₁ refuses (λ _ at₂ p₂. few (omega arith)))

@@ -5,129 +5,129 @@ use Rattle.std.proofs.Math.Option.{Option, none, some}
 use Rattle.tree.specs.Ast.{Span, Binding, binding, Variable, CallArgument}
 use Rattle.tree.specs.Ast.{Tagger, FParameter, FunctionDefinition, Function, Axiom, PParameter, Procedure, Program}
 use Rattle.tree.specs.Ast.{Expr, BLiteral, ILiteral, CustomLiteral, IdExpr, OperatorExpr, FunctionCallExpr, LabeledExpr, LetExpr, QuantifierExpr, ClosureExpr}
-use Rattle.tree.specs.Ast.{Exprs, noExprs, ◌then◌, Patterns, noPatterns, pattern}
-use Rattle.tree.specs.Ast.{ClosureBindings, noClosureBindings, closureBinding, ClosureProperties, noClosureProperties, closureProperty}
+use Rattle.tree.specs.Ast.{Exprs, no_exprs, ◌then◌, Patterns, no_patterns, pattern}
+use Rattle.tree.specs.Ast.{ClosureBindings, no_closure_bindings, closure_binding, ClosureProperties, no_closure_properties, closure_property}
 use Rattle.tree.specs.Ast.{Stmt, VarDecl, Assign, Reinit, Block, Call, Check, Assume, Reach, Assert, AForall, Choose, If, IfCase, Loop, LabeledStmt, Exit, Return, Probe}
-use Rattle.tree.specs.Ast.{Stmts, noStmts, stmts, Cases, noCases, case, AExpr, aExpr, AAssertion, AExprs, noAExprs, aExprs}
-use Rattle.tree.specs.Words.{nameWords, optionWords, seqWords, bindingWords, exprWords, exprsWords, patternsWords, closureBindingsWords, closurePropertiesWords}
-use Rattle.tree.specs.Words.{callArgumentWords, stmtWords, stmtsWords, casesWords, aExprWords, aExprsWords}
-use Rattle.tree.specs.Words.{taggerWords, fParameterWords, functionDefinitionWords, functionWords, axiomWords, pParameterWords, procedureWords, programWords}
+use Rattle.tree.specs.Ast.{Stmts, no_stmts, stmts, Cases, no_cases, case, AExpr, a_expr, AAssertion, AExprs, no_a_exprs, a_exprs}
+use Rattle.tree.specs.Words.{name_words, option_words, seq_words, binding_words, expr_words, exprs_words, patterns_words, closure_bindings_words, closure_properties_words}
+use Rattle.tree.specs.Words.{call_argument_words, stmt_words, stmts_words, cases_words, a_expr_words, a_exprs_words}
+use Rattle.tree.specs.Words.{tagger_words, f_parameter_words, function_definition_words, function_words, axiom_words, p_parameter_words, procedure_words, program_words}
 
 -- ---- sizes, in the order of the words
 
-abbrev pub optionSize : {A : Type 0} → (A → ℕ) → Option A → ℕ
-optionSize size none = 1
-optionSize size (some a) = 1 + size a
+abbrev pub option_size : {A : Type 0} → (A → ℕ) → Option A → ℕ
+option_size size none = 1
+option_size size (some a) = 1 + size a
 
-abbrev pub seqSize : {A : Type 0} → (A → ℕ) → List A → ℕ
-seqSize size [] = 1
-seqSize size (a ∷ l) = 1 + size a + seqSize size l
+abbrev pub seq_size : {A : Type 0} → (A → ℕ) → List A → ℕ
+seq_size size [] = 1
+seq_size size (a ∷ l) = 1 + size a + seq_size size l
 
-abbrev pub nameSize : Span → ℕ
-nameSize n = 2
+abbrev pub name_size : Span → ℕ
+name_size n = 2
 
-abbrev pub bindingSize : Binding Span → ℕ
-bindingSize b = 4
-
-abbrev mutual
-  pub exprSize : Expr Span → ℕ
-  exprSize (BLiteral b) = 2
-  exprSize (ILiteral n) = 3
-  exprSize (CustomLiteral s t) = 5
-  exprSize (IdExpr n o) = 4
-  exprSize (OperatorExpr o es) = 2 + exprsSize es
-  exprSize (FunctionCallExpr n es) = 3 + exprsSize es
-  exprSize (LabeledExpr n e) = 3 + exprSize e
-  exprSize (LetExpr n t r e) = 3 + optionSize nameSize t + exprSize r + exprSize e
-  exprSize (QuantifierExpr u bs ps e) = 2 + seqSize bindingSize bs + patternsSize ps + exprSize e
-  exprSize (ClosureExpr bs n t ps) = 5 + closureBindingsSize bs + closurePropertiesSize ps
-
-  pub exprsSize : Exprs Span → ℕ
-  exprsSize noExprs = 1
-  exprsSize (◌then◌ e es) = 1 + exprSize e + exprsSize es
-
-  pub patternsSize : Patterns Span → ℕ
-  patternsSize noPatterns = 1
-  patternsSize (pattern es ps) = 1 + exprsSize es + patternsSize ps
-
-  pub closureBindingsSize : ClosureBindings Span → ℕ
-  closureBindingsSize noClosureBindings = 1
-  closureBindingsSize (closureBinding n ps e bs) = 3 + seqSize bindingSize ps + exprSize e + closureBindingsSize bs
-
-  pub closurePropertiesSize : ClosureProperties Span → ℕ
-  closurePropertiesSize noClosureProperties = 1
-  closurePropertiesSize (closureProperty ts e ps) = 1 + patternsSize ts + exprSize e + closurePropertiesSize ps
-
-abbrev pub variableSize : Variable Span → ℕ
-variableSize v = 3 + optionSize nameSize v.optionalType + optionSize exprSize v.optionalAutoInv
-
-abbrev pub callArgumentSize : CallArgument Span → ℕ
-callArgumentSize a = 1 + exprSize a.arg
+abbrev pub binding_size : Binding Span → ℕ
+binding_size b = 4
 
 abbrev mutual
-  pub stmtSize : Stmt Span → ℕ
-  stmtSize (VarDecl v i s) = 1 + variableSize v + optionSize exprSize i + stmtSize s
-  stmtSize (Assign n e) = 3 + exprSize e
-  stmtSize (Reinit ns) = 1 + seqSize nameSize ns
-  stmtSize (Block ss) = 1 + stmtsSize ss
-  stmtSize (Call n cs) = 3 + seqSize callArgumentSize cs
-  stmtSize (Check e) = 1 + exprSize e
-  stmtSize (Assume e) = 1 + exprSize e
-  stmtSize (Reach e) = 1 + exprSize e
-  stmtSize (Assert e) = 1 + exprSize e
-  stmtSize (AForall n t s) = 5 + stmtSize s
-  stmtSize (Choose ss) = 1 + stmtsSize ss
-  stmtSize (If e s t) = 1 + exprSize e + stmtSize s + stmtSize t
-  stmtSize (IfCase cs) = 1 + casesSize cs
-  stmtSize (Loop is s) = 1 + aExprsSize is + stmtSize s
-  stmtSize (LabeledStmt n s) = 3 + stmtSize s
-  stmtSize (Exit l) = 1 + optionSize nameSize l
-  stmtSize Return = 1
-  stmtSize (Probe e) = 1 + exprSize e
+  pub expr_size : Expr Span → ℕ
+  expr_size (BLiteral b) = 2
+  expr_size (ILiteral n) = 3
+  expr_size (CustomLiteral s t) = 5
+  expr_size (IdExpr n o) = 4
+  expr_size (OperatorExpr o es) = 2 + exprs_size es
+  expr_size (FunctionCallExpr n es) = 3 + exprs_size es
+  expr_size (LabeledExpr n e) = 3 + expr_size e
+  expr_size (LetExpr n t r e) = 3 + option_size name_size t + expr_size r + expr_size e
+  expr_size (QuantifierExpr u bs ps e) = 2 + seq_size binding_size bs + patterns_size ps + expr_size e
+  expr_size (ClosureExpr bs n t ps) = 5 + closure_bindings_size bs + closure_properties_size ps
 
-  pub stmtsSize : Stmts Span → ℕ
-  stmtsSize noStmts = 1
-  stmtsSize (stmts s ss) = 1 + stmtSize s + stmtsSize ss
+  pub exprs_size : Exprs Span → ℕ
+  exprs_size no_exprs = 1
+  exprs_size (◌then◌ e es) = 1 + expr_size e + exprs_size es
 
-  pub casesSize : Cases Span → ℕ
-  casesSize noCases = 1
-  casesSize (case e s cs) = 1 + exprSize e + stmtSize s + casesSize cs
+  pub patterns_size : Patterns Span → ℕ
+  patterns_size no_patterns = 1
+  patterns_size (pattern es ps) = 1 + exprs_size es + patterns_size ps
 
-  pub aExprSize : AExpr Span → ℕ
-  aExprSize (aExpr e) = 1 + exprSize e
-  aExprSize (AAssertion s) = 1 + stmtSize s
+  pub closure_bindings_size : ClosureBindings Span → ℕ
+  closure_bindings_size no_closure_bindings = 1
+  closure_bindings_size (closure_binding n ps e bs) = 3 + seq_size binding_size ps + expr_size e + closure_bindings_size bs
 
-  pub aExprsSize : AExprs Span → ℕ
-  aExprsSize noAExprs = 1
-  aExprsSize (aExprs a es) = 1 + aExprSize a + aExprsSize es
+  pub closure_properties_size : ClosureProperties Span → ℕ
+  closure_properties_size no_closure_properties = 1
+  closure_properties_size (closure_property ts e ps) = 1 + patterns_size ts + expr_size e + closure_properties_size ps
 
-abbrev pub taggerSize : Tagger Span → ℕ
-taggerSize t = 4
+abbrev pub variable_size : Variable Span → ℕ
+variable_size v = 3 + option_size name_size v.optional_type + option_size expr_size v.optional_auto_inv
 
-abbrev pub fParameterSize : FParameter Span → ℕ
-fParameterSize p = 5
+abbrev pub call_argument_size : CallArgument Span → ℕ
+call_argument_size a = 1 + expr_size a.arg
 
-abbrev pub functionDefinitionSize : FunctionDefinition Span → ℕ
-functionDefinitionSize d = exprsSize d.when + exprSize d.body
+abbrev mutual
+  pub stmt_size : Stmt Span → ℕ
+  stmt_size (VarDecl v i s) = 1 + variable_size v + option_size expr_size i + stmt_size s
+  stmt_size (Assign n e) = 3 + expr_size e
+  stmt_size (Reinit ns) = 1 + seq_size name_size ns
+  stmt_size (Block ss) = 1 + stmts_size ss
+  stmt_size (Call n cs) = 3 + seq_size call_argument_size cs
+  stmt_size (Check e) = 1 + expr_size e
+  stmt_size (Assume e) = 1 + expr_size e
+  stmt_size (Reach e) = 1 + expr_size e
+  stmt_size (Assert e) = 1 + expr_size e
+  stmt_size (AForall n t s) = 5 + stmt_size s
+  stmt_size (Choose ss) = 1 + stmts_size ss
+  stmt_size (If e s t) = 1 + expr_size e + stmt_size s + stmt_size t
+  stmt_size (IfCase cs) = 1 + cases_size cs
+  stmt_size (Loop is s) = 1 + a_exprs_size is + stmt_size s
+  stmt_size (LabeledStmt n s) = 3 + stmt_size s
+  stmt_size (Exit l) = 1 + option_size name_size l
+  stmt_size Return = 1
+  stmt_size (Probe e) = 1 + expr_size e
 
-abbrev pub functionSize : Function Span → ℕ
-functionSize g =
-    4 + seqSize fParameterSize g.parameters + optionSize nameSize g.tag + optionSize functionDefinitionSize g.definition
+  pub stmts_size : Stmts Span → ℕ
+  stmts_size no_stmts = 1
+  stmts_size (stmts s ss) = 1 + stmt_size s + stmts_size ss
 
-abbrev pub axiomSize : Axiom Span → ℕ
-axiomSize a = seqSize nameSize a.explains + exprSize a.expr
+  pub cases_size : Cases Span → ℕ
+  cases_size no_cases = 1
+  cases_size (case e s cs) = 1 + expr_size e + stmt_size s + cases_size cs
 
-abbrev pub pParameterSize : PParameter Span → ℕ
-pParameterSize p = 5 + optionSize exprSize p.optionalAutoInv
+  pub a_expr_size : AExpr Span → ℕ
+  a_expr_size (a_expr e) = 1 + expr_size e
+  a_expr_size (AAssertion s) = 1 + stmt_size s
 
-abbrev pub procedureSize : Procedure Span → ℕ
-procedureSize p =
-    2 + seqSize pParameterSize p.parameters + aExprsSize p.pre + aExprsSize p.post + optionSize stmtSize p.body
+  pub a_exprs_size : AExprs Span → ℕ
+  a_exprs_size no_a_exprs = 1
+  a_exprs_size (a_exprs a es) = 1 + a_expr_size a + a_exprs_size es
 
-abbrev pub programSize : Program Span → ℕ
-programSize p =
-    seqSize nameSize p.types + seqSize taggerSize p.taggers + seqSize functionSize p.functions + seqSize axiomSize p.axioms
-    + seqSize procedureSize p.procedures
+abbrev pub tagger_size : Tagger Span → ℕ
+tagger_size t = 4
+
+abbrev pub f_parameter_size : FParameter Span → ℕ
+f_parameter_size p = 5
+
+abbrev pub function_definition_size : FunctionDefinition Span → ℕ
+function_definition_size d = exprs_size d.when + expr_size d.body
+
+abbrev pub function_size : Function Span → ℕ
+function_size g =
+    4 + seq_size f_parameter_size g.parameters + option_size name_size g.tag + option_size function_definition_size g.definition
+
+abbrev pub axiom_size : Axiom Span → ℕ
+axiom_size a = seq_size name_size a.explains + expr_size a.expr
+
+abbrev pub p_parameter_size : PParameter Span → ℕ
+p_parameter_size p = 5 + option_size expr_size p.optional_auto_inv
+
+abbrev pub procedure_size : Procedure Span → ℕ
+procedure_size p =
+    2 + seq_size p_parameter_size p.parameters + a_exprs_size p.pre + a_exprs_size p.post + option_size stmt_size p.body
+
+abbrev pub program_size : Program Span → ℕ
+program_size p =
+    seq_size name_size p.types + seq_size tagger_size p.taggers + seq_size function_size p.functions + seq_size axiom_size p.axioms
+    + seq_size procedure_size p.procedures
 
 -- ---- the words are as many
 
@@ -136,32 +136,32 @@ abbrev Sized : ℕ → (List ℕ → List ℕ) → Type 0
 Sized n words = (rest : List ℕ) → length (words rest) ≡ n + length rest
 
 module _ {A : Type 0} (size : A → ℕ) (words : A → List ℕ → List ℕ) (each : (a : A) → Sized (size a) (words a)) where
-  option-sized : (t : Option A) → Sized (optionSize size t) (optionWords words t)
+  option-sized : (t : Option A) → Sized (option_size size t) (option_words words t)
   option-sized none rest = omega arith
   option-sized (some a) rest = omega (arith, each a rest)
 
-  seq-sized : (t : List A) → Sized (seqSize size t) (seqWords words t)
+  seq-sized : (t : List A) → Sized (seq_size size t) (seq_words words t)
   seq-sized [] rest = omega arith
-  seq-sized (a ∷ l) rest = omega (arith, each a (seqWords words l rest), seq-sized l rest)
+  seq-sized (a ∷ l) rest = omega (arith, each a (seq_words words l rest), seq-sized l rest)
 
 abbrev self : Span → Span
 self s = s
 
-names-sized : (t : List Span) → Sized (seqSize nameSize t) (seqWords (nameWords self) t)
-names-sized = seq-sized nameSize (nameWords self) (λ n rest. omega arith)
+names-sized : (t : List Span) → Sized (seq_size name_size t) (seq_words (name_words self) t)
+names-sized = seq-sized name_size (name_words self) (λ n rest. omega arith)
 
-name-option : (t : Option Span) → Sized (optionSize nameSize t) (optionWords (nameWords self) t)
-name-option = option-sized nameSize (nameWords self) (λ n rest. omega arith)
+name-option : (t : Option Span) → Sized (option_size name_size t) (option_words (name_words self) t)
+name-option = option-sized name_size (name_words self) (λ n rest. omega arith)
 
-bindings-sized : (t : List (Binding Span)) → Sized (seqSize bindingSize t) (seqWords (bindingWords self) t)
-bindings-sized = seq-sized bindingSize (bindingWords self) each
+bindings-sized : (t : List (Binding Span)) → Sized (seq_size binding_size t) (seq_words (binding_words self) t)
+bindings-sized = seq-sized binding_size (binding_words self) each
   where
-    each : (b : Binding Span) → Sized 4 (bindingWords self b)
+    each : (b : Binding Span) → Sized 4 (binding_words self b)
     each (binding n t) rest = omega arith
 
 mutual
   -- an expression's words
-  pub expr-sized : (t : Expr Span) (rest : List ℕ) → length (exprWords (λ s. s) t rest) ≡ exprSize t + length rest
+  pub expr-sized : (t : Expr Span) (rest : List ℕ) → length (expr_words (λ s. s) t rest) ≡ expr_size t + length rest
   expr-sized (BLiteral b) rest = omega arith
   expr-sized (ILiteral n) rest = omega arith
   expr-sized (CustomLiteral s t) rest = omega arith
@@ -169,35 +169,35 @@ mutual
   expr-sized (OperatorExpr o es) rest = omega (arith, exprs-sized es rest)
   expr-sized (FunctionCallExpr n es) rest = omega (arith, exprs-sized es rest)
   expr-sized (LabeledExpr n e) rest = omega (arith, expr-sized e rest)
-  expr-sized (LetExpr n t r e) rest = omega (arith, name-option t (exprWords self r (exprWords self e rest)), expr-sized r (exprWords self e rest), expr-sized e rest)
-  expr-sized (QuantifierExpr u bs ps e) rest = omega (arith, bindings-sized bs (patternsWords self ps (exprWords self e rest)), patterns-sized ps (exprWords self e rest), expr-sized e rest)
-  expr-sized (ClosureExpr bs n t ps) rest = omega (arith, closureBindings-sized bs (nameWords self n (nameWords self t (closurePropertiesWords self ps rest))), closureProperties-sized ps rest)
+  expr-sized (LetExpr n t r e) rest = omega (arith, name-option t (expr_words self r (expr_words self e rest)), expr-sized r (expr_words self e rest), expr-sized e rest)
+  expr-sized (QuantifierExpr u bs ps e) rest = omega (arith, bindings-sized bs (patterns_words self ps (expr_words self e rest)), patterns-sized ps (expr_words self e rest), expr-sized e rest)
+  expr-sized (ClosureExpr bs n t ps) rest = omega (arith, closure_bindings-sized bs (name_words self n (name_words self t (closure_properties_words self ps rest))), closure_properties-sized ps rest)
 
-  exprs-sized : (t : Exprs Span) → Sized (exprsSize t) (exprsWords self t)
-  exprs-sized noExprs rest = omega arith
-  exprs-sized (◌then◌ e es) rest = omega (arith, expr-sized e (exprsWords self es rest), exprs-sized es rest)
+  exprs-sized : (t : Exprs Span) → Sized (exprs_size t) (exprs_words self t)
+  exprs-sized no_exprs rest = omega arith
+  exprs-sized (◌then◌ e es) rest = omega (arith, expr-sized e (exprs_words self es rest), exprs-sized es rest)
 
-  patterns-sized : (t : Patterns Span) → Sized (patternsSize t) (patternsWords self t)
-  patterns-sized noPatterns rest = omega arith
-  patterns-sized (pattern es ps) rest = omega (arith, exprs-sized es (patternsWords self ps rest), patterns-sized ps rest)
+  patterns-sized : (t : Patterns Span) → Sized (patterns_size t) (patterns_words self t)
+  patterns-sized no_patterns rest = omega arith
+  patterns-sized (pattern es ps) rest = omega (arith, exprs-sized es (patterns_words self ps rest), patterns-sized ps rest)
 
-  closureBindings-sized : (t : ClosureBindings Span) → Sized (closureBindingsSize t) (closureBindingsWords self t)
-  closureBindings-sized noClosureBindings rest = omega arith
-  closureBindings-sized (closureBinding n ps e bs) rest = omega (arith, bindings-sized ps (exprWords self e (closureBindingsWords self bs rest)), expr-sized e (closureBindingsWords self bs rest), closureBindings-sized bs rest)
+  closure_bindings-sized : (t : ClosureBindings Span) → Sized (closure_bindings_size t) (closure_bindings_words self t)
+  closure_bindings-sized no_closure_bindings rest = omega arith
+  closure_bindings-sized (closure_binding n ps e bs) rest = omega (arith, bindings-sized ps (expr_words self e (closure_bindings_words self bs rest)), expr-sized e (closure_bindings_words self bs rest), closure_bindings-sized bs rest)
 
-  closureProperties-sized : (t : ClosureProperties Span) → Sized (closurePropertiesSize t) (closurePropertiesWords self t)
-  closureProperties-sized noClosureProperties rest = omega arith
-  closureProperties-sized (closureProperty ts e ps) rest = omega (arith, patterns-sized ts (exprWords self e (closurePropertiesWords self ps rest)), expr-sized e (closurePropertiesWords self ps rest), closureProperties-sized ps rest)
+  closure_properties-sized : (t : ClosureProperties Span) → Sized (closure_properties_size t) (closure_properties_words self t)
+  closure_properties-sized no_closure_properties rest = omega arith
+  closure_properties-sized (closure_property ts e ps) rest = omega (arith, patterns-sized ts (expr_words self e (closure_properties_words self ps rest)), expr-sized e (closure_properties_words self ps rest), closure_properties-sized ps rest)
 
-expr-option : (t : Option (Expr Span)) → Sized (optionSize exprSize t) (optionWords (exprWords self) t)
-expr-option = option-sized exprSize (exprWords self) expr-sized
+expr-option : (t : Option (Expr Span)) → Sized (option_size expr_size t) (option_words (expr_words self) t)
+expr-option = option-sized expr_size (expr_words self) expr-sized
 
-arguments-sized : (t : List (CallArgument Span)) → Sized (seqSize callArgumentSize t) (seqWords (callArgumentWords self) t)
-arguments-sized = seq-sized callArgumentSize (callArgumentWords self) (λ a rest. omega (arith, expr-sized a.arg rest))
+arguments-sized : (t : List (CallArgument Span)) → Sized (seq_size call_argument_size t) (seq_words (call_argument_words self) t)
+arguments-sized = seq-sized call_argument_size (call_argument_words self) (λ a rest. omega (arith, expr-sized a.arg rest))
 
 mutual
-  stmt-sized : (t : Stmt Span) → Sized (stmtSize t) (stmtWords self t)
-  stmt-sized (VarDecl v i s) rest = omega (arith, name-option v.optionalType (optionWords (exprWords self) v.optionalAutoInv (optionWords (exprWords self) i (stmtWords self s rest))), expr-option v.optionalAutoInv (optionWords (exprWords self) i (stmtWords self s rest)), expr-option i (stmtWords self s rest), stmt-sized s rest)
+  stmt-sized : (t : Stmt Span) → Sized (stmt_size t) (stmt_words self t)
+  stmt-sized (VarDecl v i s) rest = omega (arith, name-option v.optional_type (option_words (expr_words self) v.optional_auto_inv (option_words (expr_words self) i (stmt_words self s rest))), expr-option v.optional_auto_inv (option_words (expr_words self) i (stmt_words self s rest)), expr-option i (stmt_words self s rest), stmt-sized s rest)
   stmt-sized (Assign n e) rest = omega (arith, expr-sized e rest)
   stmt-sized (Reinit ns) rest = omega (arith, names-sized ns rest)
   stmt-sized (Block ss) rest = omega (arith, stmts-sized ss rest)
@@ -208,61 +208,61 @@ mutual
   stmt-sized (Assert e) rest = omega (arith, expr-sized e rest)
   stmt-sized (AForall n t s) rest = omega (arith, stmt-sized s rest)
   stmt-sized (Choose ss) rest = omega (arith, stmts-sized ss rest)
-  stmt-sized (If e s t) rest = omega (arith, expr-sized e (stmtWords self s (stmtWords self t rest)), stmt-sized s (stmtWords self t rest), stmt-sized t rest)
+  stmt-sized (If e s t) rest = omega (arith, expr-sized e (stmt_words self s (stmt_words self t rest)), stmt-sized s (stmt_words self t rest), stmt-sized t rest)
   stmt-sized (IfCase cs) rest = omega (arith, cases-sized cs rest)
-  stmt-sized (Loop is s) rest = omega (arith, aExprs-sized is (stmtWords self s rest), stmt-sized s rest)
+  stmt-sized (Loop is s) rest = omega (arith, a_exprs-sized is (stmt_words self s rest), stmt-sized s rest)
   stmt-sized (LabeledStmt n s) rest = omega (arith, stmt-sized s rest)
   stmt-sized (Exit l) rest = omega (arith, name-option l rest)
   stmt-sized Return rest = omega arith
   stmt-sized (Probe e) rest = omega (arith, expr-sized e rest)
 
-  stmts-sized : (t : Stmts Span) → Sized (stmtsSize t) (stmtsWords self t)
-  stmts-sized noStmts rest = omega arith
-  stmts-sized (stmts s ss) rest = omega (arith, stmt-sized s (stmtsWords self ss rest), stmts-sized ss rest)
+  stmts-sized : (t : Stmts Span) → Sized (stmts_size t) (stmts_words self t)
+  stmts-sized no_stmts rest = omega arith
+  stmts-sized (stmts s ss) rest = omega (arith, stmt-sized s (stmts_words self ss rest), stmts-sized ss rest)
 
-  cases-sized : (t : Cases Span) → Sized (casesSize t) (casesWords self t)
-  cases-sized noCases rest = omega arith
-  cases-sized (case e s cs) rest = omega (arith, expr-sized e (stmtWords self s (casesWords self cs rest)), stmt-sized s (casesWords self cs rest), cases-sized cs rest)
+  cases-sized : (t : Cases Span) → Sized (cases_size t) (cases_words self t)
+  cases-sized no_cases rest = omega arith
+  cases-sized (case e s cs) rest = omega (arith, expr-sized e (stmt_words self s (cases_words self cs rest)), stmt-sized s (cases_words self cs rest), cases-sized cs rest)
 
-  aExpr-sized : (t : AExpr Span) → Sized (aExprSize t) (aExprWords self t)
-  aExpr-sized (aExpr e) rest = omega (arith, expr-sized e rest)
-  aExpr-sized (AAssertion s) rest = omega (arith, stmt-sized s rest)
+  a_expr-sized : (t : AExpr Span) → Sized (a_expr_size t) (a_expr_words self t)
+  a_expr-sized (a_expr e) rest = omega (arith, expr-sized e rest)
+  a_expr-sized (AAssertion s) rest = omega (arith, stmt-sized s rest)
 
-  aExprs-sized : (t : AExprs Span) → Sized (aExprsSize t) (aExprsWords self t)
-  aExprs-sized noAExprs rest = omega arith
-  aExprs-sized (aExprs a es) rest = omega (arith, aExpr-sized a (aExprsWords self es rest), aExprs-sized es rest)
+  a_exprs-sized : (t : AExprs Span) → Sized (a_exprs_size t) (a_exprs_words self t)
+  a_exprs-sized no_a_exprs rest = omega arith
+  a_exprs-sized (a_exprs a es) rest = omega (arith, a_expr-sized a (a_exprs_words self es rest), a_exprs-sized es rest)
 
-functions-sized : (t : List (Function Span)) → Sized (seqSize functionSize t) (seqWords (functionWords self) t)
-functions-sized = seq-sized functionSize (functionWords self) each
+functions-sized : (t : List (Function Span)) → Sized (seq_size function_size t) (seq_words (function_words self) t)
+functions-sized = seq-sized function_size (function_words self) each
   where
-    definition : (t : Option (FunctionDefinition Span)) → Sized (optionSize functionDefinitionSize t) (optionWords (functionDefinitionWords self) t)
+    definition : (t : Option (FunctionDefinition Span)) → Sized (option_size function_definition_size t) (option_words (function_definition_words self) t)
     definition =
-        option-sized functionDefinitionSize (functionDefinitionWords self)
+        option-sized function_definition_size (function_definition_words self)
         (λ d rest. simp (exprs-sized d.when, expr-sized d.body) (omega arith))
 
-    formals : (t : List (FParameter Span)) → Sized (seqSize fParameterSize t) (seqWords (fParameterWords self) t)
-    formals = seq-sized fParameterSize (fParameterWords self) (λ p rest. omega arith)
+    formals : (t : List (FParameter Span)) → Sized (seq_size f_parameter_size t) (seq_words (f_parameter_words self) t)
+    formals = seq-sized f_parameter_size (f_parameter_words self) (λ p rest. omega arith)
 
-    each : (g : Function Span) → Sized (functionSize g) (functionWords self g)
+    each : (g : Function Span) → Sized (function_size g) (function_words self g)
     each g rest = simp (formals g.parameters, name-option g.tag, definition g.definition) (omega arith)
 
-axioms-sized : (t : List (Axiom Span)) → Sized (seqSize axiomSize t) (seqWords (axiomWords self) t)
-axioms-sized = seq-sized axiomSize (axiomWords self) (λ a rest. simp (names-sized a.explains, expr-sized a.expr) (omega arith))
+axioms-sized : (t : List (Axiom Span)) → Sized (seq_size axiom_size t) (seq_words (axiom_words self) t)
+axioms-sized = seq-sized axiom_size (axiom_words self) (λ a rest. simp (names-sized a.explains, expr-sized a.expr) (omega arith))
 
-procedures-sized : (t : List (Procedure Span)) → Sized (seqSize procedureSize t) (seqWords (procedureWords self) t)
-procedures-sized = seq-sized procedureSize (procedureWords self) each
+procedures-sized : (t : List (Procedure Span)) → Sized (seq_size procedure_size t) (seq_words (procedure_words self) t)
+procedures-sized = seq-sized procedure_size (procedure_words self) each
   where
-    parameters : (t : List (PParameter Span)) → Sized (seqSize pParameterSize t) (seqWords (pParameterWords self) t)
-    parameters = seq-sized pParameterSize (pParameterWords self) (λ p rest. omega (arith, expr-option p.optionalAutoInv rest))
+    parameters : (t : List (PParameter Span)) → Sized (seq_size p_parameter_size t) (seq_words (p_parameter_words self) t)
+    parameters = seq-sized p_parameter_size (p_parameter_words self) (λ p rest. omega (arith, expr-option p.optional_auto_inv rest))
 
-    body : (t : Option (Stmt Span)) → Sized (optionSize stmtSize t) (optionWords (stmtWords self) t)
-    body = option-sized stmtSize (stmtWords self) stmt-sized
+    body : (t : Option (Stmt Span)) → Sized (option_size stmt_size t) (option_words (stmt_words self) t)
+    body = option-sized stmt_size (stmt_words self) stmt-sized
 
-    each : (p : Procedure Span) → Sized (procedureSize p) (procedureWords self p)
-    each p rest = simp (parameters p.parameters, aExprs-sized p.pre, aExprs-sized p.post, body p.body) (omega arith)
+    each : (p : Procedure Span) → Sized (procedure_size p) (procedure_words self p)
+    each p rest = simp (parameters p.parameters, a_exprs-sized p.pre, a_exprs-sized p.post, body p.body) (omega arith)
 
 -- a program's words
-pub program-sized : (p : Program Span) (rest : List ℕ) → length (programWords (λ s. s) p rest) ≡ programSize p + length rest
+pub program-sized : (p : Program Span) (rest : List ℕ) → length (program_words (λ s. s) p rest) ≡ program_size p + length rest
 program-sized p rest =
-    let taggers = seq-sized taggerSize (taggerWords self) (λ t rest. omega arith) in
+    let taggers = seq-sized tagger_size (tagger_words self) (λ t rest. omega arith) in
     simp (names-sized p.types, taggers p.taggers, functions-sized p.functions, axioms-sized p.axioms, procedures-sized p.procedures) (omega arith)

@@ -1,11 +1,11 @@
 -- `blank::blank_at_start` meets its contract: a law for each way out, by the tests that led there (Returns, `blank-space` to `blank_none`). What upstream
--- requires of `PositionAfterEndOfLongComment` holds since the opening mark is there (`startsWith-inside`).
+-- requires of `PositionAfterEndOfLongComment` holds since the opening mark is there (`starts_with-inside`).
 use mathlib.Core.Path.{sym, ◌∙◌}
 use mathlib.Core.List.{[], ◌∷◌}
 use native.Mathlib.Omega.{arith}
 use borrow.Author.Rules.{rules}
-use Rattle.lexing.specs.TokenLaws.{startsWith-inside}
-use Rattle.lexing.specs.Bytes.{notNewline}
+use Rattle.lexing.specs.TokenLaws.{starts_with-inside}
+use Rattle.lexing.specs.Bytes.{not_newline}
 use Rattle.lexing.proofs.Returns.{blank-empty, blank-space, blank-line, blank-long, blank_none, run-after-one}
 use Rattle.lexing.proofs.blank.blank_at_start.Statement.{statement}
 use Rattle.lexing.proofs.blank.blank_at_start.Tie as tie
@@ -19,7 +19,7 @@ returns-2 c = blank-space _ (search rules) (sym c.before.is-space.ensures ∙ c.
 add-t15 : tie.Need-overflow-add-t15
 add-t15 c =
     let s = c.before.before.before.before.before.before.before.before.before.before.args.s.now in
-    omega (arith, run-after-one notNewline s (search rules) c.run_length.ensures)
+    omega (arith, run-after-one not_newline s (search rules) c.run_length.ensures)
 
 returns-3 : tie.Need-returns-3
 returns-3 c =
@@ -28,7 +28,7 @@ returns-3 c =
     blank-line _ (search rules) p q _ c.run_length.ensures
 
 position-after-end-of-long-comment-requires : tie.Need-position-after-end-of-long-comment-requires
-position-after-end-of-long-comment-requires c κs = (startsWith-inside (47 ∷ 42 ∷ []) _ (sym c.before.starts-with2.ensures ∙ c.if4.true), search rules)
+position-after-end-of-long-comment-requires c κs = (starts_with-inside (47 ∷ 42 ∷ []) _ (sym c.before.starts-with2.ensures ∙ c.if4.true), search rules)
 
 returns-4 : tie.Need-returns-4
 returns-4 c =

@@ -1,6 +1,6 @@
 -- `bytes::belongs` meets its contract, class by class, by the contract of the class's test.
 use borrow.Author.Rules.{rules}
-use Rattle.lexing.specs.Bytes.{notNewline}
+use Rattle.lexing.specs.Bytes.{not_newline}
 use Rattle.lexing.proofs.bytes.belongs.Statement.{statement}
 use Rattle.lexing.proofs.bytes.belongs.Tie as tie
 
@@ -14,7 +14,7 @@ returns-3 : tie.Need-returns-3
 returns-3 c = rw c.before.enum-told3.given.1 c.custom-literal-char.ensures
 
 returns-4 : tie.Need-returns-4
-unfolding notNewline
+unfolding not_newline
 returns-4 c = rw c.enum-told4.given.1
 
 pub belongs-spec : {M : Type 1} → statement M

@@ -5,7 +5,7 @@ use Prim.Native.Nat.{◌-◌}
 use native.Mathlib.Omega.{arith}
 use lib.ListN.{length}
 use borrow.Author.Rules.{rules}
-use Rattle.lexing.proofs.Loops.{Matched, matched-start, matched-next, matched-differs, matched-end, startsWith-long}
+use Rattle.lexing.proofs.Loops.{Matched, matched-start, matched-next, matched-differs, matched-end, starts_with-long}
 use Rattle.lexing.proofs.bytes.starts_with.Statement.{statement}
 use Rattle.lexing.proofs.bytes.starts_with.Tie as tie
 
@@ -16,7 +16,7 @@ abbrev decreases-loop : tie.decreases-loop
 decreases-loop text w i₀ i = length w - i
 
 returns : tie.Need-returns invariant-loop decreases-loop
-returns c = sym (startsWith-long _ _ (search rules))
+returns c = sym (starts_with-long _ _ (search rules))
 
 loop-holds : tie.Need-loop-init invariant-loop decreases-loop
 loop-holds c = matched-start _ _

@@ -2,7 +2,7 @@
 use mathlib.Core.Path.{sym, ◌∙◌}
 use native.Mathlib.Omega.{arith}
 use borrow.Author.Rules.{rules}
-use Rattle.lexing.specs.Bytes.{identifierChar}
+use Rattle.lexing.specs.Bytes.{identifier_char}
 use Rattle.lexing.proofs.Returns.{run-after-one, identifier-empty, identifier-run, identifier-none}
 use Rattle.lexing.proofs.token.identifier_length.Statement.{statement}
 use Rattle.lexing.proofs.token.identifier_length.Tie as tie
@@ -13,7 +13,7 @@ returns c = identifier-empty _ c.if1.true
 add-result : tie.Need-overflow-add-result
 add-result c =
     let s = c.before.before.before.before.before.before.before.args.text.now in
-    omega (arith, run-after-one identifierChar s (search rules) c.run_length.ensures)
+    omega (arith, run-after-one identifier_char s (search rules) c.run_length.ensures)
 
 returns-2 : tie.Need-returns-2
 returns-2 c = identifier-run _ (search rules) (sym c.before.before.before.can-start-identifier-char.ensures ∙ c.before.before.if2.true) _ c.run_length.ensures

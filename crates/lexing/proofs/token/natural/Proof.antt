@@ -4,7 +4,7 @@ use native.Mathlib.Omega.{arith}
 use lib.Seq.{length-take-le}
 use borrow.Author.Rules.{rules}
 use Rattle.lexing.specs.RunLaws.{run_inside}
-use Rattle.lexing.specs.Bytes.{isDigit}
+use Rattle.lexing.specs.Bytes.{is_digit}
 use Rattle.lexing.proofs.Returns.{natural-none, natural-value, natural-large}
 use Rattle.lexing.proofs.token.natural.Statement.{statement}
 use Rattle.lexing.proofs.token.natural.Tie as tie
@@ -13,7 +13,7 @@ returns : tie.Need-returns
 returns c = natural-none _ c.before.run_length.ensures c.if1.true
 
 slice-aggregate-decimal : tie.Need-slice-aggregate-decimal
-slice-aggregate-decimal c = sym (length-take-le _ _ (omega (arith, run_inside isDigit c.before.before.before.before.args.text.now)))
+slice-aggregate-decimal c = sym (length-take-le _ _ (omega (arith, run_inside is_digit c.before.before.before.before.args.text.now)))
 
 returns-2 : tie.Need-returns-2
 returns-2 c =

@@ -3,7 +3,7 @@ use native.Mathlib.Omega.{arith}
 use mathlib.Core.Path.{refl}
 use borrow.Author.Rules.{rules}
 use Rattle.tree.specs.Ast.{Span, Axiom}
-use Rattle.grammar.specs.Declarations.{afterAxiom}
+use Rattle.grammar.specs.Declarations.{after_axiom}
 use Rattle.parsing.specs.Code.{turns, opened}
 use Rattle.parsing.proofs.Mapping.{expr-needed}
 use Rattle.parsing.proofs.Reached.{Reached, begin, built, paired, room_for, length-here, length-after, needed, done}
@@ -13,7 +13,7 @@ use Rattle.parsing.proofs.decl.axiom_decl.Statement.{statement}
 use Rattle.parsing.proofs.decl.axiom_decl.Tie as tie
 
 abbrev at-start : tie.Start → Reached (Axiom Span)
-at-start c = begin {answer = afterAxiom c.args.text.now (turns c.args.text.now) (opened c.args.text.now c.args.depth) c.args.at} 0 0 (axiom-rule
+at-start c = begin {answer = after_axiom c.args.text.now (turns c.args.text.now) (opened c.args.text.now c.args.depth) c.args.at} 0 0 (axiom-rule
     c.args.text.now c.args.depth c.args.at) refl c.requires
 
 abbrev at_listed : tie.After-listed → Reached (Axiom Span)

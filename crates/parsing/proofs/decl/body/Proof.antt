@@ -5,14 +5,14 @@ use borrow.Author.Rules.{rules}
 use mathlib.Core.Option.{Option}
 use mathlib.Core.List.{◌∷◌}
 use Rattle.tree.specs.Ast.{Span, Stmt}
-use Rattle.parsing.specs.Declarations.{optionalBlock}
+use Rattle.parsing.specs.Declarations.{optional_block}
 use Rattle.parsing.proofs.Reached.{Reached, begin, headed, with-node, end-standing, room_for, length-here, length-after, done}
 use Rattle.parsing.proofs.Spared.{left, passed, passes_on}
 use Rattle.parsing.proofs.decl.body.Statement.{statement}
 use Rattle.parsing.proofs.decl.body.Tie as tie
 
 abbrev at-start : tie.Start → Reached (Option (Stmt Span))
-at-start c = begin {answer = optionalBlock c.args.text.now c.args.depth c.args.at} 0 0 refl refl c.requires
+at-start c = begin {answer = optional_block c.args.text.now c.args.depth c.args.at} 0 0 refl refl c.requires
 
 abbrev at_block : tie.After-s → Reached (Option (Stmt Span))
 at_block c = left (at-start c.before.before.before.before.before.before.before.before) _ _ refl c.s.given.1 c.before.before.before.before.block.ensures

@@ -4,7 +4,7 @@ use mathlib.Core.Path.{refl}
 use borrow.Author.Rules.{rules}
 use mathlib.Core.Option.{Option}
 use Rattle.tree.specs.Ast.{Span, FunctionDefinition}
-use Rattle.grammar.specs.Declarations.{parseFunctionDefinition}
+use Rattle.grammar.specs.Declarations.{parse_function_definition}
 use Rattle.parsing.specs.Code.{turns, opened}
 use Rattle.parsing.proofs.Laws.{took, found}
 use Rattle.parsing.proofs.Reached.{Reached, begin, token, built, paired, headed, room_for, length-here, length-after, missing, needed, done}
@@ -13,7 +13,7 @@ use Rattle.parsing.proofs.decl.definition.Statement.{statement}
 use Rattle.parsing.proofs.decl.definition.Tie as tie
 
 abbrev at-start : tie.Start → Reached (Option (FunctionDefinition Span))
-at-start c = begin {answer = parseFunctionDefinition c.args.text.now (turns c.args.text.now) (opened c.args.text.now c.args.depth) c.args.at}
+at-start c = begin {answer = parse_function_definition c.args.text.now (turns c.args.text.now) (opened c.args.text.now c.args.depth) c.args.at}
     0 0 (definition-rule c.args.text.now c.args.depth c.args.at) refl c.requires
 
 abbrev at-clauses : tie.After-clauses → Reached (Option (FunctionDefinition Span))

@@ -2,7 +2,7 @@
 use native.Mathlib.Omega.{arith}
 use mathlib.Core.Path.{refl}
 use borrow.Author.Rules.{rules}
-use Rattle.grammar.specs.Declarations.{parseExplains}
+use Rattle.grammar.specs.Declarations.{parse_explains}
 use Rattle.parsing.specs.Arena.{Holds}
 use Rattle.parsing.proofs.Laws.{kept_refl, took, after-refused, builds-node, builds-from, builds-after, builds-else}
 use Rattle.parsing.proofs.Rooms.{room-on}
@@ -15,18 +15,18 @@ items-requires c κs = let t = took c.before.before.at1.given.1 c.before.before.
     kept_refl (omega arith) t.inside (omega (arith, t))
 
 returns : tie.Need-returns
-unfolding parseExplains
+unfolding parse_explains
 returns c = let t = took c.before.before.before.before.before.before.at1.given.1 c.before.before.before.before.before.before.before.before.keyword.ensures in
     builds-after _ _ t.says (builds-from c.before.before.before.items.ensures.kept (omega arith) (omega (arith, t)) (omega (arith, t)) (builds-must _
     c.before.before.before.items.result c.needed.ensures c.before.before.before.items.ensures))
 
 returns-2 : tie.Need-returns-2
-unfolding parseExplains
+unfolding parse_explains
 returns-2 c = builds-else _ _ (rw c.enum_told.given.1 at c.before.before.keyword.ensures) (builds-node refl kept_refl (Holds.one c.before.before.before.before.before.before.requires.based.end-run)
     (omega (arith, c.before.before.before.before.before.before.requires)))
 
 returns-3 : tie.Need-returns-3
-unfolding parseExplains
+unfolding parse_explains
 returns-3 c = record { kept = kept_refl; agrees = after-refused _ _ (rw c.before.number.given.1 at c.before.before.before.keyword.ensures) }
 
 pub explains-spec : {M : Type 1} → statement M

@@ -3,7 +3,7 @@ use native.Mathlib.Omega.{arith}
 use mathlib.Core.Path.{refl}
 use borrow.Author.Rules.{rules}
 use Rattle.tree.specs.Ast.{Span, Function}
-use Rattle.grammar.specs.Declarations.{afterFunction}
+use Rattle.grammar.specs.Declarations.{after_function}
 use Rattle.parsing.specs.Code.{turns, opened}
 use Rattle.parsing.proofs.Laws.{took}
 use Rattle.parsing.proofs.Reached.{Reached, begin, token, built, room_for, length-here, length-after, missing, needed, done}
@@ -13,7 +13,7 @@ use Rattle.parsing.proofs.decl.function_decl.Statement.{statement}
 use Rattle.parsing.proofs.decl.function_decl.Tie as tie
 
 abbrev at-start : tie.Start → Reached (Function Span)
-at-start c = begin {answer = afterFunction c.args.text.now (turns c.args.text.now) (opened c.args.text.now c.args.depth) c.args.at} 0 0 (function-rule
+at-start c = begin {answer = after_function c.args.text.now (turns c.args.text.now) (opened c.args.text.now c.args.depth) c.args.at} 0 0 (function-rule
     c.args.text.now c.args.depth c.args.at) refl c.requires
 
 abbrev at-signed : tie.After-signed → Reached (Function Span)

@@ -3,7 +3,7 @@ use native.Mathlib.Omega.{arith}
 use mathlib.Core.Path.{refl}
 use borrow.Author.Rules.{rules}
 use Rattle.tree.specs.Ast.{Span, Procedure}
-use Rattle.grammar.specs.Declarations.{afterProcedure}
+use Rattle.grammar.specs.Declarations.{after_procedure}
 use Rattle.parsing.specs.Code.{turns, opened}
 use Rattle.parsing.proofs.Reached.{Reached, begin, built, room_for, length-here, length-after, needed, done}
 use Rattle.parsing.proofs.Spared.{four-over}
@@ -12,7 +12,7 @@ use Rattle.parsing.proofs.decl.proc_decl.Statement.{statement}
 use Rattle.parsing.proofs.decl.proc_decl.Tie as tie
 
 abbrev at-start : tie.Start → Reached (Procedure Span)
-at-start c = begin {answer = afterProcedure c.args.text.now (turns c.args.text.now) (opened c.args.text.now c.args.depth) c.args.at} 0 0 (procedure-rule
+at-start c = begin {answer = after_procedure c.args.text.now (turns c.args.text.now) (opened c.args.text.now c.args.depth) c.args.at} 0 0 (procedure-rule
     c.args.text.now c.args.depth c.args.at) refl c.requires
 
 abbrev at-signed : tie.After-signed → Reached (Procedure Span)

@@ -4,14 +4,14 @@ use mathlib.Core.Path.{refl}
 use borrow.Author.Rules.{rules}
 use Rattle.tree.specs.Ast.{Span}
 use Rattle.parsing.specs.Code.{ListOf}
-use Rattle.parsing.specs.Declarations.{signatureRule}
+use Rattle.parsing.specs.Declarations.{signature_rule}
 use Rattle.parsing.proofs.Laws.{took}
 use Rattle.parsing.proofs.Reached.{Reached, begin, token, built, paired, room_for, length-here, length-after, missing, needed, done}
 use Rattle.parsing.proofs.decl.signature.Statement.{statement}
 use Rattle.parsing.proofs.decl.signature.Tie as tie
 
 abbrev at-start : (c : tie.Start) → Reached (Span × ListOf c.args.kind)
-at-start c = begin {answer = signatureRule c.args.kind c.args.text.now c.args.depth c.args.at} 0 0 refl refl c.requires
+at-start c = begin {answer = signature_rule c.args.kind c.args.text.now c.args.depth c.args.at} 0 0 refl refl c.requires
 
 abbrev at_named : (c : tie.After-named) → Reached (Span × ListOf c.before.before.before.before.before.before.before.before.args.kind)
 at_named c = built (at-start c.before.before.before.before.before.before.before.before) _ _ refl c.named.given.1 c.before.before.before.before.identifier.ensures refl

@@ -3,7 +3,7 @@ use native.Mathlib.Omega.{arith}
 use mathlib.Core.Path.{refl}
 use borrow.Author.Rules.{rules}
 use Rattle.tree.specs.Ast.{Span, Tagger}
-use Rattle.grammar.specs.Declarations.{afterTagger}
+use Rattle.grammar.specs.Declarations.{after_tagger}
 use Rattle.parsing.proofs.Laws.{took}
 use Rattle.parsing.proofs.Reached.{Reached, begin, token, built, paired, room_for, length-here, length-after, missing, needed, done}
 use Rattle.parsing.proofs.DeclarationRules.{tagger-rule}
@@ -11,7 +11,7 @@ use Rattle.parsing.proofs.decl.tagger_decl.Statement.{statement}
 use Rattle.parsing.proofs.decl.tagger_decl.Tie as tie
 
 abbrev at-start : tie.Start → Reached (Tagger Span)
-at-start c = begin {answer = afterTagger c.args.text.now c.args.at} 0 0 (tagger-rule c.args.text.now c.args.at) refl c.requires
+at-start c = begin {answer = after_tagger c.args.text.now c.args.at} 0 0 (tagger-rule c.args.text.now c.args.at) refl c.requires
 
 abbrev at_named : tie.After-named → Reached (Tagger Span)
 at_named c = built (at-start c.before.before.before.before.before.before.before.before) _ _ refl c.named.given.1 c.before.before.before.before.identifier.ensures refl

@@ -1,13 +1,13 @@
 -- `lead::five` meets its contract, word before word from the last of the table on (WordTables).
 use borrow.Author.Rules.{rules}
-use Rattle.parsing.specs.Leads.{ofLength, leads}
+use Rattle.parsing.specs.Leads.{of_length, leads}
 use Rattle.parsing.proofs.WordTables.{none_told, one_more, all_told}
 use Rattle.parsing.proofs.lead.five.Statement.{statement}
 use Rattle.parsing.proofs.lead.five.Tie as tie
 
 returns : tie.Need-returns
 returns c =
-    all_told (ofLength 5 leads)
+    all_told (of_length 5 leads)
     (one_more _ c.known3.ensures
     (one_more _ c.before.before.known2.ensures
     (one_more _ c.before.before.before.before.known.ensures none_told)))

@@ -4,7 +4,7 @@ use Prim.Native.Nat.{◌+◌, ◌-◌}
 use mathlib.Core.Path.{◌≡◌, ap, ◌∙◌}
 use borrow.Author.Rules.{rules}
 use lib.ListN.{take, drop}
-use Rattle.parsing.specs.Leads.{leadOf}
+use Rattle.parsing.specs.Leads.{lead_of}
 use Rattle.parsing.proofs.lead.lead_at.Statement.{statement}
 use Rattle.parsing.proofs.lead.lead_at.Tie as tie
 
@@ -12,7 +12,7 @@ returns : tie.Need-returns
 returns c =
     let a = c.before.before.before.args in
     let n : a.at + a.len - a.at ≡ a.len = omega arith in
-    c.lead-of.ensures ∙ ap (λ n. leadOf (take n (drop a.at a.text.now))) n
+    c.lead-of.ensures ∙ ap (λ n. lead_of (take n (drop a.at a.text.now))) n
 
 pub lead-at-spec : {M : Type 1} → statement M
 lead-at-spec = tie.close (tie.spec (λ c. search rules) (λ c. search rules) (λ c. search rules) (λ c. search rules) (λ c κs. search rules) returns)

@@ -6,8 +6,8 @@ use mathlib.Core.List.{List}
 use borrow.Author.Rules.{rules}
 use Rattle.lexing.specs.Answer.{Answer, ok}
 use Rattle.tree.specs.Ast.{Span, Binding, binding}
-use Rattle.grammar.specs.Steps.{after, need, Sym, parseName, parseType}
-use Rattle.grammar.specs.Rules.{parseIdType}
+use Rattle.grammar.specs.Steps.{after, need, Sym, parse_name, parse_type}
+use Rattle.grammar.specs.Rules.{parse_id_type}
 use Rattle.parsing.specs.Arena.{Holds}
 use Rattle.parsing.proofs.Laws.{took}
 use Rattle.parsing.proofs.leaf.Pairs.{name-holds, pair-done}
@@ -16,10 +16,10 @@ use Rattle.parsing.proofs.leaf.between.Statement.{statement}
 use Rattle.parsing.proofs.leaf.between.Tie as tie
 
 rule : (text : List ℕ) (at : ℕ)
-    → parseIdType text at
-    ≡ after (parseName text at) Answer.none
-    (λ n at₁. need at₁ (Sym text ":" at₁) (λ _ at₂. need at₂ (parseType text at₂) (λ t at₃. ok (binding n t) at₃)))
-unfolding parseIdType
+    → parse_id_type text at
+    ≡ after (parse_name text at) Answer.none
+    (λ n at₁. need at₁ (Sym text ":" at₁) (λ _ at₂. need at₂ (parse_type text at₂) (λ t at₃. ok (binding n t) at₃)))
+unfolding parse_id_type
 rule text at = refl
 
 abbrev at-start : tie.Start → Reached (Binding Span)

@@ -16,7 +16,7 @@ use Rattle.parsing.proofs.leaf.constant.Tie as tie
 
 -- `false`, `true` and `old` do not stand there
 no_false : (c : tie.Else1) → T c.before.before.before.before.before.args.text.now "false" c.before.before.before.before.before.args.w.at ≡ Answer.none
-no_false c = word-absent c.before.before.before.before.before.requires.1 (bytes "false") c.before.is_IsWord.ensures c.if1.false
+no_false c = word-absent c.before.before.before.before.before.requires.1 (bytes "false") c.before.is_is_word.ensures c.if1.false
 
 no_true : (c : tie.Else2) → T c.before.before.before.before.before.before.before.before.args.text.now "true" c.before.before.before.before.before.before.before.before.args.w.at ≡ Answer.none
 no_true c = word-absent c.before.before.before.before.before.before.before.before.requires.1 (bytes "true") c.before.is-word2.ensures c.if2.false
@@ -29,7 +29,7 @@ over-requires c κs = omega (arith, c.before.before.before.before.before.before.
 
 returns : tie.Need-returns
 returns c =
-    builds-branch _ _ (word_stands c.before.before.before.before.before.before.before.before.before.requires.1 (bytes "false") c.before.before.before.before.before.is_IsWord.ensures c.before.before.before.before.if1.true) (record { some = refl })
+    builds-branch _ _ (word_stands c.before.before.before.before.before.before.before.before.before.requires.1 (bytes "false") c.before.before.before.before.before.is_is_word.ensures c.before.before.before.before.if1.true) (record { some = refl })
     (builds-node c.before.before.over.ensures.0 c.before.before.over.ensures.1.kept (Holds.two c.before.before.over.ensures.1.node)
     (omega (arith, c.before.before.before.before.before.before.before.before.before.requires.0, c.before.before.before.before.before.before.before.before.before.requires.1, word-past c.before.before.before.before.before.before.before.before.before.requires.1)))
 

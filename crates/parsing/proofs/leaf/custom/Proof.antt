@@ -6,10 +6,10 @@ use mathlib.Core.List.{List}
 use borrow.Author.Rules.{rules}
 use Rattle.lexing.specs.Answer.{Answer, ok}
 use Rattle.tree.specs.Ast.{Span, Expr, CustomLiteral}
-use Rattle.grammar.specs.Steps.{after, need, Sym, parseName, parseLiteralText}
-use Rattle.grammar.specs.Rules.{afterBar}
+use Rattle.grammar.specs.Steps.{after, need, Sym, parse_name, parse_literal_text}
+use Rattle.grammar.specs.Rules.{after_bar}
 use Rattle.parsing.specs.Arena.{Holds}
-use Rattle.parsing.specs.Code.{customExpr}
+use Rattle.parsing.specs.Code.{custom_expr}
 use Rattle.parsing.proofs.Laws.{took}
 use Rattle.parsing.proofs.leaf.Pairs.{pair-done}
 use Rattle.parsing.proofs.Reached.{Reached, begin, token, missing, untaken}
@@ -17,12 +17,12 @@ use Rattle.parsing.proofs.leaf.custom.Statement.{statement}
 use Rattle.parsing.proofs.leaf.custom.Tie as tie
 
 rule : (text : List ℕ) (at : ℕ)
-    → customExpr text at
+    → custom_expr text at
     ≡ after (Sym text "|" at) Answer.none
-    (λ _ at₁. need at₁ (parseLiteralText text at₁)
+    (λ _ at₁. need at₁ (parse_literal_text text at₁)
     (λ s at₂. need at₂ (Sym text ":" at₂)
-    (λ _ at₃. need at₃ (parseName text at₃) (λ t at₄. need at₄ (Sym text "|" at₄) (λ _ at₅. ok (CustomLiteral s t) at₅)))))
-unfolding afterBar
+    (λ _ at₃. need at₃ (parse_name text at₃) (λ t at₄. need at₄ (Sym text "|" at₄) (λ _ at₅. ok (CustomLiteral s t) at₅)))))
+unfolding after_bar
 rule text at = refl
 
 abbrev at-start : tie.Start → Reached (Expr Span)

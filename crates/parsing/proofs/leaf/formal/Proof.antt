@@ -4,7 +4,7 @@ use mathlib.Core.Bool.{true, false}
 use mathlib.Core.Path.{refl}
 use borrow.Author.Rules.{rules}
 use mathlib.Core.Logic.{inr}
-use Rattle.grammar.specs.Declarations.{formal, parseFunctionFormal}
+use Rattle.grammar.specs.Declarations.{formal, parse_function_formal}
 use Rattle.parsing.proofs.Laws.{kept_refl, took, after-refused, builds-from, builds-after, builds-else}
 use Rattle.parsing.proofs.Rooms.{room-on}
 use Rattle.parsing.proofs.Mapping.{builds-mapped, builds-must, formal-words}
@@ -20,7 +20,7 @@ between-requires-2 : tie.Need-between-requires-2
 between-requires-2 c κs = (c.before.before.before.before.before.before.before.requires, inr refl)
 
 returns : tie.Need-returns
-unfolding parseFunctionFormal
+unfolding parse_function_formal
 returns c =
     let t = took c.before.before.before.before.before.before.at1.given.1 c.before.before.before.before.before.before.before.before.keyword.ensures in
     builds-after _ _ t.says
@@ -28,12 +28,12 @@ returns c =
     (builds-must _ c.before.before.before.between.result c.needed.ensures (builds-mapped (formal true) (formal-words true) c.before.before.before.between.ensures)))
 
 returns-2 : tie.Need-returns-2
-unfolding parseFunctionFormal
+unfolding parse_function_formal
 returns-2 c =
     builds-else _ _ (rw c.before.before.before.before.enum_told.given.1 at c.before.before.before.before.before.before.keyword.ensures) (builds-mapped (formal false) (formal-words false) c.before.before.between2.ensures)
 
 returns-3 : tie.Need-returns-3
-unfolding parseFunctionFormal
+unfolding parse_function_formal
 returns-3 c = record { kept = kept_refl; agrees = after-refused _ _ (rw c.before.number.given.1 at c.before.before.before.keyword.ensures) }
 
 pub formal-spec : {M : Type 1} → statement M

@@ -3,7 +3,7 @@ use native.Mathlib.Omega.{arith}
 use mathlib.Core.Path.{sym}
 use borrow.Author.Rules.{rules}
 use Rattle.parsing.specs.Arena.{Holds}
-use Rattle.grammar.specs.Steps.{parseName}
+use Rattle.grammar.specs.Steps.{parse_name}
 use Rattle.lexing.specs.Answer.{ok}
 use Rattle.grammar.specs.StepLaws.{mapped-same}
 use Rattle.parsing.proofs.Laws.{kept_refl, took, builds-node, token-untaken}
@@ -12,7 +12,7 @@ use Rattle.parsing.proofs.leaf.identifier.Tie as tie
 
 returns : tie.Need-returns
 returns c =
-    rw (sym (mapped-same (parseName c.before.before.before.before.before.args.text.now c.before.before.before.before.before.args.at)))
+    rw (sym (mapped-same (parse_name c.before.before.before.before.before.args.text.now c.before.before.before.before.before.args.at)))
     (token-untaken (λ a next. ok a next) kept_refl c.before.before.name.result (record { tells = c.before.before.name.ensures; not-ok = c.before.match.keys2 }) c.untaken.ensures)
 
 cast-over-2 : tie.Need-overflow-cast-over-2

@@ -4,7 +4,7 @@ use mathlib.Core.Path.{refl}
 use borrow.Author.Rules.{rules}
 use mathlib.Core.Logic.{inr}
 use Rattle.tree.specs.Ast.{In, InOut, Out}
-use Rattle.grammar.specs.Declarations.{moded, parseModed}
+use Rattle.grammar.specs.Declarations.{moded, parse_moded}
 use Rattle.parsing.proofs.Laws.{kept_refl, took, builds-from}
 use Rattle.parsing.proofs.Rooms.{room-on}
 use Rattle.parsing.proofs.Branches.{needed-keeps, branch-refused, builds-branch, builds-skip}
@@ -26,7 +26,7 @@ between-requires-3 : tie.Need-between-requires-3
 between-requires-3 c κs = (c.before.before.before.before.before.before.before.before.before.before.before.requires, inr refl)
 
 returns : tie.Need-returns
-unfolding parseModed
+unfolding parse_moded
 returns c =
     let t = took c.before.before.before.before.before.before.at1.given.1 c.before.before.before.before.before.before.before.before.keyword.ensures in
     builds-branch _ _ t.says (needed-keeps _ _ _ (λ a next. record { some = refl }))
@@ -34,7 +34,7 @@ returns c =
     (builds-must _ c.before.before.before.between.result c.needed.ensures (builds-mapped (moded InOut) (moded-words InOut) c.before.before.before.between.ensures)))
 
 returns-2 : tie.Need-returns-2
-unfolding parseModed
+unfolding parse_moded
 returns-2 c =
     let t = took c.before.before.before.before.before.before.at12.given.1 c.before.before.before.before.before.before.before.before.keyword2.ensures in
     builds-skip _ _ (rw c.before.before.before.before.before.before.before.before.before.before.enum_told.given.1 at c.before.before.before.before.before.before.before.before.before.before.before.before.keyword.ensures)
@@ -43,19 +43,19 @@ returns-2 c =
     (builds-must _ c.before.before.before.between2.result c.needed2.ensures (builds-mapped (moded Out) (moded-words Out) c.before.before.before.between2.ensures))))
 
 returns-3 : tie.Need-returns-3
-unfolding parseModed
+unfolding parse_moded
 returns-3 c =
     builds-skip _ _ (rw c.before.before.before.before.before.before.before.before.enum_told.given.1 at c.before.before.before.before.before.before.before.before.before.before.keyword.ensures)
     (builds-skip _ _ (rw c.before.before.before.before.enum-told2.given.1 at c.before.before.before.before.before.before.keyword2.ensures) (builds-mapped (moded In) (moded-words In) c.before.before.between3.ensures))
 
 returns-4 : tie.Need-returns-4
-unfolding parseModed
+unfolding parse_moded
 returns-4 c =
     builds-skip _ _ (rw c.before.before.before.before.before.enum_told.given.1 at c.before.before.before.before.before.before.before.keyword.ensures)
     (record { kept = kept_refl; agrees = branch-refused _ _ (rw c.before.number.given.1 at c.before.before.before.keyword2.ensures) })
 
 returns-5 : tie.Need-returns-5
-unfolding parseModed
+unfolding parse_moded
 returns-5 c = record { kept = kept_refl; agrees = branch-refused _ _ (rw c.before.number2.given.1 at c.before.before.before.keyword.ensures) }
 
 pub moded-spec : {M : Type 1} → statement M

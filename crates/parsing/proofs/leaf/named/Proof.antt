@@ -6,14 +6,14 @@ use mathlib.Core.List.{List}
 use borrow.Author.Rules.{rules}
 use Rattle.lexing.specs.Answer.{ok}
 use Rattle.tree.specs.Ast.{Span}
-use Rattle.grammar.specs.Steps.{need, must, parseName}
+use Rattle.grammar.specs.Steps.{need, must, parse_name}
 use Rattle.parsing.specs.Arena.{Holds}
 use Rattle.parsing.proofs.Laws.{took}
 use Rattle.parsing.proofs.Reached.{Reached, begin, token, noted, headed, missing, done}
 use Rattle.parsing.proofs.leaf.named.Statement.{statement}
 use Rattle.parsing.proofs.leaf.named.Tie as tie
 
-rule : (text : List ℕ) (at : ℕ) → must at (parseName text at) ≡ need at (parseName text at) (λ n at₁. ok n at₁)
+rule : (text : List ℕ) (at : ℕ) → must at (parse_name text at) ≡ need at (parse_name text at) (λ n at₁. ok n at₁)
 rule text at = refl
 
 abbrev at-start : tie.Start → Reached Span

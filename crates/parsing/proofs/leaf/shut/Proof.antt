@@ -5,15 +5,15 @@ use mathlib.Core.Path.{refl}
 use borrow.Author.Rules.{rules}
 use Rattle.lexing.specs.declared.token.Lexed.TheVariants.{Ok as LexedOk, None as LexedNone, Refused as LexedRefused}
 use Rattle.lexing.specs.declared.token.Lexed.{Lexed}
-use Rattle.parsing.specs.Code.{Shuts, untakenAt, missingAt}
-use Rattle.grammar.specs.Steps.{signAt}
+use Rattle.parsing.specs.Code.{Shuts, untaken_at, missing_at}
+use Rattle.grammar.specs.Steps.{sign_at}
 use Rattle.parsing.proofs.Laws.{took, after_none, after-refused, token-stopped}
 use Rattle.parsing.specs.Arena.{Stopped}
 use Rattle.parsing.proofs.leaf.shut.Statement.{statement}
 use Rattle.parsing.proofs.leaf.shut.Tie as tie
 
 -- the sign is not there
-shut-missing : (text close : List ℕ) (at top es : ℕ) (r : Lexed) → Stopped (signAt text close at) (untakenAt r) → Shuts text close at top es (missingAt at r)
+shut-missing : (text close : List ℕ) (at top es : ℕ) (r : Lexed) → Stopped (sign_at text close at) (untaken_at r) → Shuts text close at top es (missing_at at r)
 shut-missing text close at top es (LexedOk v n) s = after_none _ _ s
 shut-missing text close at top es LexedNone s = after_none _ _ s
 shut-missing text close at top es (LexedRefused number place) s = after-refused _ _ s

@@ -1,56 +1,56 @@
 -- `sign::begins_operator` meets its contract, byte by byte.
 use mathlib.Core.Path.{refl}
 use borrow.Author.Tests.{ne_eqb}
-use Rattle.parsing.specs.Code.{beginsOperator}
+use Rattle.parsing.specs.Code.{begins_operator}
 use Rattle.parsing.proofs.sign.begins_operator.Statement.{statement}
 use Rattle.parsing.proofs.sign.begins_operator.Tie as tie
 
 returns : tie.Need-returns
-unfolding beginsOperator
+unfolding begins_operator
 returns c = rw c.match.keys1 refl
 
 returns-2 : tie.Need-returns-2
-unfolding beginsOperator
+unfolding begins_operator
 returns-2 c = rw c.match.keys2 refl
 
 returns-3 : tie.Need-returns-3
-unfolding beginsOperator
+unfolding begins_operator
 returns-3 c = rw c.match.keys3 refl
 
 returns-4 : tie.Need-returns-4
-unfolding beginsOperator
+unfolding begins_operator
 returns-4 c = rw c.match.keys4 refl
 
 returns-5 : tie.Need-returns-5
-unfolding beginsOperator
+unfolding begins_operator
 returns-5 c = rw c.match.keys5 refl
 
 returns-6 : tie.Need-returns-6
-unfolding beginsOperator
+unfolding begins_operator
 returns-6 c = rw c.match.keys6 refl
 
 returns-7 : tie.Need-returns-7
-unfolding beginsOperator
+unfolding begins_operator
 returns-7 c = rw c.match.keys7 refl
 
 returns-8 : tie.Need-returns-8
-unfolding beginsOperator
+unfolding begins_operator
 returns-8 c = rw c.match.keys8 refl
 
 returns-9 : tie.Need-returns-9
-unfolding beginsOperator
+unfolding begins_operator
 returns-9 c = rw c.match.keys9 refl
 
 returns-10 : tie.Need-returns-10
-unfolding beginsOperator
+unfolding begins_operator
 returns-10 c = rw c.match.keys10 refl
 
 returns-11 : tie.Need-returns-11
-unfolding beginsOperator
+unfolding begins_operator
 returns-11 c = rw c.match.keys11 refl
 
 returns-12 : tie.Need-returns-12
-unfolding beginsOperator
+unfolding begins_operator
 returns-12 c =
     simp (
       ne_eqb _ _ c.match.rest.0.0.0.0.0.0.0.0.0.0.1,

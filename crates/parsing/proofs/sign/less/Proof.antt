@@ -1,17 +1,17 @@
 -- `sign::less` meets its contract, by two branches (Signs).
 use native.Mathlib.Omega.{arith}
 use borrow.Author.Rules.{rules}
-use Rattle.grammar.specs.Rules.{lessOperator}
+use Rattle.grammar.specs.Rules.{less_operator}
 use Rattle.parsing.proofs.sign.Signs.{sign_read, sign-first, sign-next}
 use Rattle.parsing.proofs.sign.less.Statement.{statement}
 use Rattle.parsing.proofs.sign.less.Tie as tie
 
 returns : tie.Need-returns
-unfolding lessOperator
+unfolding less_operator
 returns c = (sign-first _ c.match.keys2 (sign_read _ _ _ c.before.before.sym-not-prefix.result (omega arith) c.before.before.sym-not-prefix.ensures c.before.where-read.ensures)).signs
 
 returns-2 : tie.Need-returns-2
-unfolding lessOperator
+unfolding less_operator
 returns-2 c =
     (sign-next _ c.before.before.before.before.enum_told.given.1
     (sign_read _ _ _ c.before.before.before.before.before.before.before.sym-not-prefix.result (omega arith) c.before.before.before.before.before.before.before.sym-not-prefix.ensures c.before.before.before.before.before.before.where-read.ensures)

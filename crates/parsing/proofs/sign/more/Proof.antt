@@ -1,17 +1,17 @@
 -- `sign::more` meets its contract, by two branches (Signs).
 use native.Mathlib.Omega.{arith}
 use borrow.Author.Rules.{rules}
-use Rattle.grammar.specs.Rules.{moreOperator}
+use Rattle.grammar.specs.Rules.{more_operator}
 use Rattle.parsing.proofs.sign.Signs.{sign_read, sign-first, sign-next}
 use Rattle.parsing.proofs.sign.more.Statement.{statement}
 use Rattle.parsing.proofs.sign.more.Tie as tie
 
 returns : tie.Need-returns
-unfolding moreOperator
+unfolding more_operator
 returns c = (sign-first _ c.match.keys2 (sign_read _ _ _ c.before.before.sym.result (omega arith) c.before.before.sym.ensures c.before.where-read.ensures)).signs
 
 returns-2 : tie.Need-returns-2
-unfolding moreOperator
+unfolding more_operator
 returns-2 c =
     (sign-next _ c.before.before.before.enum_told.given.1
     (sign_read _ _ _ c.before.before.before.before.before.before.sym.result (omega arith) c.before.before.before.before.before.before.sym.ensures c.before.before.before.before.before.where-read.ensures)

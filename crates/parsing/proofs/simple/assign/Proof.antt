@@ -3,7 +3,7 @@ use native.Mathlib.Omega.{arith}
 use mathlib.Core.Path.{refl}
 use borrow.Author.Rules.{rules}
 use Rattle.tree.specs.Ast.{Span, Stmt}
-use Rattle.parsing.specs.Statements.{assignStmt}
+use Rattle.parsing.specs.Statements.{assign_stmt}
 use Rattle.parsing.specs.Arena.{Holds}
 use Rattle.parsing.proofs.Laws.{took}
 use Rattle.parsing.proofs.Reached.{Reached, begin, token, built, noted, paired, room_for, length-here, length-after, untaken, needed, done}
@@ -12,7 +12,7 @@ use Rattle.parsing.proofs.simple.assign.Statement.{statement}
 use Rattle.parsing.proofs.simple.assign.Tie as tie
 
 abbrev at-start : tie.Start → Reached (Stmt Span)
-at-start c = begin {answer = assignStmt c.args.text.now c.args.depth c.args.w} 0 0 refl refl c.requires.0
+at-start c = begin {answer = assign_stmt c.args.text.now c.args.depth c.args.w} 0 0 refl refl c.requires.0
 
 abbrev at-becomes : tie.After-becomes → Reached (Stmt Span)
 at-becomes c = token (at-start c.before.before.before.before.before.before) _ _ refl (took c.becomes.given.1 c.before.before.sym.ensures)

@@ -4,7 +4,7 @@ use mathlib.Core.Path.{refl}
 use borrow.Author.Rules.{rules}
 use Rattle.tree.specs.Ast.{Span, Stmt}
 use Rattle.parsing.specs.Arena.{Holds}
-use Rattle.parsing.specs.Statements.{callStmt}
+use Rattle.parsing.specs.Statements.{call_stmt}
 use Rattle.parsing.proofs.Laws.{took}
 use Rattle.parsing.proofs.Reached.{Reached, begin, token, built, noted, paired, room_for, length-here, length-after, untaken, needed, done}
 use Rattle.parsing.proofs.StatementEquations.{call-rule}
@@ -12,7 +12,7 @@ use Rattle.parsing.proofs.simple.call.Statement.{statement}
 use Rattle.parsing.proofs.simple.call.Tie as tie
 
 abbrev at-start : tie.Start → Reached (Stmt Span)
-at-start c = begin {answer = callStmt c.args.text.now c.args.depth c.args.w} 0 0 refl refl c.requires.0
+at-start c = begin {answer = call_stmt c.args.text.now c.args.depth c.args.w} 0 0 refl refl c.requires.0
 
 abbrev at-paren : tie.After-paren → Reached (Stmt Span)
 at-paren c = token (at-start c.before.before.before.before.before.before) _ _ refl (took c.paren.given.1 c.before.before.sym.ensures)

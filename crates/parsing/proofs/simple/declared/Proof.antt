@@ -5,7 +5,7 @@ use mathlib.Core.Option.{Option}
 use borrow.Author.Rules.{rules}
 use Rattle.tree.specs.Ast.{Span, Expr, Variable}
 use Rattle.parsing.specs.Arena.{Holds}
-use Rattle.parsing.specs.Code.{boolOf}
+use Rattle.parsing.specs.Code.{bool_of}
 use Rattle.parsing.proofs.Laws.{took}
 use Rattle.parsing.proofs.Reached.{Reached, begin, token, built, noted, headed, room_for, length-here, length-after, missing, needed}
 use Rattle.parsing.proofs.Spared.{four-over}
@@ -17,7 +17,7 @@ abbrev Place : Type 0
 Place = Reached (Variable Span × Option (Expr Span))
 
 abbrev at-start : tie.Start → Place
-at-start c = begin 0 0 (declaration-rule c.args.text.now c.args.depth (boolOf c.args.mutable) c.args.at) refl c.requires.0
+at-start c = begin 0 0 (declaration-rule c.args.text.now c.args.depth (bool_of c.args.mutable) c.args.at) refl c.requires.0
 
 abbrev at_bound : tie.After-bound → Place
 at_bound c = token (at-start c.before.before.before.before.before) _ _ refl (took c.bound.given.1 c.before.before.name.ensures)

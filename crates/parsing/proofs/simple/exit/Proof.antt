@@ -4,7 +4,7 @@ use mathlib.Core.Path.{refl}
 use borrow.Author.Rules.{rules}
 use Rattle.tree.specs.Ast.{Span, Stmt}
 use Rattle.parsing.specs.Arena.{Holds}
-use Rattle.parsing.specs.Statements.{exitStmt}
+use Rattle.parsing.specs.Statements.{exit_stmt}
 use Rattle.parsing.proofs.Laws.{took}
 use Rattle.parsing.proofs.Identifiers.{name-worded}
 use Rattle.parsing.proofs.Reached.{Reached, begin, noted, length-here, refuses, done}
@@ -14,7 +14,7 @@ use Rattle.parsing.proofs.simple.exit.Statement.{statement}
 use Rattle.parsing.proofs.simple.exit.Tie as tie
 
 abbrev at-start : tie.Start → Reached (Stmt Span)
-at-start c = begin {answer = exitStmt c.args.text.now c.args.at} 0 0 refl refl c.requires
+at-start c = begin {answer = exit_stmt c.args.text.now c.args.at} 0 0 refl refl c.requires
 
 abbrev at_none : tie.After-enum-told → Reached (Stmt Span)
 at_none c = resaid (at-start c.before.before.before.before.before) _ (exit-none _ _ (rw c.enum_told.given.1 at c.before.before.name.ensures))

@@ -4,7 +4,7 @@ use mathlib.Core.Path.{refl}
 use borrow.Author.Rules.{rules}
 use Rattle.tree.specs.Ast.{Span, Stmt}
 use Rattle.parsing.specs.Arena.{Holds}
-use Rattle.parsing.specs.Statements.{exitStmt}
+use Rattle.parsing.specs.Statements.{exit_stmt}
 use Rattle.parsing.proofs.Laws.{took}
 use Rattle.parsing.proofs.Reached.{Reached, begin, noted, headed, length-here, refuses, done}
 use Rattle.parsing.proofs.Spared.{resaid}
@@ -16,7 +16,7 @@ use Rattle.parsing.proofs.simple.label.Tie as tie
 abbrev at-start : tie.Start → Led (Stmt Span)
 at-start c =
     record {
-      place = begin {answer = exitStmt c.args.text.now c.args.w.at} 0 0 refl refl c.requires.0;
+      place = begin {answer = exit_stmt c.args.text.now c.args.w.at} 0 0 refl refl c.requires.0;
       word = c.args.w;
       worded = c.requires.1;
       stands = refl;

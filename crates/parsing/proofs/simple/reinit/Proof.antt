@@ -3,14 +3,14 @@ use native.Mathlib.Omega.{arith}
 use mathlib.Core.Path.{refl}
 use borrow.Author.Rules.{rules}
 use Rattle.tree.specs.Ast.{Span, Stmt, Reinit}
-use Rattle.parsing.specs.Statements.{reinitStmt}
+use Rattle.parsing.specs.Statements.{reinit_stmt}
 use Rattle.parsing.proofs.Mapping.{must-need}
 use Rattle.parsing.proofs.Reached.{Reached, begin, built, headed, room_for, length-here, length-after, needed, done}
 use Rattle.parsing.proofs.simple.reinit.Statement.{statement}
 use Rattle.parsing.proofs.simple.reinit.Tie as tie
 
 abbrev at-start : tie.Start → Reached (Stmt Span)
-at-start c = begin {answer = reinitStmt c.args.text.now c.args.at} 0 0 (must-need Reinit c.args.at _) refl c.requires
+at-start c = begin {answer = reinit_stmt c.args.text.now c.args.at} 0 0 (must-need Reinit c.args.at _) refl c.requires
 
 abbrev at_listed : tie.After-listed → Reached (Stmt Span)
 at_listed c = built (at-start c.before.before.before.before.before.before.before.before) _ _ refl c.listed.given.1 c.before.before.before.before.items.ensures refl

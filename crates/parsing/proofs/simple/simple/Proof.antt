@@ -4,7 +4,7 @@ use mathlib.Core.Path.{◌≡◌, refl, ap}
 use borrow.Author.Rules.{rules}
 use Rattle.tree.specs.Ast.{Span, Stmt, Check, Assume, Reach, Assert, Probe}
 use Rattle.parsing.specs.Arena.{Holds}
-use Rattle.parsing.specs.Leads.{simpleRule}
+use Rattle.parsing.specs.Leads.{simple_rule}
 use Rattle.parsing.specs.declared.lead.Simple.{Simple}
 use Rattle.parsing.specs.declared.lead.Simple.TheVariants as simple
 use Rattle.parsing.proofs.Reached.{Reached, begin, noted, room_for, done}
@@ -15,10 +15,10 @@ use Rattle.parsing.proofs.simple.simple.Statement.{statement}
 use Rattle.parsing.proofs.simple.simple.Tie as tie
 
 abbrev at-start : tie.Start → Reached (Stmt Span)
-at-start c = begin {answer = simpleRule c.args.kind c.args.text.now c.args.depth c.args.at} 0 0 refl refl c.requires
+at-start c = begin {answer = simple_rule c.args.kind c.args.text.now c.args.depth c.args.at} 0 0 refl refl c.requires
 
 abbrev at-kind : (c : tie.Start) (k : Simple) → c.args.kind ≡ k → Reached (Stmt Span)
-at-kind c k h = resaid (at-start c) _ (ap (λ k. simpleRule k c.args.text.now c.args.depth c.args.at) h)
+at-kind c k h = resaid (at-start c) _ (ap (λ k. simple_rule k c.args.text.now c.args.depth c.args.at) h)
 
 reinit-requires : tie.Need-reinit-requires
 reinit-requires c κs = room_for (at-start c.before.before.before.before.before) refl

@@ -3,7 +3,7 @@ use native.Mathlib.Omega.{arith}
 use mathlib.Core.Path.{refl}
 use borrow.Author.Rules.{rules}
 use Rattle.tree.specs.Ast.{Span, Expr}
-use Rattle.grammar.specs.Declarations.{parseWhenClause}
+use Rattle.grammar.specs.Declarations.{parse_when_clause}
 use Rattle.parsing.specs.Code.{turns, opened}
 use Rattle.parsing.proofs.Laws.{took}
 use Rattle.parsing.proofs.Mapping.{builds-must}
@@ -14,7 +14,7 @@ use Rattle.parsing.proofs.simple.when.Statement.{statement}
 use Rattle.parsing.proofs.simple.when.Tie as tie
 
 abbrev at-start : tie.Start → Reached (Expr Span)
-at-start c = begin {answer = parseWhenClause c.args.text.now (turns c.args.text.now) (opened c.args.text.now c.args.depth) c.args.at} 0 0
+at-start c = begin {answer = parse_when_clause c.args.text.now (turns c.args.text.now) (opened c.args.text.now c.args.depth) c.args.at} 0 0
     (when-rule c.args.text.now c.args.depth c.args.at) refl c.requires
 
 abbrev at-word : tie.After-word → Reached (Expr Span)

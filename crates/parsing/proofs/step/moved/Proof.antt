@@ -2,7 +2,7 @@
 use mathlib.Core.Path.{ap, sym, subst}
 use native.Mathlib.Omega.{arith}
 use borrow.Author.Rules.{rules}
-use Rattle.parsing.specs.Code.{movedOf, placed}
+use Rattle.parsing.specs.Code.{moved_of, placed}
 use Rattle.parsing.proofs.step.moved.Statement.{statement}
 use Rattle.parsing.proofs.step.moved.Tie as tie
 
@@ -13,13 +13,13 @@ add-t9 : tie.Need-overflow-add-t9
 add-t9 c = omega (arith, subst (placed c.before.before.before.args.at) c.before.r2.given.1 c.before.before.before.requires)
 
 returns : tie.Need-returns
-returns c = ap (movedOf _) (sym c.before.r.given.1)
+returns c = ap (moved_of _) (sym c.before.r.given.1)
 
 returns-2 : tie.Need-returns-2
-returns-2 c = ap (movedOf _) (sym c.enum_told.given.1)
+returns-2 c = ap (moved_of _) (sym c.enum_told.given.1)
 
 returns-3 : tie.Need-returns-3
-returns-3 c = ap (movedOf _) (sym c.before.r2.given.1)
+returns-3 c = ap (moved_of _) (sym c.before.r2.given.1)
 
 pub moved-spec : {M : Type 1} → statement M
 moved-spec =

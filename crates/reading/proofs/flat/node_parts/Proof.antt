@@ -2,65 +2,65 @@
 use native.Mathlib.Omega.{arith}
 use borrow.Author.Rules.{rules}
 use borrow.Author.Tests.{ne_eqb}
-use Rattle.reading.specs.Flat.{nodeParts}
+use Rattle.reading.specs.Flat.{node_parts}
 use Rattle.reading.proofs.flat.Frames.{replaced-none}
 use Rattle.reading.proofs.flat.node_parts.Statement.{statement}
 use Rattle.reading.proofs.flat.node_parts.Tie as tie
 
 over-requires : tie.Need-over-requires
-unfolding nodeParts
+unfolding node_parts
 over-requires c κs = rw c.before.match.keys1 at c.before.before.before.requires
 
 over-requires-2 : tie.Need-over-requires-2
-unfolding nodeParts
+unfolding node_parts
 over-requires-2 c κs = rw c.before.match.keys2 at c.before.before.before.requires
 
 over-requires-3 : tie.Need-over-requires-3
-unfolding nodeParts
+unfolding node_parts
 over-requires-3 c κs = rw c.before.match.keys3 at c.before.before.before.requires
 
 over-requires-4 : tie.Need-over-requires-4
-unfolding nodeParts
+unfolding node_parts
 over-requires-4 c κs = rw c.before.match.keys4 at c.before.before.before.requires
 
 over-requires-5 : tie.Need-over-requires-5
-unfolding nodeParts
+unfolding node_parts
 over-requires-5 c κs = rw c.before.match.keys5 at c.before.before.before.requires
 
 mul-one : tie.Need-overflow-mul-one
-unfolding nodeParts
+unfolding node_parts
 mul-one c = omega (arith, rw c.before.match.keys6 at c.before.before.before.requires.small)
 
 add-one : tie.Need-overflow-add-one
-unfolding nodeParts
+unfolding node_parts
 add-one c = omega (arith, rw c.before.match.keys6 at c.before.before.before.requires.small)
 
 returns : tie.Need-returns
-unfolding nodeParts
+unfolding node_parts
 returns c = rw c.before.before.before.before.match.keys1 c.before.before.over.ensures
 
 returns-2 : tie.Need-returns-2
-unfolding nodeParts
+unfolding node_parts
 returns-2 c = rw c.before.before.before.before.match.keys2 c.before.before.over2.ensures
 
 returns-3 : tie.Need-returns-3
-unfolding nodeParts
+unfolding node_parts
 returns-3 c = rw c.before.before.before.before.match.keys3 c.before.before.over3.ensures
 
 returns-4 : tie.Need-returns-4
-unfolding nodeParts
+unfolding node_parts
 returns-4 c = rw c.before.before.before.before.match.keys4 c.before.before.over4.ensures
 
 returns-5 : tie.Need-returns-5
-unfolding nodeParts
+unfolding node_parts
 returns-5 c = rw c.before.before.before.before.match.keys5 c.before.before.over5.ensures
 
 returns-6 : tie.Need-returns-6
-unfolding nodeParts
+unfolding node_parts
 returns-6 c = rw c.before.before.before.before.match.keys6 c.before.before.one.ensures
 
 returns-7 : tie.Need-returns-7
-unfolding nodeParts
+unfolding node_parts
 returns-7 c = simp (ne_eqb _ _ c.match.rest.1, ne_eqb _ _ c.match.rest.0.1, ne_eqb _ _ c.match.rest.0.0.1, ne_eqb _ _ c.match.rest.0.0.0.1, ne_eqb _ _ c.match.rest.0.0.0.0.1, ne_eqb _ _ c.match.rest.0.0.0.0.0.1) (replaced-none _ _ c.before.before.requires.inside)
 
 pub node-parts-spec : {M : Type 1} → statement M

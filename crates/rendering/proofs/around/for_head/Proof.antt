@@ -1,13 +1,13 @@
 -- `forall`, the name and its type, a space.
 use mathlib.Core.Path.{refl}
 use Rattle.rendering.proofs.Places.{Place, begin, done, part, text}
-use Rattle.rendering.specs.StmtParts.{forHead}
+use Rattle.rendering.specs.StmtParts.{for_head}
 use borrow.Author.Rules.{rules}
 use Rattle.rendering.proofs.around.for_head.Statement.{statement}
 use Rattle.rendering.proofs.around.for_head.Tie as tie
 
 abbrev at-start : tie.Start → Place
-at-start c = begin (forHead c.args.text.now) c.args.words.now c.args.at c.args.out.now c.args.pos
+at-start c = begin (for_head c.args.text.now) c.args.words.now c.args.at c.args.out.now c.args.pos
 
 abbrev at-put : tie.After-put → Place
 at-put c = text (at-start c.before.before.before.before.before.before) c.put.ensures _ (λ x. refl)

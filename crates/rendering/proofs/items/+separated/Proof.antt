@@ -8,7 +8,7 @@ use mathlib.Core.Path.{refl}
 use lib.ListN.{length}
 use Rattle.lexing.specs.Bytes.{bytes}
 use Rattle.rendering.specs.Parts.{Part}
-use Rattle.rendering.specs.StmtParts.{itemPrint, itemList}
+use Rattle.rendering.specs.StmtParts.{item_print, item_list}
 use Rattle.tree.proofs.get.Reads as get
 use Rattle.rendering.proofs as fn
 use fn.PartPrints.Joins.{inside, passed as nearer}
@@ -49,12 +49,12 @@ module _ (t : ℕ) where
 
   -- the list at the function's place
   abbrev list : Of lts.Start → Part
-  list c = itemList c.args.text.now c.args.words.now c.args.counts.now c.args.step c.args.at 0 c.args.kind c.args.first.now
+  list c = item_list c.args.text.now c.args.words.now c.args.counts.now c.args.step c.args.at 0 c.args.kind c.args.first.now
 
   abbrev at-start : Of lts.Start → Place
   at-start c =
       seen (begin (made (list c) cons) c.args.words.now c.args.at c.args.out.now c.args.pos) _
-      (λ x. separated-print (itemPrint c.args.text.now c.args.words.now c.args.counts.now c.args.step c.args.at 0 c.args.kind) c.args.first.now (bytes ", ") x.tree.0 x.tree.1)
+      (λ x. separated-print (item_print c.args.text.now c.args.words.now c.args.counts.now c.args.step c.args.at 0 c.args.kind) c.args.first.now (bytes ", ") x.tree.0 x.tree.1)
 
   -- an item stands here
   is-inside : (c : Of lts.Else1) → c.before.before.before.before.before.before.before.before.args.at < length c.before.before.before.before.before.before.before.before.args.words.now

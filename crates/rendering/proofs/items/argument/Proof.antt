@@ -2,7 +2,7 @@
 use mathlib.Core.Path.{refl}
 use Rattle.rendering.proofs.Places.{Place, begin, done, part, passed, text_of, ready}
 use Rattle.rendering.specs.declared.items.Item.TheVariants.{Argument}
-use Rattle.rendering.specs.StmtParts.{anItem}
+use Rattle.rendering.specs.StmtParts.{an_item}
 use Rattle.rendering.proofs.PartPrints.Joins.{word_at}
 use Rattle.rendering.proofs.StmtPrints.Pieces.{mode-written}
 use native.Mathlib.Nat.{le_refl}
@@ -11,7 +11,7 @@ use Rattle.rendering.proofs.items.argument.Statement.{statement}
 use Rattle.rendering.proofs.items.argument.Tie as tie
 
 abbrev at-start : tie.Start → Place
-at-start c = begin (anItem c.args.text.now c.args.words.now c.args.counts.now c.args.step c.args.at 0 Argument) c.args.words.now c.args.at c.args.out.now c.args.pos
+at-start c = begin (an_item c.args.text.now c.args.words.now c.args.counts.now c.args.step c.args.at 0 Argument) c.args.words.now c.args.at c.args.out.now c.args.pos
 
 abbrev at-put-mode : tie.After-put-mode → Place
 at-put-mode c = text_of (at-start c.before.before.before.before.before.before) _ _ (λ x. mode-written c.before.before.before.before.before.before.args.words.now _ x.tree.mode (word_at c.before.before.before.before.before.before.args.words.now _ refl x.stands) c.put-mode.ensures) (λ x. refl)

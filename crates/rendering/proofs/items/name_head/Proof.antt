@@ -1,13 +1,13 @@
 -- A name, and text after it.
 use mathlib.Core.Path.{refl}
 use Rattle.rendering.proofs.Places.{Place, begin, done, part, text}
-use Rattle.rendering.specs.StmtParts.{nameHead}
+use Rattle.rendering.specs.StmtParts.{name_head}
 use borrow.Author.Rules.{rules}
 use Rattle.rendering.proofs.items.name_head.Statement.{statement}
 use Rattle.rendering.proofs.items.name_head.Tie as tie
 
 abbrev at-start : tie.Start → Place
-at-start c = begin (nameHead c.args.text.now c.args.suffix.now) c.args.words.now c.args.at c.args.out.now c.args.pos
+at-start c = begin (name_head c.args.text.now c.args.suffix.now) c.args.words.now c.args.at c.args.out.now c.args.pos
 
 abbrev at-put-name : tie.After-put-name → Place
 at-put-name c = part (at-start c.before.before.before.before.before.before) c.put-name.ensures (λ x. x.tree) _ (λ x. tt) _ (λ x. refl) (λ x. refl)

@@ -1,7 +1,7 @@
 -- An item by its kind.
 use Rattle.rendering.specs.declared.items.Item.TheVariants.{Name, Formal}
-use Rattle.rendering.specs.Parts.{aName}
-use Rattle.rendering.specs.StmtParts.{formalPart, anItem}
+use Rattle.rendering.specs.Parts.{a_name}
+use Rattle.rendering.specs.StmtParts.{formal_part, an_item}
 use Rattle.rendering.proofs.StmtPrints.Pieces.{of-kind}
 use Rattle.rendering.proofs.StmtPrints.Room.{asks-more}
 use borrow.Author.Rules.{rules}
@@ -12,7 +12,7 @@ returns : tie.Need-returns
 returns c = of-kind c.before.before.before.before.before.before.before.before.before.before.args.text.now
     c.before.before.before.before.before.before.before.before.before.before.args.words.now
     c.before.before.before.before.before.before.before.before.before.before.args.counts.now c.before.before.before.before.before.before.before.before.before.before.args.step c.before.before.before.before.before.before.before.before.before.before.args.at
-    c.before.before.before.before.enum_told.given.1 (asks-more (aName c.before.before.before.before.before.before.before.before.before.before.args.text.now) (anItem
+    c.before.before.before.before.enum_told.given.1 (asks-more (a_name c.before.before.before.before.before.before.before.before.before.before.args.text.now) (an_item
     c.before.before.before.before.before.before.before.before.before.before.args.text.now
     c.before.before.before.before.before.before.before.before.before.before.args.words.now
     c.before.before.before.before.before.before.before.before.before.before.args.counts.now c.before.before.before.before.before.before.before.before.before.before.args.step
@@ -28,7 +28,7 @@ returns-3 : tie.Need-returns-3
 returns-3 c = of-kind c.before.before.before.before.before.before.before.before.before.before.args.text.now
     c.before.before.before.before.before.before.before.before.before.before.args.words.now
     c.before.before.before.before.before.before.before.before.before.before.args.counts.now c.before.before.before.before.before.before.before.before.before.before.args.step c.before.before.before.before.before.before.before.before.before.before.args.at
-    c.before.before.before.before.enum-told3.given.1 (asks-more (formalPart c.before.before.before.before.before.before.before.before.before.before.args.text.now) (anItem
+    c.before.before.before.before.enum-told3.given.1 (asks-more (formal_part c.before.before.before.before.before.before.before.before.before.before.args.text.now) (an_item
     c.before.before.before.before.before.before.before.before.before.before.args.text.now
     c.before.before.before.before.before.before.before.before.before.before.args.words.now
     c.before.before.before.before.before.before.before.before.before.before.args.counts.now c.before.before.before.before.before.before.before.before.before.before.args.step

@@ -2,7 +2,7 @@
 use mathlib.Core.Path.{refl}
 use Rattle.rendering.proofs.Places.{Place, begin, done, part, passed, text, ready}
 use mathlib.Core.Option.{some}
-use Rattle.rendering.specs.StmtParts.{optionalExpr}
+use Rattle.rendering.specs.StmtParts.{optional_expr}
 use Rattle.rendering.proofs.Sequences.{made, an-option, at_none, at_some}
 use native.Mathlib.Nat.{le_refl}
 use borrow.Author.Rules.{rules}
@@ -10,7 +10,7 @@ use Rattle.rendering.proofs.items.optional_expr.Statement.{statement}
 use Rattle.rendering.proofs.items.optional_expr.Tie as tie
 
 abbrev at-start : tie.Start → Place
-at-start c = begin (made (optionalExpr c.args.text.now c.args.words.now c.args.counts.now c.args.step c.args.at 0 c.args.prefix.now) some) c.args.words.now c.args.at c.args.out.now c.args.pos
+at-start c = begin (made (optional_expr c.args.text.now c.args.words.now c.args.counts.now c.args.step c.args.at 0 c.args.prefix.now) some) c.args.words.now c.args.at c.args.out.now c.args.pos
 
 abbrev at_after : tie.After-after → Place
 at_after c = passed (at-start c.before.before.before.before.before.before) c.after.ensures _ _ (λ x. refl)
@@ -22,13 +22,13 @@ abbrev at-inline : tie.After-inline → Place
 at-inline c = part (at-put c.before.before.before.before) c.inline.ensures (λ x. x.tree) _ (λ x. (ready (at-put c.before.before.before.before) (le_refl 0) x.given.0, x.given.1)) _ (λ x. refl) (λ x. refl)
 
 returns : tie.Need-returns
-returns c = at_none (optionalExpr c.before.before.before.before.before.before.before.before.args.text.now
+returns c = at_none (optional_expr c.before.before.before.before.before.before.before.before.args.text.now
     c.before.before.before.before.before.before.before.before.args.words.now c.before.before.before.before.before.before.before.before.args.counts.now c.before.before.before.before.before.before.before.before.args.step
     c.before.before.before.before.before.before.before.before.args.at 0 c.before.before.before.before.before.before.before.before.args.prefix.now) some (an-option _ _ _
     c.before.before.before.before.before.before.before.before.args.prefix.now) c.before.get.ensures c.before.before.after.ensures c.if1.true
 
 returns-2 : tie.Need-returns-2
-returns-2 c = at_some (optionalExpr c.before.before.before.before.before.before.before.before.before.before.before.before.before.before.before.before.args.text.now
+returns-2 c = at_some (optional_expr c.before.before.before.before.before.before.before.before.before.before.before.before.before.before.before.before.args.text.now
     c.before.before.before.before.before.before.before.before.before.before.before.before.before.before.before.before.args.words.now
     c.before.before.before.before.before.before.before.before.before.before.before.before.before.before.before.before.args.counts.now c.before.before.before.before.before.before.before.before.before.before.before.before.before.before.before.before.args.step
     c.before.before.before.before.before.before.before.before.before.before.before.before.before.before.before.before.args.at 0

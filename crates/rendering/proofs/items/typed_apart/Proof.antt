@@ -1,13 +1,13 @@
 -- The name and its text, past a word, the type.
 use mathlib.Core.Path.{refl}
 use Rattle.rendering.proofs.Places.{Place, begin, done, part, passed}
-use Rattle.rendering.specs.StmtParts.{typedApart}
+use Rattle.rendering.specs.StmtParts.{typed_apart}
 use borrow.Author.Rules.{rules}
 use Rattle.rendering.proofs.items.typed_apart.Statement.{statement}
 use Rattle.rendering.proofs.items.typed_apart.Tie as tie
 
 abbrev at-start : tie.Start → Place
-at-start c = begin (typedApart c.args.text.now) c.args.words.now c.args.at c.args.out.now c.args.pos
+at-start c = begin (typed_apart c.args.text.now) c.args.words.now c.args.at c.args.out.now c.args.pos
 
 abbrev at-name-head : tie.After-name-head → Place
 at-name-head c = part (at-start c.before.before.before.before.before.before) c.name-head.ensures (λ x. x.tree.0) _ (λ x. tt) _ (λ x. refl) (λ x. refl)

@@ -8,13 +8,13 @@ use borrow.Fn.PlainCycle.{Measures, is, falls, and}
 use mathlib.Core.Path.{refl}
 use lib.ListN.{length}
 use Rattle.rendering.specs.Parts.{Part}
-use Rattle.rendering.specs.DeclParts.{whenList}
+use Rattle.rendering.specs.DeclParts.{when_list}
 use Rattle.tree.proofs.get.Reads as get
 use Rattle.rendering.proofs as fn
 use fn.PartPrints.Joins.{inside, passed as nearer}
 use fn.Places.{Place, begin, item, seen, text, part, done, ready}
 use fn.Sequences.{made, at_none, at_some}
-use fn.DeclPrints.{whensOf, some-whens, whens-print}
+use fn.DeclPrints.{whens_of, some-whens, whens-print}
 use fn.program.+whens.{statement}
 use fn.program.+whens.Tie.{close}
 use fn.program.+whens.Lts-whens as lts
@@ -52,11 +52,11 @@ module _ (t : ℕ) where
 
   -- the list at the function's place
   abbrev list : Of lts.Start → Part
-  list c = whenList c.args.text.now c.args.words.now c.args.counts.now c.args.step c.args.at
+  list c = when_list c.args.text.now c.args.words.now c.args.counts.now c.args.step c.args.at
 
   abbrev at-start : Of lts.Start → Place
   at-start c =
-      seen (begin (made (list c) whensOf) c.args.words.now c.args.at c.args.out.now c.args.pos) _ (λ x. whens-print c.args.text.now c.args.step x.tree.0 x.tree.1)
+      seen (begin (made (list c) whens_of) c.args.words.now c.args.at c.args.out.now c.args.pos) _ (λ x. whens-print c.args.text.now c.args.step x.tree.0 x.tree.1)
 
   -- a clause stands here
   is-inside : (c : Of lts.Else1) → c.before.before.before.before.before.before.before.args.at < length c.before.before.before.before.before.before.before.args.words.now
@@ -81,7 +81,7 @@ module _ (t : ℕ) where
   at-end c = part (at-line c.before.before.before.before) c.whens.ensures (λ x. x.tree.1) _ (λ x. (ready (at-line c.before.before.before.before) (le_refl _) x.given.0, x.given.1.1)) _ (λ x. refl) (λ x. refl)
 
   returns : Of lts.Need-returns
-  returns c = at_none (list c.before.before.before.before.before.before.before) whensOf (some-whens c.before.before.before.before.before.before.before.args.text.now c.before.before.before.before.before.before.before.args.words.now c.before.before.before.before.before.before.before.args.counts.now
+  returns c = at_none (list c.before.before.before.before.before.before.before) whens_of (some-whens c.before.before.before.before.before.before.before.args.text.now c.before.before.before.before.before.before.before.args.words.now c.before.before.before.before.before.before.before.args.counts.now
       c.before.before.before.before.before.before.before.args.step
       c.before.before.before.before.before.before.before.args.at) c.before.get.ensures c.before.before.after.ensures c.if1.true
 
@@ -94,7 +94,7 @@ module _ (t : ℕ) where
   )
 
   returns-2 : Of lts.Need-returns-2
-  returns-2 c = at_some (list c.before.before.before.before.before.before.before.before.before.before.before.before.before.before.before.before.before.before.before.before.before.before.before.before.before.before.before.before.before) whensOf
+  returns-2 c = at_some (list c.before.before.before.before.before.before.before.before.before.before.before.before.before.before.before.before.before.before.before.before.before.before.before.before.before.before.before.before.before) whens_of
       (some-whens c.before.before.before.before.before.before.before.before.before.before.before.before.before.before.before.before.before.before.before.before.before.before.before.before.before.before.before.before.before.args.text.now
       c.before.before.before.before.before.before.before.before.before.before.before.before.before.before.before.before.before.before.before.before.before.before.before.before.before.before.before.before.before.args.words.now
       c.before.before.before.before.before.before.before.before.before.before.before.before.before.before.before.before.before.before.before.before.before.before.before.before.before.before.before.before.before.args.counts.now

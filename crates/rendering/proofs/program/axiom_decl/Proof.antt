@@ -3,9 +3,9 @@ use mathlib.Core.Path.{refl}
 use Rattle.rendering.proofs.Places.{Place, begin, done, part, text, ready}
 use Rattle.rendering.specs.declared.items.Item.TheVariants.{Name}
 use Rattle.rendering.specs.declared.program.DeclKind.TheVariants.{Axioms}
-use Rattle.rendering.specs.StmtParts.{itemWords}
+use Rattle.rendering.specs.StmtParts.{item_words}
 use Rattle.rendering.proofs.StmtPrints.Room.{free-items}
-use Rattle.rendering.specs.DeclParts.{aDecl}
+use Rattle.rendering.specs.DeclParts.{a_decl}
 use native.Mathlib.Nat.{le_refl}
 use native.Mathlib.Omega.{arith}
 use borrow.Author.Rules.{rules}
@@ -13,7 +13,7 @@ use Rattle.rendering.proofs.program.axiom_decl.Statement.{statement}
 use Rattle.rendering.proofs.program.axiom_decl.Tie as tie
 
 abbrev at-start : tie.Start → Place
-at-start c = begin (aDecl c.args.text.now c.args.words.now c.args.counts.now c.args.step c.args.at Axioms) c.args.words.now c.args.at c.args.out.now c.args.pos
+at-start c = begin (a_decl c.args.text.now c.args.words.now c.args.counts.now c.args.step c.args.at Axioms) c.args.words.now c.args.at c.args.out.now c.args.pos
 
 abbrev at-put : tie.After-put → Place
 at-put c = text (at-start c.before.before.before.before.before.before.before) c.put.ensures _ (λ x. refl)
@@ -23,7 +23,7 @@ at-separated c =
     part (at-put c.before.before.before.before.before) c.separated.ensures (λ x. x.tree.explains) _ (λ x. (
       ready (at-put c.before.before.before.before.before) (omega arith) x.given.0,
       free-items
-          (itemWords c.before.before.before.before.before.before.before.before.before.before.before.before.args.text.now c.before.before.before.before.before.before.before.before.before.before.before.before.args.words.now c.before.before.before.before.before.before.before.before.before.before.before.before.args.counts.now
+          (item_words c.before.before.before.before.before.before.before.before.before.before.before.before.args.text.now c.before.before.before.before.before.before.before.before.before.before.before.before.args.words.now c.before.before.before.before.before.before.before.before.before.before.before.before.args.counts.now
           c.before.before.before.before.before.before.before.before.before.before.before.before.args.step
           c.before.before.before.before.before.before.before.before.before.before.before.before.args.at 0 Name) x.tree.explains _,
     )) _ (λ x. refl) (λ x. refl)

@@ -1,6 +1,6 @@
 -- A declaration by its kind.
 use Rattle.rendering.specs.declared.program.DeclKind.TheVariants.{Types, Taggers}
-use Rattle.rendering.specs.DeclParts.{aTypeDecl, aTaggerDecl, aDecl}
+use Rattle.rendering.specs.DeclParts.{a_type_decl, a_tagger_decl, a_decl}
 use Rattle.rendering.proofs.DeclPrints.{of-kind}
 use Rattle.rendering.proofs.StmtPrints.Room.{asks-more}
 use borrow.Author.Rules.{rules}
@@ -12,8 +12,8 @@ returns c =
     of-kind c.before.before.before.before.before.before.before.before.before.before.args.text.now c.before.before.before.before.before.before.before.before.before.before.args.words.now c.before.before.before.before.before.before.before.before.before.before.args.counts.now
     c.before.before.before.before.before.before.before.before.before.before.args.step
     c.before.before.before.before.before.before.before.before.before.before.args.at c.before.before.before.before.enum_told.given.1
-    (asks-more (aTypeDecl c.before.before.before.before.before.before.before.before.before.before.args.text.now)
-    (aDecl c.before.before.before.before.before.before.before.before.before.before.args.text.now c.before.before.before.before.before.before.before.before.before.before.args.words.now c.before.before.before.before.before.before.before.before.before.before.args.counts.now
+    (asks-more (a_type_decl c.before.before.before.before.before.before.before.before.before.before.args.text.now)
+    (a_decl c.before.before.before.before.before.before.before.before.before.before.args.text.now c.before.before.before.before.before.before.before.before.before.before.args.words.now c.before.before.before.before.before.before.before.before.before.before.args.counts.now
     c.before.before.before.before.before.before.before.before.before.before.args.step
     c.before.before.before.before.before.before.before.before.before.before.args.at Types).given (λ t rest k. tt) c.before.before.type-decl.ensures)
 
@@ -22,8 +22,8 @@ returns-2 c =
     of-kind c.before.before.before.before.before.before.before.before.before.before.args.text.now c.before.before.before.before.before.before.before.before.before.before.args.words.now c.before.before.before.before.before.before.before.before.before.before.args.counts.now
     c.before.before.before.before.before.before.before.before.before.before.args.step
     c.before.before.before.before.before.before.before.before.before.before.args.at c.before.before.before.before.enum-told2.given.1
-    (asks-more (aTaggerDecl c.before.before.before.before.before.before.before.before.before.before.args.text.now)
-    (aDecl c.before.before.before.before.before.before.before.before.before.before.args.text.now c.before.before.before.before.before.before.before.before.before.before.args.words.now c.before.before.before.before.before.before.before.before.before.before.args.counts.now
+    (asks-more (a_tagger_decl c.before.before.before.before.before.before.before.before.before.before.args.text.now)
+    (a_decl c.before.before.before.before.before.before.before.before.before.before.args.text.now c.before.before.before.before.before.before.before.before.before.before.args.words.now c.before.before.before.before.before.before.before.before.before.before.args.counts.now
     c.before.before.before.before.before.before.before.before.before.before.args.step
     c.before.before.before.before.before.before.before.before.before.before.args.at Taggers).given (λ t rest k. tt) c.before.before.tagger-decl.ensures)
 

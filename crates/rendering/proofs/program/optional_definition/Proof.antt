@@ -3,7 +3,7 @@ use mathlib.Core.Path.{refl}
 use mathlib.Core.Option.{some}
 use mathlib.Core.List.{[]}
 use Rattle.rendering.proofs.Places.{Place, begin, done, part, passed, text, ready}
-use Rattle.rendering.specs.DeclParts.{optionalDefinition}
+use Rattle.rendering.specs.DeclParts.{optional_definition}
 use Rattle.rendering.proofs.Sequences.{made, an-option, at_none, at_some}
 use native.Mathlib.Nat.{le_refl}
 use borrow.Author.Rules.{rules}
@@ -11,7 +11,7 @@ use Rattle.rendering.proofs.program.optional_definition.Statement.{statement}
 use Rattle.rendering.proofs.program.optional_definition.Tie as tie
 
 abbrev at-start : tie.Start → Place
-at-start c = begin (made (optionalDefinition c.args.text.now c.args.words.now c.args.counts.now c.args.step c.args.at) some) c.args.words.now c.args.at c.args.out.now c.args.pos
+at-start c = begin (made (optional_definition c.args.text.now c.args.words.now c.args.counts.now c.args.step c.args.at) some) c.args.words.now c.args.at c.args.out.now c.args.pos
 
 abbrev at_after : tie.After-after → Place
 at_after c = passed (at-start c.before.before.before.before.before) c.after.ensures _ _ (λ x. refl)
@@ -30,13 +30,13 @@ at-put2 c = text (at-broken-lines c.before.before.before.before.before) c.put2.e
 
 returns : tie.Need-returns
 returns c =
-    at_none (optionalDefinition c.before.before.before.before.before.before.before.args.text.now c.before.before.before.before.before.before.before.args.words.now c.before.before.before.before.before.before.before.args.counts.now c.before.before.before.before.before.before.before.args.step
+    at_none (optional_definition c.before.before.before.before.before.before.before.args.text.now c.before.before.before.before.before.before.before.args.words.now c.before.before.before.before.before.before.before.args.counts.now c.before.before.before.before.before.before.before.args.step
     c.before.before.before.before.before.before.before.args.at) some (an-option _ _ _ [])
     c.before.get.ensures c.before.before.after.ensures c.if1.true
 
 returns-2 : tie.Need-returns-2
 returns-2 c =
-    at_some (optionalDefinition c.before.before.before.before.before.before.before.before.before.before.before.before.before.before.before.before.before.before.before.before.before.before.before.before.before.args.text.now
+    at_some (optional_definition c.before.before.before.before.before.before.before.before.before.before.before.before.before.before.before.before.before.before.before.before.before.before.before.before.before.args.text.now
     c.before.before.before.before.before.before.before.before.before.before.before.before.before.before.before.before.before.before.before.before.before.before.before.before.before.args.words.now
     c.before.before.before.before.before.before.before.before.before.before.before.before.before.before.before.before.before.before.before.before.before.before.before.before.before.args.counts.now
     c.before.before.before.before.before.before.before.before.before.before.before.before.before.before.before.before.before.before.before.before.before.before.before.before.before.args.step

@@ -2,7 +2,7 @@
 use mathlib.Core.Path.{refl}
 use Rattle.rendering.proofs.Places.{Place, begin, done, part, text, ready}
 use Rattle.rendering.specs.declared.program.DeclKind.TheVariants.{Procedures}
-use Rattle.rendering.specs.DeclParts.{aDecl}
+use Rattle.rendering.specs.DeclParts.{a_decl}
 use native.Mathlib.Nat.{le_refl}
 use native.Mathlib.Omega.{arith}
 use borrow.Author.Rules.{rules}
@@ -10,7 +10,7 @@ use Rattle.rendering.proofs.program.procedure.Statement.{statement}
 use Rattle.rendering.proofs.program.procedure.Tie as tie
 
 abbrev at-start : tie.Start → Place
-at-start c = begin (aDecl c.args.text.now c.args.words.now c.args.counts.now c.args.step c.args.at Procedures) c.args.words.now c.args.at c.args.out.now c.args.pos
+at-start c = begin (a_decl c.args.text.now c.args.words.now c.args.counts.now c.args.step c.args.at Procedures) c.args.words.now c.args.at c.args.out.now c.args.pos
 
 abbrev at-put : tie.After-put → Place
 at-put c = text (at-start c.before.before.before.before.before.before.before) c.put.ensures _ (λ x. refl)

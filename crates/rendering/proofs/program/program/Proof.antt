@@ -2,7 +2,7 @@
 use mathlib.Core.Path.{refl}
 use Rattle.rendering.proofs.Places.{Place, begin, done, part, seen, text, ready}
 use Rattle.rendering.specs.declared.program.DeclKind.TheVariants.{Types, Taggers}
-use Rattle.rendering.specs.DeclParts.{declWords, aProgram}
+use Rattle.rendering.specs.DeclParts.{decl_words, a_program}
 use Rattle.rendering.proofs.DeclPrints.{program-print}
 use Rattle.rendering.proofs.StmtPrints.Room.{free-items}
 use native.Mathlib.Nat.{le_refl}
@@ -12,7 +12,7 @@ use Rattle.rendering.proofs.program.program.Statement.{statement}
 use Rattle.rendering.proofs.program.program.Tie as tie
 
 abbrev at-start : tie.Start → Place
-at-start c = seen (begin (aProgram c.args.text.now c.args.words.now c.args.counts.now c.args.step) c.args.words.now 0 c.args.out.now c.args.pos) _ (λ x. program-print c.args.text.now c.args.step x.tree)
+at-start c = seen (begin (a_program c.args.text.now c.args.words.now c.args.counts.now c.args.step) c.args.words.now 0 c.args.out.now c.args.pos) _ (λ x. program-print c.args.text.now c.args.step x.tree)
 
 abbrev at-put : tie.After-put → Place
 at-put c = text (at-start c.before.before.before.before.before.before.before) c.put.ensures _ (λ x. refl)
@@ -22,7 +22,7 @@ at-decls c =
     part (at-put c.before.before.before.before) c.decls.ensures (λ x. x.tree.types) _ (λ x. (
       ready (at-put c.before.before.before.before) (le_refl _) x.given.0,
       free-items
-          (declWords c.before.before.before.before.before.before.before.before.before.before.before.args.text.now c.before.before.before.before.before.before.before.before.before.before.before.args.words.now c.before.before.before.before.before.before.before.before.before.before.before.args.counts.now
+          (decl_words c.before.before.before.before.before.before.before.before.before.before.before.args.text.now c.before.before.before.before.before.before.before.before.before.before.before.args.words.now c.before.before.before.before.before.before.before.before.before.before.before.args.counts.now
           c.before.before.before.before.before.before.before.before.before.before.before.args.step 0 Types) x.tree.types _,
     )) _ (λ x. refl) (λ x. refl)
 
@@ -31,7 +31,7 @@ at-decls2 c =
     part (at-decls c.before.before.before.before) c.decls2.ensures (λ x. x.tree.taggers) _ (λ x. (
       ready (at-decls c.before.before.before.before) (le_refl _) x.given.0,
       free-items
-          (declWords c.before.before.before.before.before.before.before.before.before.before.before.before.before.before.before.args.text.now c.before.before.before.before.before.before.before.before.before.before.before.before.before.before.before.args.words.now
+          (decl_words c.before.before.before.before.before.before.before.before.before.before.before.before.before.before.before.args.text.now c.before.before.before.before.before.before.before.before.before.before.before.before.before.before.before.args.words.now
           c.before.before.before.before.before.before.before.before.before.before.before.before.before.before.before.args.counts.now c.before.before.before.before.before.before.before.before.before.before.before.before.before.before.before.args.step 0 Taggers) x.tree.taggers _,
     )) _ (λ x. refl) (λ x. refl)
 

@@ -1,13 +1,13 @@
 -- The word, the name, the type and the line end.
 use mathlib.Core.Path.{refl}
 use Rattle.rendering.proofs.Places.{Place, begin, done, part, text}
-use Rattle.rendering.specs.DeclParts.{aTaggerDecl}
+use Rattle.rendering.specs.DeclParts.{a_tagger_decl}
 use borrow.Author.Rules.{rules}
 use Rattle.rendering.proofs.program.tagger_decl.Statement.{statement}
 use Rattle.rendering.proofs.program.tagger_decl.Tie as tie
 
 abbrev at-start : tie.Start → Place
-at-start c = begin (aTaggerDecl c.args.text.now) c.args.words.now c.args.at c.args.out.now c.args.pos
+at-start c = begin (a_tagger_decl c.args.text.now) c.args.words.now c.args.at c.args.out.now c.args.pos
 
 abbrev at-put : tie.After-put → Place
 at-put c = text (at-start c.before.before.before.before.before.before) c.put.ensures _ (λ x. refl)

@@ -1,14 +1,14 @@
 -- The name, the sign, the expression, the line end.
 use mathlib.Core.Path.{refl}
 use Rattle.rendering.proofs.Places.{Place, begin, done, part, text, ready}
-use Rattle.rendering.specs.StmtParts.{anAssign}
+use Rattle.rendering.specs.StmtParts.{an_assign}
 use native.Mathlib.Nat.{le_refl}
 use borrow.Author.Rules.{rules}
 use Rattle.rendering.proofs.simple.assign.Statement.{statement}
 use Rattle.rendering.proofs.simple.assign.Tie as tie
 
 abbrev at-start : tie.Start → Place
-at-start c = begin (anAssign c.args.text.now c.args.words.now c.args.counts.now c.args.step c.args.at 0) c.args.words.now c.args.at c.args.out.now c.args.pos
+at-start c = begin (an_assign c.args.text.now c.args.words.now c.args.counts.now c.args.step c.args.at 0) c.args.words.now c.args.at c.args.out.now c.args.pos
 
 abbrev at-name-head : tie.After-name-head → Place
 at-name-head c = part (at-start c.before.before.before.before.before.before.before) c.name-head.ensures (λ x. x.tree.0) _ (λ x. tt) _ (λ x. refl) (λ x. refl)

@@ -1,14 +1,14 @@
 -- The name and its bracket, the arguments, the bracket.
 use mathlib.Core.Path.{refl}
 use Rattle.rendering.proofs.Places.{Place, begin, done, part, text, ready}
-use Rattle.rendering.specs.StmtParts.{aCallStmt}
+use Rattle.rendering.specs.StmtParts.{a_call_stmt}
 use native.Mathlib.Nat.{le_refl}
 use borrow.Author.Rules.{rules}
 use Rattle.rendering.proofs.simple.call.Statement.{statement}
 use Rattle.rendering.proofs.simple.call.Tie as tie
 
 abbrev at-start : tie.Start → Place
-at-start c = begin (aCallStmt c.args.text.now c.args.words.now c.args.counts.now c.args.step c.args.at 0) c.args.words.now c.args.at c.args.out.now c.args.pos
+at-start c = begin (a_call_stmt c.args.text.now c.args.words.now c.args.counts.now c.args.step c.args.at 0) c.args.words.now c.args.at c.args.out.now c.args.pos
 
 abbrev at-call-head : tie.After-call-head → Place
 at-call-head c = part (at-start c.before.before.before.before.before.before) c.call-head.ensures (λ x. x.tree.0) _ (λ x. tt) _ (λ x. refl) (λ x. refl)

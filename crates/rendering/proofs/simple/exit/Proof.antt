@@ -1,13 +1,13 @@
 -- `exit`, the label, the line end.
 use mathlib.Core.Path.{refl}
 use Rattle.rendering.proofs.Places.{Place, begin, done, part, text}
-use Rattle.rendering.specs.StmtParts.{anExit}
+use Rattle.rendering.specs.StmtParts.{an_exit}
 use borrow.Author.Rules.{rules}
 use Rattle.rendering.proofs.simple.exit.Statement.{statement}
 use Rattle.rendering.proofs.simple.exit.Tie as tie
 
 abbrev at-start : tie.Start → Place
-at-start c = begin (anExit c.args.text.now) c.args.words.now c.args.at c.args.out.now c.args.pos
+at-start c = begin (an_exit c.args.text.now) c.args.words.now c.args.at c.args.out.now c.args.pos
 
 abbrev at-put : tie.After-put → Place
 at-put c = text (at-start c.before.before.before.before.before.before) c.put.ensures _ (λ x. refl)

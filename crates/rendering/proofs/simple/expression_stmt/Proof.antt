@@ -2,19 +2,19 @@
 use mathlib.Core.Path.{refl}
 use Rattle.rendering.proofs.Places.{Place, begin, done, part, passed, text, text_of, ready}
 use mathlib.Core.Path.{ap}
-use Rattle.rendering.specs.StmtParts.{keywordBytes, anExpressionStmt}
+use Rattle.rendering.specs.StmtParts.{keyword_bytes, an_expression_stmt}
 use Rattle.rendering.proofs.PartPrints.Joins.{word_at}
-use Rattle.rendering.proofs.StmtPrints.Pieces.{same_bytes}
+use Rattle.rendering.proofs.StmtPrints.Pieces.{same_bytes_lem}
 use native.Mathlib.Nat.{le_refl}
 use borrow.Author.Rules.{rules}
 use Rattle.rendering.proofs.simple.expression_stmt.Statement.{statement}
 use Rattle.rendering.proofs.simple.expression_stmt.Tie as tie
 
 abbrev at-start : tie.Start → Place
-at-start c = begin (anExpressionStmt c.args.text.now c.args.words.now c.args.counts.now c.args.step c.args.at 0) c.args.words.now c.args.at c.args.out.now c.args.pos
+at-start c = begin (an_expression_stmt c.args.text.now c.args.words.now c.args.counts.now c.args.step c.args.at 0) c.args.words.now c.args.at c.args.out.now c.args.pos
 
 abbrev at-put-keyword : tie.After-put-keyword → Place
-at-put-keyword c = text_of (at-start c.before.before.before.before.before.before) _ _ (λ x. same_bytes (ap keywordBytes (word_at c.before.before.before.before.before.before.args.words.now _ refl x.stands)) c.put-keyword.ensures) (λ x. refl)
+at-put-keyword c = text_of (at-start c.before.before.before.before.before.before) _ _ (λ x. same_bytes_lem (ap keyword_bytes (word_at c.before.before.before.before.before.before.args.words.now _ refl x.stands)) c.put-keyword.ensures) (λ x. refl)
 
 abbrev at_after : tie.After-after → Place
 at_after c = passed (at-put-keyword c.before.before.before) c.after.ensures _ _ (λ x. refl)

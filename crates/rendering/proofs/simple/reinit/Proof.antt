@@ -2,7 +2,7 @@
 use mathlib.Core.Path.{refl}
 use Rattle.rendering.proofs.Places.{Place, begin, done, part, text, ready}
 use Rattle.rendering.specs.declared.items.Item.TheVariants.{Name}
-use Rattle.rendering.specs.StmtParts.{itemWords, aReinit}
+use Rattle.rendering.specs.StmtParts.{item_words, a_reinit}
 use Rattle.rendering.proofs.StmtPrints.Room.{free-items}
 use native.Mathlib.Nat.{le_refl}
 use borrow.Author.Rules.{rules}
@@ -10,7 +10,7 @@ use Rattle.rendering.proofs.simple.reinit.Statement.{statement}
 use Rattle.rendering.proofs.simple.reinit.Tie as tie
 
 abbrev at-start : tie.Start → Place
-at-start c = begin (aReinit c.args.text.now c.args.words.now c.args.counts.now c.args.step c.args.at 0) c.args.words.now c.args.at c.args.out.now c.args.pos
+at-start c = begin (a_reinit c.args.text.now c.args.words.now c.args.counts.now c.args.step c.args.at 0) c.args.words.now c.args.at c.args.out.now c.args.pos
 
 abbrev at-put : tie.After-put → Place
 at-put c = text (at-start c.before.before.before.before.before.before.before) c.put.ensures _ (λ x. refl)
@@ -19,7 +19,7 @@ abbrev at-separated : tie.After-separated → Place
 at-separated c = part (at-put c.before.before.before.before.before) c.separated.ensures (λ x. x.tree) _ (λ x. (
   ready (at-put c.before.before.before.before.before) (le_refl 0)
       x.given.0,
-  free-items (itemWords c.before.before.before.before.before.before.before.before.before.before.before.before.args.text.now
+  free-items (item_words c.before.before.before.before.before.before.before.before.before.before.before.before.args.text.now
       c.before.before.before.before.before.before.before.before.before.before.before.before.args.words.now
       c.before.before.before.before.before.before.before.before.before.before.before.before.args.counts.now c.before.before.before.before.before.before.before.before.before.before.before.before.args.step
       c.before.before.before.before.before.before.before.before.before.before.before.before.args.at 0 Name) x.tree _,

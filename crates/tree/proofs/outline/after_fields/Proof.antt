@@ -3,14 +3,14 @@ use Prim.Native.Nat.{◌<◌, ◌^◌}
 use mathlib.Core.Path.{◌≡◌, refl, sym, ◌∙◌}
 use native.Mathlib.Omega.{arith}
 use lib.ListN.{length}
-use Rattle.tree.specs.Rows.{kindsOf}
-use Rattle.tree.specs.Notes.{fieldsEnd}
+use Rattle.tree.specs.Rows.{kinds_of}
+use Rattle.tree.specs.Notes.{fields_end}
 use Rattle.tree.proofs.Outlines.{field-passed, fields-passed}
 use Rattle.tree.proofs.outline.after_fields.Statement.{statement}
 use Rattle.tree.proofs.outline.after_fields.Tie as tie
 
 abbrev invariant-loop : tie.invariant-loop
-invariant-loop ends row first next₀ left₀ next left = (left < 2 ^ 32) × (next < 65536) × (fieldsEnd (length (kindsOf left)) ends next ≡ fieldsEnd (length (kindsOf row)) ends first)
+invariant-loop ends row first next₀ left₀ next left = (left < 2 ^ 32) × (next < 65536) × (fields_end (length (kinds_of left)) ends next ≡ fields_end (length (kinds_of row)) ends first)
 
 abbrev decreases-loop : tie.decreases-loop
 decreases-loop ends row first next₀ left₀ next left = left

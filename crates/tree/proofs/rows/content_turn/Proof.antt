@@ -5,9 +5,9 @@ use mathlib.Core.List.{[], ◌∷◌}
 use native.Mathlib.Omega.{arith}
 use borrow.Author.Rules.{rules}
 use lib.ListN.{get_or}
-use Rattle.tree.specs.Rows.{kindsOf}
+use Rattle.tree.specs.Rows.{kinds_of}
 use Rattle.tree.proofs.Digits.{tagged-high, mark-0, mark-1}
-use Rattle.tree.proofs.Numbers.{contentNumbers, content}
+use Rattle.tree.proofs.Numbers.{content_numbers, content}
 use Rattle.tree.proofs.rows.content_turn.Statement.{statement}
 use Rattle.tree.proofs.rows.content_turn.Tie as tie
 
@@ -18,7 +18,7 @@ returns-2 : tie.Need-returns-2
 returns-2 c inside =
     let a = c.before.before.args in
     sym (content inside a.kind a.word (omega arith) (omega arith)
-    ∙ tagged-high 0 ([] ∷ kindsOf (get_or contentNumbers (a.kind - 7) 0) ∷ []) a.word (omega arith))
+    ∙ tagged-high 0 ([] ∷ kinds_of (get_or content_numbers (a.kind - 7) 0) ∷ []) a.word (omega arith))
 
 returns-3 : tie.Need-returns-3
 returns-3 c inside =

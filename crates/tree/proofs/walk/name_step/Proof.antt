@@ -4,7 +4,7 @@ use Prim.Native.Nat.{◌+◌}
 use mathlib.Core.Path.{◌≡◌, refl}
 use native.Mathlib.Omega.{arith}
 use lib.ListN.{get_or}
-use Rattle.tree.specs.Kind.{name, lengthFrom}
+use Rattle.tree.specs.Kind.{name, length_from}
 use Rattle.tree.specs.KindNumbers.{kind_of}
 use Rattle.tree.proofs.RunSteps.{second-missing, name-outside, name-fits}
 use Rattle.tree.proofs.walk.name_step.Statement.{statement}
@@ -14,7 +14,7 @@ returns : tie.Need-returns
 unfolding kind_of
 returns c =
     let a = c.before.before.args in
-    second-missing a.text-len (a.words.now) a.at name (lengthFrom (get_or (a.words.now) a.at 0)) (omega arith) (omega arith) refl
+    second-missing a.text-len (a.words.now) a.at name (length_from (get_or (a.words.now) a.at 0)) (omega arith) (omega arith) refl
 
 returns-2 : tie.Need-returns-2
 unfolding kind_of

@@ -5,7 +5,7 @@ use mathlib.Core.Path.{sym, ◌∙◌, ap}
 use native.Mathlib.Omega.{arith}
 use Rattle.tree.specs.Check.{within}
 use Rattle.tree.specs.KindNumbers.{kind_of}
-use Rattle.tree.specs.Rows.{asTurn}
+use Rattle.tree.specs.Rows.{as_turn}
 use Rattle.tree.proofs.Numbers.{kind-natural}
 use Rattle.tree.proofs.RunSteps.{step-missing, row_fits, row-misfits}
 use Rattle.tree.proofs.walk.next_step.Statement.{statement}
@@ -34,13 +34,13 @@ returns-4 : tie.Need-returns-4
 returns-4 c =
     let a = c.before.before.before.before.before.before.before.before.before.args in
     row_fits a.text-len a.words.now a.at (kind_of a.kind) _ c.before.before.before.before.get.result (omega arith) c.before.before.before.before.get.ensures
-    (ap asTurn (sym c.before.f.given.1) ∙ c.before.before.before.turn.ensures (within a.text-len))
+    (ap as_turn (sym c.before.f.given.1) ∙ c.before.before.before.turn.ensures (within a.text-len))
 
 returns-5 : tie.Need-returns-5
 returns-5 c =
     let a = c.before.before.before.before.before.before.before.before.args in
     row-misfits a.text-len a.words.now a.at (kind_of a.kind) c.before.before.before.get.result (omega arith) c.before.before.before.get.ensures
-    (ap asTurn (sym c.enum_told.given.1) ∙ c.before.before.turn.ensures (within a.text-len))
+    (ap as_turn (sym c.enum_told.given.1) ∙ c.before.before.turn.ensures (within a.text-len))
 
 pub next-step-spec : {M : Type 1} → statement M
 next-step-spec =

@@ -9,9 +9,9 @@ use borrow.Fn.Kinds.{In, Out}
 use Rattle.lexing.specs.Answer.{Answer}
 use Rattle.tree.specs.Ast.{Span, CallArgument, IdExpr}
 use Rattle.tree.specs.Ast as ast
-use Rattle.grammar.specs.Steps.{after, must, mapped, ◌or◌, T, parseName}
-use Rattle.grammar.specs.Statements.{parseCallArgument}
-use Rattle.parsing.specs.Code.{inner, turns, opened, referenceArgument}
+use Rattle.grammar.specs.Steps.{after, must, mapped, ◌or◌, T, parse_name}
+use Rattle.grammar.specs.Statements.{parse_call_argument}
+use Rattle.parsing.specs.Code.{inner, turns, opened, reference_argument}
 use Rattle.parsing.proofs.Laws.{after_none, builds-from}
 use Rattle.parsing.proofs.Branches.{or_assoc, builds-first}
 use Rattle.parsing.proofs.Mapping.{opened-expr}
@@ -23,14 +23,14 @@ use cycle.Proof.Ranks as ranks
 use fn.expr.seq.arg.Reads.{Post}
 
 rule : (text : List ℕ) (depth at : ℕ)
-    → parseCallArgument text (turns text) (opened text depth) at
-    ≡ (referenceArgument text at or mapped (λ e. record { mode = ast.In; arg = e }) (inner text depth at))
-unfolding parseCallArgument
+    → parse_call_argument text (turns text) (opened text depth) at
+    ≡ (reference_argument text at or mapped (λ e. record { mode = ast.In; arg = e }) (inner text depth at))
+unfolding parse_call_argument
 rule text depth at =
     sym (or_assoc
-    (after (T text "out" at) Answer.none (λ _ at₁. must at₁ (mapped (λ n. record { mode = ast.Out; arg = IdExpr n false }) (parseName text at₁))))
-    (after (T text "inout" at) Answer.none (λ _ at₁. must at₁ (mapped (λ n. record { mode = ast.InOut; arg = IdExpr n false }) (parseName text at₁)))) _)
-    ∙ ap (λ c. referenceArgument text at or mapped (λ e. record { mode = ast.In; arg = e }) (c at)) (opened-expr text depth)
+    (after (T text "out" at) Answer.none (λ _ at₁. must at₁ (mapped (λ n. record { mode = ast.Out; arg = IdExpr n false }) (parse_name text at₁))))
+    (after (T text "inout" at) Answer.none (λ _ at₁. must at₁ (mapped (λ n. record { mode = ast.InOut; arg = IdExpr n false }) (parse_name text at₁)))) _)
+    ∙ ap (λ c. reference_argument text at or mapped (λ e. record { mode = ast.In; arg = e }) (c at)) (opened-expr text depth)
 
 module _ (t : ℕ) where
   abbrev claims : lts.Claims

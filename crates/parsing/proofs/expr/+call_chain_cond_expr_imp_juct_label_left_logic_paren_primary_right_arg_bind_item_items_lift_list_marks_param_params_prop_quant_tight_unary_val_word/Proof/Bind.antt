@@ -7,8 +7,8 @@ use borrow.Author.Rules.{rules}
 use borrow.Fn.Kinds.{In, Out}
 use Rattle.lexing.specs.Answer.{Answer, ok}
 use Rattle.tree.specs.Ast.{Span, Expr}
-use Rattle.grammar.specs.Steps.{Reader, after, need, Sym, parseName}
-use Rattle.grammar.specs.Rules.{ClosureItem, parseParameters, parseClosureBinding}
+use Rattle.grammar.specs.Steps.{Reader, after, need, Sym, parse_name}
+use Rattle.grammar.specs.Rules.{ClosureItem, parse_parameters, parse_closure_binding}
 use Rattle.parsing.specs.Arena.{Holds}
 use Rattle.parsing.specs.Code.{inner, turns}
 use Rattle.parsing.proofs.Laws.{took}
@@ -20,11 +20,11 @@ use cycle.Proof.Ranks as ranks
 use fn.expr.seq.bind.Reads.{Post}
 
 rule : (text : List ℕ) (m : ℕ) (c : Reader (Expr Span)) (at : ℕ)
-    → parseClosureBinding text m c at
-    ≡ after (parseName text at) Answer.none
-    (λ n at₁. need at₁ (parseParameters text m at₁)
+    → parse_closure_binding text m c at
+    ≡ after (parse_name text at) Answer.none
+    (λ n at₁. need at₁ (parse_parameters text m at₁)
     (λ ps at₂. need at₂ (Sym text ":=" at₂) (λ _ at₃. need at₃ (c at₃) (λ rhs at₄. ok (n, ps, rhs) at₄))))
-unfolding parseClosureBinding
+unfolding parse_closure_binding
 rule text m c at = refl
 
 module _ (t : ℕ) where

@@ -9,7 +9,7 @@ use Rattle.lexing.specs.Answer.{ok}
 use Rattle.tree.specs.Ast.{Span, Expr, FunctionCallExpr}
 use Rattle.grammar.specs.Steps.{Reader, need}
 use Rattle.lexing.specs.Bytes.{bytes}
-use Rattle.grammar.specs.Rules.{exprs, parseListed, after_call}
+use Rattle.grammar.specs.Rules.{exprs, parse_listed, after_call}
 use Rattle.parsing.specs.Arena.{Holds}
 use Rattle.parsing.specs.Code.{inner, turns, span}
 use Rattle.parsing.proofs.Reached.{Reached, begin, built, noted, paired, room_for, length-here, length-after, needed, done}
@@ -20,7 +20,7 @@ use cycle.Proof.Ranks as ranks
 use fn.expr.call.Reads.{Post}
 
 rule : (text : List ℕ) (m : ℕ) (c : Reader (Expr Span)) (n : Span) (at : ℕ)
-    → after_call text m c n at ≡ need at (parseListed text m exprs c (bytes ")") at) (λ es at₁. ok (FunctionCallExpr n es) at₁)
+    → after_call text m c n at ≡ need at (parse_listed text m exprs c (bytes ")") at) (λ es at₁. ok (FunctionCallExpr n es) at₁)
 unfolding after_call
 rule text m c n at = refl
 

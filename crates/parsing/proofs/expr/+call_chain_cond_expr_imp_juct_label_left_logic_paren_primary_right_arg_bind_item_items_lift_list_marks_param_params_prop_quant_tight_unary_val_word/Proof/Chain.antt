@@ -5,7 +5,7 @@ use mathlib.Core.Path.{refl, sym}
 use borrow.Author.Rules.{rules}
 use borrow.Fn.Kinds.{In, Out}
 use Rattle.tree.specs.Ast.{Span, Expr}
-use Rattle.parsing.specs.Code.{class_of, leftChain}
+use Rattle.parsing.specs.Code.{class_of, left_chain}
 use Rattle.parsing.proofs.Laws.{after-ok, found}
 use Rattle.parsing.proofs.Rooms.{begun}
 use Rattle.parsing.proofs.Reached.{Reached, begin, built, room_for, length-after, failed}
@@ -14,7 +14,7 @@ use Rattle.parsing.proofs as fn
 use fn.expr.+call_chain_cond_expr_imp_juct_label_left_logic_paren_primary_right_arg_bind_item_items_lift_list_marks_param_params_prop_quant_tight_unary_val_word as cycle
 use cycle.Lts-chain as lts
 use cycle.Proof.Ranks as ranks
-use cycle.Proof.Ranks.{levelRank}
+use cycle.Proof.Ranks.{level_rank}
 use fn.expr.chain.Reads.{Post}
 
 module _ (t : ℕ) where
@@ -26,7 +26,7 @@ module _ (t : ℕ) where
 
   abbrev at-start : Of lts.Start → Reached (Expr Span)
   at-start c =
-      begin {answer = leftChain (class_of c.args.kind) c.args.text.now c.args.depth c.args.at} c.args.depth (levelRank c.args.kind + 2) refl c.requires.0 c.requires.1
+      begin {answer = left_chain (class_of c.args.kind) c.args.text.now c.args.depth c.args.at} c.args.depth (level_rank c.args.kind + 2) refl c.requires.0 c.requires.1
 
   abbrev at-operand : Of lts.After-r → Reached (Expr Span)
   at-operand c = built (at-start c.before.before.before.before.before.before.before.before) _ _ refl c.r.given.1 c.before.before.before.before.tight.ensures refl

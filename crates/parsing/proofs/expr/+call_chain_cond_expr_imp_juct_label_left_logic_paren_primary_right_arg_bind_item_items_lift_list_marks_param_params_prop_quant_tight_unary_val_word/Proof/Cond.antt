@@ -6,9 +6,9 @@ use mathlib.Core.List.{List}
 use borrow.Author.Rules.{rules}
 use borrow.Fn.Kinds.{In, Out}
 use Rattle.lexing.specs.Answer.{ok}
-use Rattle.tree.specs.Ast.{Span, Expr, OperatorExpr, IfThenElse, noExprs, ◌then◌}
+use Rattle.tree.specs.Ast.{Span, Expr, OperatorExpr, IfThenElse, no_exprs, ◌then◌}
 use Rattle.grammar.specs.Steps.{Reader, need, T}
-use Rattle.grammar.specs.Rules.{afterIf}
+use Rattle.grammar.specs.Rules.{after_if}
 use Rattle.parsing.specs.Code.{inner}
 use Rattle.parsing.proofs.Laws.{took}
 use Rattle.parsing.proofs.Reached.{Reached, begin, token, built, choice-made, room_for, length-here, length-after, missing, needed, done}
@@ -19,12 +19,12 @@ use cycle.Proof.Ranks as ranks
 use fn.expr.cond.Reads.{Post}
 
 rule : (text : List ℕ) (c : Reader (Expr Span)) (at : ℕ)
-    → afterIf text c at
+    → after_if text c at
     ≡ need at (c at)
     (λ guard at₁. need at₁ (c at₁)
     (λ thn at₂. need at₂ (T text "else" at₂)
-    (λ _ at₃. need at₃ (c at₃) (λ els at₄. ok (OperatorExpr IfThenElse (◌then◌ guard (◌then◌ thn (◌then◌ els noExprs)))) at₄))))
-unfolding afterIf
+    (λ _ at₃. need at₃ (c at₃) (λ els at₄. ok (OperatorExpr IfThenElse (◌then◌ guard (◌then◌ thn (◌then◌ els no_exprs)))) at₄))))
+unfolding after_if
 rule text c at = refl
 
 module _ (t : ℕ) where

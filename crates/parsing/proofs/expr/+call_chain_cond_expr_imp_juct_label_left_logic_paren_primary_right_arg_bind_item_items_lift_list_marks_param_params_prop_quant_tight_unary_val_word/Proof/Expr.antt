@@ -2,7 +2,7 @@
 use Prim.Native.Nat.{ℕ}
 use native.Mathlib.Omega.{arith}
 use borrow.Fn.Kinds.{In, Out}
-use Rattle.grammar.specs.Rules.{parseEquivExpr}
+use Rattle.grammar.specs.Rules.{parse_equiv_expr}
 use Rattle.parsing.specs.Code.{inner}
 use Rattle.parsing.proofs.Laws.{deep-builds}
 use Rattle.parsing.proofs.Identifiers.{level-opens}
@@ -35,7 +35,7 @@ module _ (t : ℕ) where
   same_length c = c.before.before.chain.ensures.kept.length-kept
 
   returns-2 : Of lts.Need-returns-2
-  unfolding parseEquivExpr
+  unfolding parse_equiv_expr
   returns-2 c = rw (level-opens c.before.before.before.before.before.before.before.args.text.now c.before.before.before.before.before.before.before.args.depth c.before.before.before.before.before.before.before.args.at c.before.before.before.before.if1.false) c.before.before.chain.ensures
 
   pub spec : {M : Type 1} → lts.Closed claims ((ranks.expr).at t) Post M

@@ -9,8 +9,8 @@ use Rattle.lexing.specs.Answer.{Answer}
 use Rattle.tree.specs.Ast.{Span, Expr}
 use Rattle.grammar.specs.Grammar.{implication, explication}
 use Rattle.grammar.specs.Steps.{after}
-use Rattle.grammar.specs.Rules.{leftTail, rightTail, impliesOperator, impExpTail, parseImpExpExpr, operatorOf}
-use Rattle.parsing.specs.Code.{turns, inner, tighterOf}
+use Rattle.grammar.specs.Rules.{left_tail, right_tail, implies_operator, imp_exp_tail, parse_imp_exp_expr, operator_of}
+use Rattle.parsing.specs.Code.{turns, inner, tighter_of}
 use Rattle.parsing.proofs.Laws.{after-ok, after_none, after-refused, found, stands}
 use Rattle.parsing.proofs.Rooms.{begun}
 use Rattle.parsing.proofs.Reached.{Reached, begin, built, room_for, length-here, length-after, failed}
@@ -21,14 +21,14 @@ use cycle.Lts-imp as lts
 use cycle.Proof.Ranks as ranks
 use fn.expr.imp.Reads.{Post}
 
--- `parseImpExpExpr` by its first operand and the chains that may follow it
+-- `parse_imp_exp_expr` by its first operand and the chains that may follow it
 rule : (text : List ℕ) (depth at : ℕ)
-    → parseImpExpExpr text (turns text) (inner text depth) at
-    ≡ after (tighterOf implication text depth at) Answer.none
-    (λ e at₁. after (impliesOperator text at₁)
-    (leftTail (turns text) (operatorOf text explication) (tighterOf explication text depth) e at₁)
-    (λ _ _. rightTail (turns text) (operatorOf text implication) (tighterOf implication text depth) e at₁))
-unfolding parseImpExpExpr impExpTail
+    → parse_imp_exp_expr text (turns text) (inner text depth) at
+    ≡ after (tighter_of implication text depth at) Answer.none
+    (λ e at₁. after (implies_operator text at₁)
+    (left_tail (turns text) (operator_of text explication) (tighter_of explication text depth) e at₁)
+    (λ _ _. right_tail (turns text) (operator_of text implication) (tighter_of implication text depth) e at₁))
+unfolding parse_imp_exp_expr imp_exp_tail
 rule text depth at = refl
 
 module _ (t : ℕ) where

@@ -10,7 +10,7 @@ use Rattle.parsing.proofs as fn
 use fn.expr.+call_chain_cond_expr_imp_juct_label_left_logic_paren_primary_right_arg_bind_item_items_lift_list_marks_param_params_prop_quant_tight_unary_val_word as cycle
 use cycle.Lts-seq-item as lts
 use cycle.Proof.Ranks as ranks
-use cycle.Proof.Ranks.{itemRank}
+use cycle.Proof.Ranks.{item_rank}
 use fn.expr.seq.item.Reads.{Post}
 
 module _ (t : ℕ) where
@@ -38,16 +38,16 @@ module _ (t : ℕ) where
   Of N = N claims ((ranks.item).at t) Post
 
   expr-requires : Of lts.Need-expr-requires
-  expr-requires c κs = (omega (arith, c.before.before.before.before.before.requires.0, ap itemRank c.before.enum_told.given.1), room-on c.before.before.before.before.before.requires.1 kept_refl (omega arith) c.before.before.before.before.before.requires.1.inside (omega arith))
+  expr-requires c κs = (omega (arith, c.before.before.before.before.before.requires.0, ap item_rank c.before.enum_told.given.1), room-on c.before.before.before.before.before.requires.1 kept_refl (omega arith) c.before.before.before.before.before.requires.1.inside (omega arith))
 
   id-type-requires : Of lts.Need-id-type-requires
   id-type-requires c κs = room-on c.before.before.before.before.before.requires.1 kept_refl (omega arith) c.before.before.before.before.before.requires.1.inside (omega arith)
 
   bind-requires : Of lts.Need-bind-requires
-  bind-requires c κs = (omega (arith, c.before.before.before.before.before.requires.0, ap itemRank c.before.enum-told3.given.1), room-on c.before.before.before.before.before.requires.1 kept_refl (omega arith) c.before.before.before.before.before.requires.1.inside (omega arith))
+  bind-requires c κs = (omega (arith, c.before.before.before.before.before.requires.0, ap item_rank c.before.enum-told3.given.1), room-on c.before.before.before.before.before.requires.1 kept_refl (omega arith) c.before.before.before.before.before.requires.1.inside (omega arith))
 
   prop-requires : Of lts.Need-prop-requires
-  prop-requires c κs = (omega (arith, c.before.before.before.before.before.requires.0, ap itemRank c.before.enum-told4.given.1), room-on c.before.before.before.before.before.requires.1 kept_refl (omega arith) c.before.before.before.before.before.requires.1.inside (omega arith))
+  prop-requires c κs = (omega (arith, c.before.before.before.before.before.requires.0, ap item_rank c.before.enum-told4.given.1), room-on c.before.before.before.before.before.requires.1 kept_refl (omega arith) c.before.before.before.before.before.requires.1.inside (omega arith))
 
   identifier-requires : Of lts.Need-identifier-requires
   identifier-requires c κs = room-on c.before.before.before.before.before.requires.1 kept_refl (omega arith) c.before.before.before.before.before.requires.1.inside (omega arith)
@@ -56,10 +56,10 @@ module _ (t : ℕ) where
   formal-requires c κs = room-on c.before.before.before.before.before.requires.1 kept_refl (omega arith) c.before.before.before.before.before.requires.1.inside (omega arith)
 
   param-requires : Of lts.Need-param-requires
-  param-requires c κs = (omega (arith, c.before.before.before.before.before.requires.0, ap itemRank c.before.enum-told7.given.1), room-on c.before.before.before.before.before.requires.1 kept_refl (omega arith) c.before.before.before.before.before.requires.1.inside (omega arith))
+  param-requires c κs = (omega (arith, c.before.before.before.before.before.requires.0, ap item_rank c.before.enum-told7.given.1), room-on c.before.before.before.before.before.requires.1 kept_refl (omega arith) c.before.before.before.before.before.requires.1.inside (omega arith))
 
   arg-requires : Of lts.Need-arg-requires
-  arg-requires c κs = (omega (arith, c.before.before.before.before.before.requires.0, ap itemRank c.before.enum-told8.given.1), room-on c.before.before.before.before.before.requires.1 kept_refl (omega arith) c.before.before.before.before.before.requires.1.inside (omega arith))
+  arg-requires c κs = (omega (arith, c.before.before.before.before.before.requires.0, ap item_rank c.before.enum-told8.given.1), room-on c.before.before.before.before.before.requires.1 kept_refl (omega arith) c.before.before.before.before.before.requires.1.inside (omega arith))
 
   same_length : Of lts.Need-same-length
   same_length c = c.before.before.expr.ensures.kept.length-kept

@@ -7,8 +7,8 @@ use borrow.Fn.Kinds.{In, Out}
 use Prim.Native.Nat.{◌-◌}
 use mathlib.Core.Path.{◌∙◌}
 use lib.ListN.{length}
-use Rattle.grammar.specs.Rules.{parseNonemptyCommaDelimitedSeq}
-use Rattle.parsing.specs.Code.{sequenceOf, itemRule}
+use Rattle.grammar.specs.Rules.{parse_nonempty_comma_delimited_seq}
+use Rattle.parsing.specs.Code.{sequence_of, item_rule}
 use Rattle.parsing.proofs.Laws.{took, found, kept_refl, kept_trans, kept_next, rule-failed}
 use Rattle.parsing.proofs.Rooms.{room-on, based-kept}
 use Rattle.parsing.proofs.Sequences.{Listing, comma-repetition, nonempty-some, gathering-one, gathering-next, gathering-end, gathering-needed, gathering-refused}
@@ -20,7 +20,7 @@ use cycle.Proof.Ranks as ranks
 use fn.expr.seq.items.Reads.{Post}
 
 abbrev Inv-loop : lts.invariant-loop
-Inv-loop text start arena₀ free depth kind first from top0 list₀ at₀ top₀ t21 arena list at top = Listing text kind (itemRule kind text depth) start arena₀ free arena list at top
+Inv-loop text start arena₀ free depth kind first from top0 list₀ at₀ top₀ t21 arena list at top = Listing text kind (item_rule kind text depth) start arena₀ free arena list at top
 
 abbrev μ-loop : lts.decreases-loop
 μ-loop text start arena₀ free depth kind first from top0 list₀ at₀ top₀ t21 arena list at top = length text - at
@@ -39,7 +39,7 @@ module _ (t : ℕ) where
   same_length c = c.before.before.before.item.ensures.kept.length-kept
 
   returns : Of lts.Need-returns
-  unfolding parseNonemptyCommaDelimitedSeq
+  unfolding parse_nonempty_comma_delimited_seq
   returns c = rule-failed _ c.before.before.before.item.ensures.kept c.before.before.before.item.result c.match.keys2 c.before.before.before.item.ensures
 
   node-requires : Of lts.Need-node-requires
@@ -67,7 +67,7 @@ module _ (t : ℕ) where
       record {
         gathering =
             gathering-one (comma-repetition _ c.before.before.before.before.before.before.before.before.before.before.before.before.before.args.kind _) _ f.value s.based s.above
-            (nonempty-some _ _ (sequenceOf c.before.before.before.before.before.before.before.before.before.before.before.before.before.args.kind) _ _ f.says) (omega arith) f.next-inside
+            (nonempty-some _ _ (sequence_of c.before.before.before.before.before.before.before.before.before.before.before.before.before.args.kind) _ _ f.says) (omega arith) f.next-inside
             c.before.before.before.before.before.before.before.before.before.item.ensures.kept f.holds f.node-below f.grows c.before.before.node.ensures;
         forward = f.progress;
         within = omega arith;

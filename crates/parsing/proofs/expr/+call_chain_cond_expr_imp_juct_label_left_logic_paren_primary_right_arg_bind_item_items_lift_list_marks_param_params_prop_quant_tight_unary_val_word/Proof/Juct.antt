@@ -9,8 +9,8 @@ use Rattle.lexing.specs.Answer.{Answer, ok}
 use Rattle.tree.specs.Ast.{Span, Expr}
 use Rattle.grammar.specs.Grammar.{build, sum}
 use Rattle.grammar.specs.Steps.{after, need}
-use Rattle.grammar.specs.Rules.{onceTail, parseComparisonOperator, parseTermExpr, parseJuctExpr}
-use Rattle.parsing.specs.Code.{turns, inner, leftChain}
+use Rattle.grammar.specs.Rules.{once_tail, parse_comparison_operator, parse_term_expr, parse_juct_expr}
+use Rattle.parsing.specs.Code.{turns, inner, left_chain}
 use Rattle.parsing.proofs.Laws.{after_none, after-refused, found, stands}
 use Rattle.parsing.proofs.Reached.{Reached, begin, token, built, room_for, length-here, length-after, needed, failed, done}
 use Rattle.parsing.proofs.ChainPlaces.{sign-took, combined, stops}
@@ -20,13 +20,13 @@ use cycle.Lts-juct as lts
 use cycle.Proof.Ranks as ranks
 use fn.expr.juct.Reads.{Post}
 
--- `parseJuctExpr` by its two operands, each a chain
+-- `parse_juct_expr` by its two operands, each a chain
 rule : (text : List ℕ) (depth at : ℕ)
-    → parseJuctExpr text (turns text) (inner text depth) at
-    ≡ after (leftChain sum text depth at) Answer.none
-    (λ e at₁. after (parseComparisonOperator text at₁) (ok e at₁)
-    (λ b at₂. need at₂ (leftChain sum text depth at₂) (λ e₁ at₃. ok (build b e e₁) at₃)))
-unfolding parseJuctExpr onceTail parseTermExpr
+    → parse_juct_expr text (turns text) (inner text depth) at
+    ≡ after (left_chain sum text depth at) Answer.none
+    (λ e at₁. after (parse_comparison_operator text at₁) (ok e at₁)
+    (λ b at₂. need at₂ (left_chain sum text depth at₂) (λ e₁ at₃. ok (build b e e₁) at₃)))
+unfolding parse_juct_expr once_tail parse_term_expr
 rule text depth at = refl
 
 module _ (t : ℕ) where

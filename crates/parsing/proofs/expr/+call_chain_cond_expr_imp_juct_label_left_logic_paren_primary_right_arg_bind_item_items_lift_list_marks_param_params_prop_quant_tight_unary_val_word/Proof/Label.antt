@@ -9,7 +9,7 @@ use Rattle.lexing.specs.Answer.{ok}
 use Rattle.tree.specs.Ast.{Span, Expr, IdExpr, LabeledExpr}
 use mathlib.Core.Bool.{false}
 use Rattle.grammar.specs.Steps.{Reader, after, need, Sym}
-use Rattle.grammar.specs.Rules.{afterLabel, afterColon}
+use Rattle.grammar.specs.Rules.{after_label, after_colon}
 use Rattle.parsing.specs.Arena.{Holds}
 use Rattle.parsing.specs.Code.{inner, span}
 use Rattle.parsing.proofs.Laws.{took}
@@ -22,8 +22,8 @@ use cycle.Proof.Ranks as ranks
 use fn.expr.label.Reads.{Post}
 
 rule : (text : List ℕ) (c : Reader (Expr Span)) (n : Span) (at : ℕ)
-    → afterLabel text c n at ≡ after (Sym text ":" at) (ok (IdExpr n false) at) (λ _ at₁. need at₁ (c at₁) (λ e at₂. ok (LabeledExpr n e) at₂))
-unfolding afterLabel afterColon
+    → after_label text c n at ≡ after (Sym text ":" at) (ok (IdExpr n false) at) (λ _ at₁. need at₁ (c at₁) (λ e at₂. ok (LabeledExpr n e) at₂))
+unfolding after_label after_colon
 rule text c n at = refl
 
 module _ (t : ℕ) where

@@ -16,7 +16,7 @@ use Rattle.parsing.proofs as fn
 use fn.expr.+call_chain_cond_expr_imp_juct_label_left_logic_paren_primary_right_arg_bind_item_items_lift_list_marks_param_params_prop_quant_tight_unary_val_word as cycle
 use cycle.Lts-left as lts
 use cycle.Proof.Ranks as ranks
-use cycle.Proof.Ranks.{levelRank}
+use cycle.Proof.Ranks.{level_rank}
 use fn.expr.left.Reads.{Post}
 
 abbrev Inv-loop : lts.invariant-loop
@@ -33,7 +33,7 @@ module _ (t : ℕ) where
   Of N = N claims ((ranks.left).at t) Post Inv-loop μ-loop
 
   abbrev at-loop : Of lts.At-loop → Reached (Expr Span)
-  at-loop c = leaning-place c.loop.invariant (levelRank c.before.before.before.args.level + 1) c.before.before.before.requires.0 c.before.before.before.requires.1.0
+  at-loop c = leaning-place c.loop.invariant (level_rank c.before.before.before.args.level + 1) c.before.before.before.requires.0 c.before.before.before.requires.1.0
 
   abbrev at_sign : Of lts.After-op → Reached (Expr Span)
   at_sign c = token (at-loop c.before.before.before) _ _ refl (sign-took (stands c.op.given.1 c.before.before.operator.ensures))

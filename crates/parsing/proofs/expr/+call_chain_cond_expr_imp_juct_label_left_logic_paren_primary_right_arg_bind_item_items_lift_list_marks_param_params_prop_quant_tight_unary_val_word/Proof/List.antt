@@ -5,7 +5,7 @@ use mathlib.Core.Path.{◌≡◌, refl}
 use borrow.Author.Rules.{rules}
 use borrow.Fn.Kinds.{In, Out}
 use mathlib.Core.Path.{◌∙◌}
-use Rattle.parsing.specs.Code.{sequenceOf}
+use Rattle.parsing.specs.Code.{sequence_of}
 use Rattle.parsing.proofs.Laws.{found, kept_trans}
 use Rattle.parsing.proofs.Rooms.{based-kept}
 use Rattle.parsing.proofs.Sequences.{listed-some, listed-none, listed-refused, nil-holds, shut-builds}
@@ -61,7 +61,7 @@ module _ (t : ℕ) where
   returns-3 c =
       record {
         kept = c.before.before.before.before.before.items.ensures.kept;
-        agrees = listed-refused _ _ (sequenceOf c.before.before.before.before.before.before.before.before.before.before.args.kind) _ _ _ (rw c.before.number.given.1 at c.before.before.before.before.before.items.ensures.agrees);
+        agrees = listed-refused _ _ (sequence_of c.before.before.before.before.before.before.before.before.before.before.args.kind) _ _ _ (rw c.before.number.given.1 at c.before.before.before.before.before.items.ensures.agrees);
       }
 
   pub spec : {M : Type 1} → lts.Closed claims ((ranks.list).at t) Post M

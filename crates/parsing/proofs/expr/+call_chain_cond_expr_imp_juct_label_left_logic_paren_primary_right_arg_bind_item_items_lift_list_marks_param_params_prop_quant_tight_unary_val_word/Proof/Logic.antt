@@ -9,8 +9,8 @@ use Rattle.lexing.specs.Answer.{Answer}
 use Rattle.tree.specs.Ast.{Span, Expr}
 use Rattle.grammar.specs.Grammar.{conjunction, disjunction}
 use Rattle.grammar.specs.Steps.{after}
-use Rattle.grammar.specs.Rules.{leftTail, andOperator, logicalTail, parseLogicalExpr, operatorOf}
-use Rattle.parsing.specs.Code.{turns, inner, tighterOf}
+use Rattle.grammar.specs.Rules.{left_tail, and_operator, logical_tail, parse_logical_expr, operator_of}
+use Rattle.parsing.specs.Code.{turns, inner, tighter_of}
 use Rattle.parsing.proofs.Laws.{after-ok, after_none, after-refused, found, stands}
 use Rattle.parsing.proofs.Rooms.{begun}
 use Rattle.parsing.proofs.Reached.{Reached, begin, built, room_for, length-here, length-after, failed}
@@ -21,14 +21,14 @@ use cycle.Lts-logic as lts
 use cycle.Proof.Ranks as ranks
 use fn.expr.logic.Reads.{Post}
 
--- `parseLogicalExpr` by its first operand and the chains that may follow it
+-- `parse_logical_expr` by its first operand and the chains that may follow it
 rule : (text : List ℕ) (depth at : ℕ)
-    → parseLogicalExpr text (turns text) (inner text depth) at
-    ≡ after (tighterOf conjunction text depth at) Answer.none
-    (λ e at₁. after (andOperator text at₁)
-    (leftTail (turns text) (operatorOf text disjunction) (tighterOf disjunction text depth) e at₁)
-    (λ _ _. leftTail (turns text) (operatorOf text conjunction) (tighterOf conjunction text depth) e at₁))
-unfolding parseLogicalExpr logicalTail
+    → parse_logical_expr text (turns text) (inner text depth) at
+    ≡ after (tighter_of conjunction text depth at) Answer.none
+    (λ e at₁. after (and_operator text at₁)
+    (left_tail (turns text) (operator_of text disjunction) (tighter_of disjunction text depth) e at₁)
+    (λ _ _. left_tail (turns text) (operator_of text conjunction) (tighter_of conjunction text depth) e at₁))
+unfolding parse_logical_expr logical_tail
 rule text depth at = refl
 
 module _ (t : ℕ) where

@@ -9,8 +9,8 @@ use borrow.Fn.Kinds.{In, Out}
 use Rattle.lexing.specs.Answer.{Answer, ok}
 use Rattle.tree.specs.Ast.{Span, Expr, PParameter}
 use Rattle.grammar.specs.Steps.{after, need, must, mapped, T}
-use Rattle.grammar.specs.Statements.{parseOptionalAutoInvariant}
-use Rattle.grammar.specs.Declarations.{parseModed, parseProcFormal}
+use Rattle.grammar.specs.Statements.{parse_optional_auto_invariant}
+use Rattle.grammar.specs.Declarations.{parse_moded, parse_proc_formal}
 use Rattle.parsing.specs.Code.{inner, turns, opened}
 use Rattle.parsing.proofs.Laws.{took, kept_refl, after_none, after-refused}
 use Rattle.parsing.proofs.Mapping.{optional-rest, opened-expr}
@@ -22,15 +22,15 @@ use cycle.Proof.Ranks as ranks
 use fn.expr.seq.param.Reads.{Post}
 
 abbrev with-invariant : PParameter Span → Option (Expr Span) → PParameter Span
-with-invariant p i = record { name = p.name; mode = p.mode; typ = p.typ; optionalAutoInv = i }
+with-invariant p i = record { name = p.name; mode = p.mode; typ = p.typ; optional_auto_inv = i }
 
 rule : (text : List ℕ) (depth at : ℕ)
-    → parseProcFormal text (turns text) (opened text depth) at
-    ≡ after (parseModed text at) Answer.none
+    → parse_proc_formal text (turns text) (opened text depth) at
+    ≡ after (parse_moded text at) Answer.none
     (λ p at₁. need at₁ (after (T text "autoinv" at₁) (ok none at₁) (λ _ at₂. must at₂ (mapped some (inner text depth at₂)))) (λ i at₂. ok (with-invariant p i) at₂))
-unfolding parseProcFormal parseOptionalAutoInvariant
+unfolding parse_proc_formal parse_optional_auto_invariant
 rule text depth at =
-    ap (λ c. after (parseModed text at) Answer.none
+    ap (λ c. after (parse_moded text at) Answer.none
     (λ p at₁. need at₁ (after (T text "autoinv" at₁) (ok none at₁) (λ _ at₂. must at₂ (mapped some (c at₂)))) (λ i at₂. ok (with-invariant p i) at₂)))
     (opened-expr text depth)
 

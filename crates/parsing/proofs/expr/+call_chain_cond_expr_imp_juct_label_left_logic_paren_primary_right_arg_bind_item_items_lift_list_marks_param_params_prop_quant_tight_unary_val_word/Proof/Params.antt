@@ -4,7 +4,7 @@ use native.Mathlib.Omega.{arith}
 use mathlib.Core.Path.{◌≡◌, refl}
 use borrow.Author.Rules.{rules}
 use borrow.Fn.Kinds.{In, Out}
-use Rattle.grammar.specs.Rules.{parseParameters}
+use Rattle.grammar.specs.Rules.{parse_parameters}
 use Rattle.parsing.proofs.Laws.{took, kept_refl, after-refused, builds-after, builds-else, builds-from, builds-node}
 use Rattle.parsing.proofs.Rooms.{room-on}
 use Rattle.parsing.proofs.Sequences.{nil-holds}
@@ -34,19 +34,19 @@ module _ (t : ℕ) where
   same_length c = c.before.before.list.ensures.kept.length-kept
 
   returns : Of lts.Need-returns
-  unfolding parseParameters
+  unfolding parse_parameters
   returns c =
       let k = took c.before.before.before.before.before.before.at1.given.1 c.before.before.before.before.before.before.before.before.sym.ensures in
       builds-after _ _ k.says (builds-from c.before.before.list.ensures.kept (omega arith) (omega (arith, k)) (omega (arith, k)) c.before.before.list.ensures)
 
   returns-2 : Of lts.Need-returns-2
-  unfolding parseParameters
+  unfolding parse_parameters
   returns-2 c =
       builds-else _ _ (rw c.enum_told.given.1 at c.before.before.sym.ensures)
       (builds-node refl kept_refl (nil-holds BindingItems c.before.before.before.before.before.before.requires.1.based) (omega (arith, c.before.before.before.before.before.before.requires.1)))
 
   returns-3 : Of lts.Need-returns-3
-  unfolding parseParameters
+  unfolding parse_parameters
   returns-3 c = record { kept = kept_refl; agrees = after-refused _ _ (rw c.before.number.given.1 at c.before.before.before.sym.ensures) }
 
   pub spec : {M : Type 1} → lts.Closed claims ((ranks.params).at t) Post M

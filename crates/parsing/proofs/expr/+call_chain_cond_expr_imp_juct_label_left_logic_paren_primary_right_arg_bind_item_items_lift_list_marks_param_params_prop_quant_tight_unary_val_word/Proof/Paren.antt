@@ -8,8 +8,8 @@ use mathlib.Core.List.{List}
 use Rattle.lexing.specs.Answer.{Answer, ok}
 use Rattle.tree.specs.Ast.{Span, Expr}
 use Rattle.grammar.specs.Steps.{Reader, after, need, Sym}
-use Rattle.grammar.specs.Rules.{afterParen}
-use Rattle.parsing.specs.Code.{inner, parenExpr}
+use Rattle.grammar.specs.Rules.{after_paren}
+use Rattle.parsing.specs.Code.{inner, paren_expr}
 use Rattle.parsing.proofs.Laws.{took}
 use Rattle.parsing.proofs.Reached.{Reached, begin, token, built, room_for, length-here, length-after, untaken, needed}
 use Rattle.parsing.proofs.Closing.{shut-done}
@@ -20,9 +20,9 @@ use cycle.Proof.Ranks as ranks
 use fn.expr.paren.Reads.{Post}
 
 rule : (text : List ℕ) (c : Reader (Expr Span)) (at : ℕ)
-    → parenExpr text c at
+    → paren_expr text c at
     ≡ after (Sym text "(" at) Answer.none (λ _ at₁. need at₁ (c at₁) (λ e at₂. need at₂ (Sym text ")" at₂) (λ _ at₃. ok e at₃)))
-unfolding afterParen
+unfolding after_paren
 rule text c at = refl
 
 module _ (t : ℕ) where

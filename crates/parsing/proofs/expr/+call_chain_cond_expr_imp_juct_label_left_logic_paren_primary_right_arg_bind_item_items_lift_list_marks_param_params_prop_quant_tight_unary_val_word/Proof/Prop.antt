@@ -10,7 +10,7 @@ use Rattle.lexing.specs.Answer.{Answer}
 use Rattle.tree.specs.Ast.{Span, Expr}
 use Rattle.grammar.specs.Steps.{Reader, after}
 use Rattle.lexing.specs.Bytes.{bytes}
-use Rattle.grammar.specs.Rules.{PropertyItem, parseMarked, parseClosureProperty, afterTriggers}
+use Rattle.grammar.specs.Rules.{PropertyItem, parse_marked, parse_closure_property, after_triggers}
 use Rattle.parsing.specs.Code.{inner, turns}
 use Rattle.parsing.proofs.Laws.{found}
 use Rattle.parsing.proofs.Properties.{property-stopped, property-done}
@@ -22,8 +22,8 @@ use cycle.Proof.Ranks as ranks
 use fn.expr.seq.prop.Reads.{Post}
 
 rule : (text : List ℕ) (m : ℕ) (c : Reader (Expr Span)) (at : ℕ)
-    → parseClosureProperty text m c at ≡ after (parseMarked text m c m (bytes "trigger") at) Answer.none (λ ts at₁. afterTriggers ts at₁ (c at₁))
-unfolding parseClosureProperty
+    → parse_closure_property text m c at ≡ after (parse_marked text m c m (bytes "trigger") at) Answer.none (λ ts at₁. after_triggers ts at₁ (c at₁))
+unfolding parse_closure_property
 rule text m c at = refl
 
 module _ (t : ℕ) where

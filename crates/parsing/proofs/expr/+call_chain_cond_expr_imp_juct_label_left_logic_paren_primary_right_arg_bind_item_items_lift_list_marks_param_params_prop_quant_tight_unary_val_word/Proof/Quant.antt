@@ -10,8 +10,8 @@ use Rattle.lexing.specs.Answer.{ok}
 use Rattle.tree.specs.Ast.{Span, Expr, QuantifierExpr}
 use Rattle.lexing.specs.Bytes.{bytes}
 use Rattle.grammar.specs.Steps.{Reader, need}
-use Rattle.grammar.specs.Rules.{bindings, parseIdType, parseNonemptyCommaDelimitedSeq, parseMarked, afterQuantifier}
-use Rattle.parsing.specs.Code.{inner, turns, boolOf}
+use Rattle.grammar.specs.Rules.{bindings, parse_id_type, parse_nonempty_comma_delimited_seq, parse_marked, after_quantifier}
+use Rattle.parsing.specs.Code.{inner, turns, bool_of}
 use Rattle.parsing.proofs.Closures.{quantifier-holds}
 use Rattle.parsing.proofs.Reached.{Reached, begin, built, noted, four-made, room_for, length-here, length-after, needed, done}
 use Rattle.parsing.proofs as fn
@@ -21,11 +21,11 @@ use cycle.Proof.Ranks as ranks
 use fn.expr.seq.quant.Reads.{Post}
 
 rule : (text : List ℕ) (m : ℕ) (c : Reader (Expr Span)) (universal : Bool) (at : ℕ)
-    → afterQuantifier text m c universal at
-    ≡ need at (parseNonemptyCommaDelimitedSeq text m bindings (parseIdType text) at)
-    (λ bs at₁. need at₁ (parseMarked text m c m (bytes "pattern") at₁)
+    → after_quantifier text m c universal at
+    ≡ need at (parse_nonempty_comma_delimited_seq text m bindings (parse_id_type text) at)
+    (λ bs at₁. need at₁ (parse_marked text m c m (bytes "pattern") at₁)
     (λ ps at₂. need at₂ (c at₂) (λ body at₃. ok (QuantifierExpr universal bs ps body) at₃)))
-unfolding afterQuantifier
+unfolding after_quantifier
 rule text m c universal at = refl
 
 module _ (t : ℕ) where
@@ -49,7 +49,7 @@ module _ (t : ℕ) where
   Of N = N claims ((ranks.quant).at t) Post
 
   abbrev at-start : Of lts.Start → Reached (Expr Span)
-  at-start c = begin c.args.depth 4 (rule c.args.text.now (turns c.args.text.now) (inner c.args.text.now c.args.depth) (boolOf c.args.universal) c.args.at) c.requires.0 c.requires.1.0
+  at-start c = begin c.args.depth 4 (rule c.args.text.now (turns c.args.text.now) (inner c.args.text.now c.args.depth) (bool_of c.args.universal) c.args.at) c.requires.0 c.requires.1.0
 
   abbrev at-node : Of lts.After-node → Reached (Expr Span)
   at-node c = noted (at-start c.before.before.before.before) c.node.ensures (quantifier-holds c.before.before.before.before.args.universal c.before.before.before.before.requires.1.1 c.node.ensures.node) refl

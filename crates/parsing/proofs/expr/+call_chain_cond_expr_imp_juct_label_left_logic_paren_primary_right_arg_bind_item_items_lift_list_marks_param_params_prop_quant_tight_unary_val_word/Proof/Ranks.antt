@@ -9,26 +9,26 @@ use Rattle.parsing.specs.declared.expr.seq.Kind.TheVariants.{Exprs, Bindings, Cl
 use Rattle.parsing.proofs.expr as fn
 
 -- the rule of a level's operands
-abbrev pub levelRank : Level → ℕ
-levelRank Product = 13
-levelRank Sum = 16
-levelRank Comparison = 19
-levelRank Conjunction = 21
-levelRank Disjunction = 21
-levelRank Implication = 25
-levelRank Explication = 25
-levelRank Equivalence = 29
+abbrev pub level_rank : Level → ℕ
+level_rank Product = 13
+level_rank Sum = 16
+level_rank Comparison = 19
+level_rank Conjunction = 21
+level_rank Disjunction = 21
+level_rank Implication = 25
+level_rank Explication = 25
+level_rank Equivalence = 29
 
 -- an item of a sequence
-abbrev pub itemRank : Kind → ℕ
-itemRank Exprs = 1
-itemRank Bindings = 1
-itemRank Closures = 6
-itemRank Properties = 5
-itemRank Names = 1
-itemRank Formals = 1
-itemRank Parameters = 2
-itemRank Arguments = 2
+abbrev pub item_rank : Kind → ℕ
+item_rank Exprs = 1
+item_rank Bindings = 1
+item_rank Closures = 6
+item_rank Properties = 5
+item_rank Names = 1
+item_rank Formals = 1
+item_rank Parameters = 2
+item_rank Arguments = 2
 
 abbrev pub arg : Rank 2 fn.seq.arg.Kinds.ps
 arg = rank 2 fn.seq.arg.Kinds.ps fn.seq.arg.Reads.Pre (λ κs a. 40 * a.1.1.1.1.0 + 1)
@@ -40,7 +40,7 @@ abbrev pub call : Rank 2 fn.call.Kinds.ps
 call = rank 2 fn.call.Kinds.ps fn.call.Reads.Pre (λ κs a. 40 * a.1.1.1.1.1.0 + 4)
 
 abbrev pub chain : Rank 2 fn.chain.Kinds.ps
-chain = rank 2 fn.chain.Kinds.ps fn.chain.Reads.Pre (λ κs a. 40 * a.1.1.1.1.0 + (levelRank a.1.1.1.1.1.0 + 2))
+chain = rank 2 fn.chain.Kinds.ps fn.chain.Reads.Pre (λ κs a. 40 * a.1.1.1.1.0 + (level_rank a.1.1.1.1.1.0 + 2))
 
 abbrev pub cond : Rank 2 fn.cond.Kinds.ps
 cond = rank 2 fn.cond.Kinds.ps fn.cond.Reads.Pre (λ κs a. 40 * a.1.1.1.1.0 + 1)
@@ -52,10 +52,10 @@ abbrev pub imp : Rank 2 fn.imp.Kinds.ps
 imp = rank 2 fn.imp.Kinds.ps fn.imp.Reads.Pre (λ κs a. 40 * a.1.1.1.1.0 + 28)
 
 abbrev pub item : Rank 2 fn.seq.item.Kinds.ps
-item = rank 2 fn.seq.item.Kinds.ps fn.seq.item.Reads.Pre (λ κs a. 40 * a.1.1.1.1.0 + itemRank a.1.1.1.1.1.0)
+item = rank 2 fn.seq.item.Kinds.ps fn.seq.item.Reads.Pre (λ κs a. 40 * a.1.1.1.1.0 + item_rank a.1.1.1.1.1.0)
 
 abbrev pub items : Rank 2 fn.seq.items.Kinds.ps
-items = rank 2 fn.seq.items.Kinds.ps fn.seq.items.Reads.Pre (λ κs a. 40 * a.1.1.1.1.0 + (itemRank a.1.1.1.1.1.0 + 1))
+items = rank 2 fn.seq.items.Kinds.ps fn.seq.items.Reads.Pre (λ κs a. 40 * a.1.1.1.1.0 + (item_rank a.1.1.1.1.1.0 + 1))
 
 abbrev pub juct : Rank 2 fn.juct.Kinds.ps
 juct = rank 2 fn.juct.Kinds.ps fn.juct.Reads.Pre (λ κs a. 40 * a.1.1.1.1.0 + 20)
@@ -64,13 +64,13 @@ abbrev pub label : Rank 2 fn.label.Kinds.ps
 label = rank 2 fn.label.Kinds.ps fn.label.Reads.Pre (λ κs a. 40 * a.1.1.1.1.0 + 1)
 
 abbrev pub left : Rank 2 fn.left.Kinds.ps
-left = rank 2 fn.left.Kinds.ps fn.left.Reads.Pre (λ κs a. 40 * a.1.1.1.1.1.1.0 + (levelRank a.1.1.1.1.1.1.1.0 + 1))
+left = rank 2 fn.left.Kinds.ps fn.left.Reads.Pre (λ κs a. 40 * a.1.1.1.1.1.1.0 + (level_rank a.1.1.1.1.1.1.1.0 + 1))
 
 abbrev pub lift : Rank 2 fn.seq.lift.Kinds.ps
 lift = rank 2 fn.seq.lift.Kinds.ps fn.seq.lift.Reads.Pre (λ κs a. 40 * a.1.1.1.1.0 + 9)
 
 abbrev pub list : Rank 3 fn.seq.list.Kinds.ps
-list = rank 3 fn.seq.list.Kinds.ps fn.seq.list.Reads.Pre (λ κs a. 40 * a.1.1.1.1.0 + (itemRank a.1.1.1.1.1.0 + 2))
+list = rank 3 fn.seq.list.Kinds.ps fn.seq.list.Reads.Pre (λ κs a. 40 * a.1.1.1.1.0 + (item_rank a.1.1.1.1.1.0 + 2))
 
 abbrev pub logic : Rank 2 fn.logic.Kinds.ps
 logic = rank 2 fn.logic.Kinds.ps fn.logic.Reads.Pre (λ κs a. 40 * a.1.1.1.1.0 + 24)
@@ -100,7 +100,7 @@ abbrev pub right : Rank 2 fn.right.Kinds.ps
 right = rank 2 fn.right.Kinds.ps fn.right.Reads.Pre (λ κs a. 40 * a.1.1.1.1.1.1.0 + 26)
 
 abbrev pub tight : Rank 2 fn.tight.Kinds.ps
-tight = rank 2 fn.tight.Kinds.ps fn.tight.Reads.Pre (λ κs a. 40 * a.1.1.1.1.0 + levelRank a.1.1.1.1.1.0)
+tight = rank 2 fn.tight.Kinds.ps fn.tight.Reads.Pre (λ κs a. 40 * a.1.1.1.1.0 + level_rank a.1.1.1.1.1.0)
 
 abbrev pub unary : Rank 2 fn.unary.Kinds.ps
 unary = rank 2 fn.unary.Kinds.ps fn.unary.Reads.Pre (λ κs a. 40 * a.1.1.1.1.0 + 12)

@@ -4,12 +4,12 @@ use native.Mathlib.Omega.{arith}
 use mathlib.Core.Path.{ap}
 use borrow.Author.Rules.{rules}
 use borrow.Fn.Kinds.{In, Out}
-use Rattle.grammar.specs.Rules.{parseFactorExpr, parseTermExpr}
+use Rattle.grammar.specs.Rules.{parse_factor_expr, parse_term_expr}
 use Rattle.parsing.proofs as fn
 use fn.expr.+call_chain_cond_expr_imp_juct_label_left_logic_paren_primary_right_arg_bind_item_items_lift_list_marks_param_params_prop_quant_tight_unary_val_word as cycle
 use cycle.Lts-tight as lts
 use cycle.Proof.Ranks as ranks
-use cycle.Proof.Ranks.{levelRank}
+use cycle.Proof.Ranks.{level_rank}
 use fn.expr.tight.Reads.{Post}
 
 module _ (t : ℕ) where
@@ -20,28 +20,28 @@ module _ (t : ℕ) where
   Of N = N claims ((ranks.tight).at t) Post
 
   unary-requires : Of lts.Need-unary-requires
-  unary-requires c κs = (omega (arith, c.before.before.before.before.before.requires.0, ap levelRank c.before.enum_told.given.1), c.before.before.before.before.before.requires.1)
+  unary-requires c κs = (omega (arith, c.before.before.before.before.before.requires.0, ap level_rank c.before.enum_told.given.1), c.before.before.before.before.before.requires.1)
 
   chain-requires : Of lts.Need-chain-requires
-  chain-requires c κs = (omega (arith, c.before.before.before.before.before.requires.0, ap levelRank c.before.enum-told2.given.1), c.before.before.before.before.before.requires.1)
+  chain-requires c κs = (omega (arith, c.before.before.before.before.before.requires.0, ap level_rank c.before.enum-told2.given.1), c.before.before.before.before.before.requires.1)
 
   chain-requires-2 : Of lts.Need-chain-requires-2
-  chain-requires-2 c κs = (omega (arith, c.before.before.before.before.before.requires.0, ap levelRank c.before.enum-told3.given.1), c.before.before.before.before.before.requires.1)
+  chain-requires-2 c κs = (omega (arith, c.before.before.before.before.before.requires.0, ap level_rank c.before.enum-told3.given.1), c.before.before.before.before.before.requires.1)
 
   juct-requires : Of lts.Need-juct-requires
-  juct-requires c κs = (omega (arith, c.before.before.before.before.before.requires.0, ap levelRank c.before.enum-told4.given.1), c.before.before.before.before.before.requires.1)
+  juct-requires c κs = (omega (arith, c.before.before.before.before.before.requires.0, ap level_rank c.before.enum-told4.given.1), c.before.before.before.before.before.requires.1)
 
   juct-requires-2 : Of lts.Need-juct-requires-2
-  juct-requires-2 c κs = (omega (arith, c.before.before.before.before.before.requires.0, ap levelRank c.before.enum-told5.given.1), c.before.before.before.before.before.requires.1)
+  juct-requires-2 c κs = (omega (arith, c.before.before.before.before.before.requires.0, ap level_rank c.before.enum-told5.given.1), c.before.before.before.before.before.requires.1)
 
   logic-requires : Of lts.Need-logic-requires
-  logic-requires c κs = (omega (arith, c.before.before.before.before.before.requires.0, ap levelRank c.before.enum-told6.given.1), c.before.before.before.before.before.requires.1)
+  logic-requires c κs = (omega (arith, c.before.before.before.before.before.requires.0, ap level_rank c.before.enum-told6.given.1), c.before.before.before.before.before.requires.1)
 
   logic-requires-2 : Of lts.Need-logic-requires-2
-  logic-requires-2 c κs = (omega (arith, c.before.before.before.before.before.requires.0, ap levelRank c.before.enum-told7.given.1), c.before.before.before.before.before.requires.1)
+  logic-requires-2 c κs = (omega (arith, c.before.before.before.before.before.requires.0, ap level_rank c.before.enum-told7.given.1), c.before.before.before.before.before.requires.1)
 
   imp-requires : Of lts.Need-imp-requires
-  imp-requires c κs = (omega (arith, c.before.before.before.before.before.requires.0, ap levelRank c.before.enum-told8.given.1), c.before.before.before.before.before.requires.1)
+  imp-requires c κs = (omega (arith, c.before.before.before.before.before.requires.0, ap level_rank c.before.enum-told8.given.1), c.before.before.before.before.before.requires.1)
 
   same_length : Of lts.Need-same-length
   same_length c = c.before.before.unary.ensures.kept.length-kept
@@ -53,14 +53,14 @@ module _ (t : ℕ) where
   same-length-2 c = c.before.before.chain.ensures.kept.length-kept
 
   returns-2 : Of lts.Need-returns-2
-  unfolding parseFactorExpr
+  unfolding parse_factor_expr
   returns-2 c = rw c.before.before.before.before.enum-told2.given.1 c.before.before.chain.ensures
 
   same-length-3 : Of lts.Need-same-length-3
   same-length-3 c = c.before.before.chain2.ensures.kept.length-kept
 
   returns-3 : Of lts.Need-returns-3
-  unfolding parseTermExpr
+  unfolding parse_term_expr
   returns-3 c = rw c.before.before.before.before.enum-told3.given.1 c.before.before.chain2.ensures
 
   same-length-4 : Of lts.Need-same-length-4

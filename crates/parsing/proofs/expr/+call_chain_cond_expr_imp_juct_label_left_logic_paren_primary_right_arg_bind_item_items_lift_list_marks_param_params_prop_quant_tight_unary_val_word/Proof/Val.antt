@@ -7,8 +7,8 @@ use borrow.Author.Rules.{rules}
 use borrow.Fn.Kinds.{In, Out}
 use Rattle.lexing.specs.Answer.{ok}
 use Rattle.tree.specs.Ast.{Span, Expr, LetExpr}
-use Rattle.grammar.specs.Steps.{Reader, need, Sym, parseName}
-use Rattle.grammar.specs.Rules.{afterVal, parseOptionalType}
+use Rattle.grammar.specs.Steps.{Reader, need, Sym, parse_name}
+use Rattle.grammar.specs.Rules.{after_val, parse_optional_type}
 use Rattle.parsing.specs.Arena.{Holds}
 use Rattle.parsing.specs.Code.{inner}
 use Rattle.parsing.proofs.Laws.{took}
@@ -20,12 +20,12 @@ use cycle.Proof.Ranks as ranks
 use fn.expr.val.Reads.{Post}
 
 rule : (text : List ℕ) (c : Reader (Expr Span)) (at : ℕ)
-    → afterVal text c at
-    ≡ need at (parseName text at)
-    (λ n at₁. need at₁ (parseOptionalType text at₁)
+    → after_val text c at
+    ≡ need at (parse_name text at)
+    (λ n at₁. need at₁ (parse_optional_type text at₁)
     (λ t at₂. need at₂ (Sym text ":=" at₂)
     (λ _ at₃. need at₃ (c at₃) (λ rhs at₄. need at₄ (c at₄) (λ body at₅. ok (LetExpr n t rhs body) at₅)))))
-unfolding afterVal
+unfolding after_val
 rule text c at = refl
 
 module _ (t : ℕ) where

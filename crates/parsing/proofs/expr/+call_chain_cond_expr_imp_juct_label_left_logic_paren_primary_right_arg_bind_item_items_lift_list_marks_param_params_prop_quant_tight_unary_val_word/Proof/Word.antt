@@ -4,7 +4,7 @@ use native.Mathlib.Omega.{arith}
 use mathlib.Core.Path.{◌∙◌}
 use borrow.Author.Rules.{rules}
 use borrow.Fn.Kinds.{In, Out}
-use Rattle.grammar.specs.Rules.{parsePrimaryExpr, afterName}
+use Rattle.grammar.specs.Rules.{parse_primary_expr, after_name}
 use Rattle.grammar.specs.Proofs.Bridge.NoOperand.{if-ends, val-ends, quantifier-ends, lift-ends}
 use Rattle.parsing.proofs.Laws.{took, kept_refl, kept_trans, after-refused, builds-after, builds-else, builds-from}
 use Rattle.parsing.proofs.Rooms.{room-on}
@@ -48,18 +48,18 @@ module _ (t : ℕ) where
   cond-requires : Of lts.Need-cond-requires
   cond-requires c κs =
       let d = c.before.before.before.before.before.before.requires.1.1 in
-      let l = word-long d _ c.before.before.is_IsWord.ensures c.before.if1.true in
+      let l = word-long d _ c.before.before.is_is_word.ensures c.before.if1.true in
       (omega (arith, c.before.before.before.before.before.before.requires.0), room-on c.before.before.before.before.before.before.requires.1.0 kept_refl (omega arith) d.inside (omega (arith, l)))
 
   same_length : Of lts.Need-same-length
   same_length c = c.before.before.cond.ensures.kept.length-kept
 
   returns : Of lts.Need-returns
-  unfolding parsePrimaryExpr
+  unfolding parse_primary_expr
   returns c =
       let d = c.before.before.before.before.before.before.before.before.before.requires.1.1 in
-      let l = word-long d _ c.before.before.before.before.before.is_IsWord.ensures c.before.before.before.before.if1.true in
-      builds-branch _ _ (word_stands d _ c.before.before.before.before.before.is_IsWord.ensures c.before.before.before.before.if1.true) (ends-keeps (if-ends _ _ _))
+      let l = word-long d _ c.before.before.before.before.before.is_is_word.ensures c.before.before.before.before.if1.true in
+      builds-branch _ _ (word_stands d _ c.before.before.before.before.before.is_is_word.ensures c.before.before.before.before.if1.true) (ends-keeps (if-ends _ _ _))
       (builds-from c.before.before.cond.ensures.kept (omega arith) (omega (arith, l)) (omega (arith, l)) c.before.before.cond.ensures)
 
   is-word-requires-2 : Of lts.Need-is-word-requires-2
@@ -75,11 +75,11 @@ module _ (t : ℕ) where
   same-length-2 c = c.before.before.val.ensures.kept.length-kept
 
   returns-2 : Of lts.Need-returns-2
-  unfolding parsePrimaryExpr
+  unfolding parse_primary_expr
   returns-2 c =
       let d = c.before.before.before.before.before.before.before.before.before.before.before.before.requires.1.1 in
       let l = word-long d _ c.before.before.before.before.before.is-word2.ensures c.before.before.before.before.if2.true in
-      builds-skip _ _ (word-absent d _ c.before.before.before.before.before.before.before.before.is_IsWord.ensures c.before.before.before.before.before.before.before.if1.false)
+      builds-skip _ _ (word-absent d _ c.before.before.before.before.before.before.before.before.is_is_word.ensures c.before.before.before.before.before.before.before.if1.false)
       (builds-branch _ _ (word_stands d _ c.before.before.before.before.before.is-word2.ensures c.before.before.before.before.if2.true) (ends-keeps (val-ends _ _ _))
       (builds-from c.before.before.val.ensures.kept (omega arith) (omega (arith, l)) (omega (arith, l)) c.before.before.val.ensures))
 
@@ -96,11 +96,11 @@ module _ (t : ℕ) where
   same-length-3 c = c.before.before.quant.ensures.kept.length-kept
 
   returns-3 : Of lts.Need-returns-3
-  unfolding parsePrimaryExpr
+  unfolding parse_primary_expr
   returns-3 c =
       let d = c.before.before.before.before.before.before.before.before.before.before.before.before.before.before.before.requires.1.1 in
       let l = word-long d _ c.before.before.before.before.before.is-word3.ensures c.before.before.before.before.if3.true in
-      builds-skip _ _ (word-absent d _ c.before.before.before.before.before.before.before.before.before.before.before.is_IsWord.ensures c.before.before.before.before.before.before.before.before.before.before.if1.false)
+      builds-skip _ _ (word-absent d _ c.before.before.before.before.before.before.before.before.before.before.before.is_is_word.ensures c.before.before.before.before.before.before.before.before.before.before.if1.false)
       (builds-skip _ _ (word-absent d _ c.before.before.before.before.before.before.before.before.is-word2.ensures c.before.before.before.before.before.before.before.if2.false)
       (builds-branch _ _ (word_stands d _ c.before.before.before.before.before.is-word3.ensures c.before.before.before.before.if3.true) (ends-keeps (quantifier-ends _ _ _ _ _))
       (builds-from c.before.before.quant.ensures.kept (omega arith) (omega (arith, l)) (omega (arith, l)) c.before.before.quant.ensures)))
@@ -118,11 +118,11 @@ module _ (t : ℕ) where
   same-length-4 c = c.before.before.quant2.ensures.kept.length-kept
 
   returns-4 : Of lts.Need-returns-4
-  unfolding parsePrimaryExpr
+  unfolding parse_primary_expr
   returns-4 c =
       let d = c.before.before.before.before.before.before.before.before.before.before.before.before.before.before.before.before.before.before.requires.1.1 in
       let l = word-long d _ c.before.before.before.before.before.is-word4.ensures c.before.before.before.before.if4.true in
-      builds-skip _ _ (word-absent d _ c.before.before.before.before.before.before.before.before.before.before.before.before.before.before.is_IsWord.ensures c.before.before.before.before.before.before.before.before.before.before.before.before.before.if1.false)
+      builds-skip _ _ (word-absent d _ c.before.before.before.before.before.before.before.before.before.before.before.before.before.before.is_is_word.ensures c.before.before.before.before.before.before.before.before.before.before.before.before.before.if1.false)
       (builds-skip _ _ (word-absent d _ c.before.before.before.before.before.before.before.before.before.before.before.is-word2.ensures c.before.before.before.before.before.before.before.before.before.before.if2.false)
       (builds-skip _ _ (word-absent d _ c.before.before.before.before.before.before.before.before.is-word3.ensures c.before.before.before.before.before.before.before.if3.false)
       (builds-branch _ _ (word_stands d _ c.before.before.before.before.before.is-word4.ensures c.before.before.before.before.if4.true) (ends-keeps (quantifier-ends _ _ _ _ _))
@@ -141,11 +141,11 @@ module _ (t : ℕ) where
   same-length-5 c = c.before.before.lift.ensures.kept.length-kept
 
   returns-5 : Of lts.Need-returns-5
-  unfolding parsePrimaryExpr
+  unfolding parse_primary_expr
   returns-5 c =
       let d = c.before.before.before.before.before.before.before.before.before.before.before.before.before.before.before.before.before.before.before.before.before.requires.1.1 in
       let l = word-long d _ c.before.before.before.before.before.is-word5.ensures c.before.before.before.before.if5.true in
-      builds-skip _ _ (word-absent d _ c.before.before.before.before.before.before.before.before.before.before.before.before.before.before.before.before.before.is_IsWord.ensures c.before.before.before.before.before.before.before.before.before.before.before.before.before.before.before.before.if1.false)
+      builds-skip _ _ (word-absent d _ c.before.before.before.before.before.before.before.before.before.before.before.before.before.before.before.before.before.is_is_word.ensures c.before.before.before.before.before.before.before.before.before.before.before.before.before.before.before.before.if1.false)
       (builds-skip _ _ (word-absent d _ c.before.before.before.before.before.before.before.before.before.before.before.before.before.before.is-word2.ensures c.before.before.before.before.before.before.before.before.before.before.before.before.before.if2.false)
       (builds-skip _ _ (word-absent d _ c.before.before.before.before.before.before.before.before.before.before.before.is-word3.ensures c.before.before.before.before.before.before.before.before.before.before.if3.false)
       (builds-skip _ _ (word-absent d _ c.before.before.before.before.before.before.before.before.is-word4.ensures c.before.before.before.before.before.before.before.if4.false)
@@ -159,10 +159,10 @@ module _ (t : ℕ) where
   same-length-6 c = c.before.before.before.constant.ensures.kept.length-kept
 
   returns-6 : Of lts.Need-returns-6
-  unfolding parsePrimaryExpr
+  unfolding parse_primary_expr
   returns-6 c =
       let d = c.before.before.before.before.before.before.before.before.before.before.before.before.before.before.before.before.before.before.before.before.before.before.requires.1.1 in
-      builds-skip _ _ (word-absent d _ c.before.before.before.before.before.before.before.before.before.before.before.before.before.before.before.before.before.before.is_IsWord.ensures c.before.before.before.before.before.before.before.before.before.before.before.before.before.before.before.before.before.if1.false)
+      builds-skip _ _ (word-absent d _ c.before.before.before.before.before.before.before.before.before.before.before.before.before.before.before.before.before.before.is_is_word.ensures c.before.before.before.before.before.before.before.before.before.before.before.before.before.before.before.before.before.if1.false)
       (builds-skip _ _ (word-absent d _ c.before.before.before.before.before.before.before.before.before.before.before.before.before.before.before.is-word2.ensures c.before.before.before.before.before.before.before.before.before.before.before.before.before.before.if2.false)
       (builds-skip _ _ (word-absent d _ c.before.before.before.before.before.before.before.before.before.before.before.before.is-word3.ensures c.before.before.before.before.before.before.before.before.before.before.before.if3.false)
       (builds-skip _ _ (word-absent d _ c.before.before.before.before.before.before.before.before.before.is-word4.ensures c.before.before.before.before.before.before.before.before.if4.false)
@@ -208,11 +208,11 @@ module _ (t : ℕ) where
   same-length-7 c = c.before.before.call.ensures.kept.length-kept ∙ c.before.before.before.before.before.before.before.before.before.before.before.before.before.constant.ensures.kept.length-kept
 
   returns-7 : Of lts.Need-returns-7
-  unfolding parsePrimaryExpr afterName
+  unfolding parse_primary_expr after_name
   returns-7 c =
       let d = c.before.before.before.before.before.before.before.before.before.before.before.before.before.before.before.before.before.before.before.before.before.before.before.before.before.before.before.before.before.before.before.before.requires.1.1 in
       let k = took c.before.before.before.before.before.next.given.1 c.before.before.before.before.before.before.before.sym.ensures in
-      builds-skip _ _ (word-absent d _ c.before.before.before.before.before.before.before.before.before.before.before.before.before.before.before.before.before.before.before.before.before.before.before.before.before.before.before.before.is_IsWord.ensures
+      builds-skip _ _ (word-absent d _ c.before.before.before.before.before.before.before.before.before.before.before.before.before.before.before.before.before.before.before.before.before.before.before.before.before.before.before.before.is_is_word.ensures
       c.before.before.before.before.before.before.before.before.before.before.before.before.before.before.before.before.before.before.before.before.before.before.before.before.before.before.before.if1.false)
       (builds-skip _ _ (word-absent d _ c.before.before.before.before.before.before.before.before.before.before.before.before.before.before.before.before.before.before.before.before.before.before.before.before.before.is-word2.ensures
       c.before.before.before.before.before.before.before.before.before.before.before.before.before.before.before.before.before.before.before.before.before.before.before.before.if2.false)
@@ -229,10 +229,10 @@ module _ (t : ℕ) where
   same-length-8 c = c.before.before.label.ensures.kept.length-kept ∙ c.before.before.before.before.before.before.before.before.before.before.before.before.constant.ensures.kept.length-kept
 
   returns-8 : Of lts.Need-returns-8
-  unfolding parsePrimaryExpr afterName
+  unfolding parse_primary_expr after_name
   returns-8 c =
       let d = c.before.before.before.before.before.before.before.before.before.before.before.before.before.before.before.before.before.before.before.before.before.before.before.before.before.before.before.before.before.before.before.requires.1.1 in
-      builds-skip _ _ (word-absent d _ c.before.before.before.before.before.before.before.before.before.before.before.before.before.before.before.before.before.before.before.before.before.before.before.before.before.before.before.is_IsWord.ensures
+      builds-skip _ _ (word-absent d _ c.before.before.before.before.before.before.before.before.before.before.before.before.before.before.before.before.before.before.before.before.before.before.before.before.before.before.before.is_is_word.ensures
       c.before.before.before.before.before.before.before.before.before.before.before.before.before.before.before.before.before.before.before.before.before.before.before.before.before.before.if1.false)
       (builds-skip _ _ (word-absent d _ c.before.before.before.before.before.before.before.before.before.before.before.before.before.before.before.before.before.before.before.before.before.before.before.before.is-word2.ensures
       c.before.before.before.before.before.before.before.before.before.before.before.before.before.before.before.before.before.before.before.before.before.before.before.if2.false)
@@ -249,10 +249,10 @@ module _ (t : ℕ) where
   same-length-9 c = c.before.before.before.before.before.before.before.before.before.constant.ensures.kept.length-kept
 
   returns-9 : Of lts.Need-returns-9
-  unfolding parsePrimaryExpr afterName
+  unfolding parse_primary_expr after_name
   returns-9 c =
       let d = c.before.before.before.before.before.before.before.before.before.before.before.before.before.before.before.before.before.before.before.before.before.before.before.before.before.before.before.before.requires.1.1 in
-      builds-skip _ _ (word-absent d _ c.before.before.before.before.before.before.before.before.before.before.before.before.before.before.before.before.before.before.before.before.before.before.before.before.is_IsWord.ensures
+      builds-skip _ _ (word-absent d _ c.before.before.before.before.before.before.before.before.before.before.before.before.before.before.before.before.before.before.before.before.before.before.before.before.is_is_word.ensures
       c.before.before.before.before.before.before.before.before.before.before.before.before.before.before.before.before.before.before.before.before.before.before.before.if1.false)
       (builds-skip _ _ (word-absent d _ c.before.before.before.before.before.before.before.before.before.before.before.before.before.before.before.before.before.before.before.before.before.is-word2.ensures
       c.before.before.before.before.before.before.before.before.before.before.before.before.before.before.before.before.before.before.before.before.if2.false)

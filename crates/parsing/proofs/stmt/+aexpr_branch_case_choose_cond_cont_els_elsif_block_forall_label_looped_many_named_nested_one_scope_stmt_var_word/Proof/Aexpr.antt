@@ -4,7 +4,7 @@ use native.Mathlib.Omega.{arith}
 use mathlib.Core.Path.{refl}
 use borrow.Author.Rules.{rules}
 use borrow.Fn.Kinds.{In, Out}
-use Rattle.tree.specs.Ast.{Span, AExpr, aExpr}
+use Rattle.tree.specs.Ast.{Span, AExpr, a_expr}
 use Rattle.parsing.proofs.Laws.{took}
 use Rattle.parsing.proofs.Reached.{Reached, begin, token, room_for, length-here, length-after, untaken, headed}
 use Rattle.parsing.proofs.Mapping.{builds-mapped}
@@ -63,7 +63,7 @@ module _ (t : ℕ) where
   same-length-2 c = length-after (at-expr c.before.before.before.before) c.before.before.stated.ensures.kept
 
   returns-3 : Of lts.Need-returns-3
-  returns-3 c = leaves-as (at-expr c.before.before.before.before) refl (builds-mapped aExpr (λ _. refl) c.before.before.stated.ensures) refl refl
+  returns-3 c = leaves-as (at-expr c.before.before.before.before) refl (builds-mapped a_expr (λ _. refl) c.before.before.stated.ensures) refl refl
 
   same-length-3 : Of lts.Need-same-length-3
   same-length-3 c = length-after (at-word c.before.before.before.before.before.before.before.before) c.before.before.before.before.before.block.ensures.kept

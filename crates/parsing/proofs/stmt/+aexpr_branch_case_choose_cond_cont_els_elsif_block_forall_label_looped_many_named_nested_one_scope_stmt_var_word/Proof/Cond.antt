@@ -5,7 +5,7 @@ use mathlib.Core.Path.{refl}
 use borrow.Author.Rules.{rules}
 use borrow.Fn.Kinds.{In, Out}
 use Rattle.tree.specs.Ast.{Span, Stmt}
-use Rattle.parsing.specs.Statements.{condStmt}
+use Rattle.parsing.specs.Statements.{cond_stmt}
 use Rattle.parsing.proofs.Reached.{Reached, begin, built, paired, room_for, length-here, length-after, needed, failed, done, headed}
 use Rattle.parsing.proofs.Spared.{left}
 use Rattle.parsing.proofs as fn
@@ -22,7 +22,7 @@ module _ (t : ℕ) where
   Of N = N claims ((ranks.cond).at t) Post
 
   abbrev at-start : Of lts.Start → Reached (Stmt Span)
-  at-start c = begin {answer = condStmt c.args.text.now c.args.depth c.args.at} c.args.depth 2 refl c.requires.0 c.requires.1
+  at-start c = begin {answer = cond_stmt c.args.text.now c.args.depth c.args.at} c.args.depth 2 refl c.requires.0 c.requires.1
 
   abbrev at-guard : Of lts.After-guard → Reached (Stmt Span)
   at-guard c = built (at-start c.before.before.before.before.before.before.before.before) _ _ refl c.guard.given.1 c.before.before.before.before.expr.ensures refl

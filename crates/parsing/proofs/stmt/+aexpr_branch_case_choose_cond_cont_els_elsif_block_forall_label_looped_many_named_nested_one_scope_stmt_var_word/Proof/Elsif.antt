@@ -22,7 +22,7 @@ module _ (t : ℕ) where
   too-deep-requires c κs = c.before.before.before.requires.1.inside
 
   returns : Of lts.Need-returns
-  returns c = deep-builds (λ d. (opened c.before.before.before.before.args.text.now d).ifCont c.before.before.before.before.args.at) c.too-deep.result c.before.if1.true (cont-deep _ _ c.too-deep.result c.too-deep.ensures)
+  returns c = deep-builds (λ d. (opened c.before.before.before.before.args.text.now d).if_cont c.before.before.before.before.args.at) c.too-deep.result c.before.if1.true (cont-deep _ _ c.too-deep.result c.too-deep.ensures)
 
   sub-cont : Of lts.Need-overflow-sub-cont
   sub-cont c = omega (arith, c.before.if1.false)

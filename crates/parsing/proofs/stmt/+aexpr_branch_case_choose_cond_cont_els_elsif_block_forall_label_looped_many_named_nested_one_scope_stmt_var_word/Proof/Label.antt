@@ -5,7 +5,7 @@ use mathlib.Core.Path.{refl}
 use borrow.Author.Rules.{rules}
 use borrow.Fn.Kinds.{In, Out}
 use Rattle.tree.specs.Ast.{Span, Stmt}
-use Rattle.parsing.specs.Statements.{labelStmt}
+use Rattle.parsing.specs.Statements.{label_stmt}
 use Rattle.parsing.specs.Arena.{Holds}
 use Rattle.parsing.proofs.Laws.{took}
 use Rattle.parsing.proofs.Reached.{Reached, begin, token, noted, paired, room_for, length-here, length-after, untaken, needed, done}
@@ -25,7 +25,7 @@ module _ (t : ℕ) where
   Of N = N claims ((ranks.label).at t) Post
 
   abbrev at-start : Of lts.Start → Reached (Stmt Span)
-  at-start c = begin {answer = labelStmt c.args.text.now c.args.depth c.args.w} c.args.depth 2 refl c.requires.0 c.requires.1.0
+  at-start c = begin {answer = label_stmt c.args.text.now c.args.depth c.args.w} c.args.depth 2 refl c.requires.0 c.requires.1.0
 
   abbrev at-colon : Of lts.After-colon → Reached (Stmt Span)
   at-colon c = token (at-start c.before.before.before.before.before.before) _ _ refl (took c.colon.given.1 c.before.before.sym.ensures)

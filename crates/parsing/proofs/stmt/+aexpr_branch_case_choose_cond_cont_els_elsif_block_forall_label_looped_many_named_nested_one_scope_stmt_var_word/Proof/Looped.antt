@@ -5,7 +5,7 @@ use mathlib.Core.Path.{refl}
 use borrow.Author.Rules.{rules}
 use borrow.Fn.Kinds.{In, Out}
 use Rattle.tree.specs.Ast.{Span, Stmt}
-use Rattle.parsing.specs.Leads.{loopBody}
+use Rattle.parsing.specs.Leads.{loop_body}
 use Rattle.parsing.proofs.Reached.{Reached, begin, built, paired, room_for, length-here, length-after, needed, headed, refuses, done}
 use Rattle.parsing.proofs.Mapping.{must-need}
 use Rattle.parsing.proofs.Spared.{left, resaid}
@@ -35,7 +35,7 @@ module _ (t : ℕ) where
   Of N = N claims ((ranks.looped).at t) Post
 
   abbrev at-start : Of lts.Start → Reached (Stmt Span)
-  at-start c = begin {answer = loopBody c.args.text.now c.args.depth c.args.start c.args.at} c.args.depth 0 refl c.requires.0 c.requires.1
+  at-start c = begin {answer = loop_body c.args.text.now c.args.depth c.args.start c.args.at} c.args.depth 0 refl c.requires.0 c.requires.1
 
   abbrev at_open : Of lts.Else1 → Reached (Stmt Span)
   at_open c = resaid (at-start c.before.before.before) _ (loop-opens _ _ _ _ c.if1.false)

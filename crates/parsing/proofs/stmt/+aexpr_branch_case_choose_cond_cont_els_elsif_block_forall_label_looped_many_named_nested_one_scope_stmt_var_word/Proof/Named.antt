@@ -5,7 +5,7 @@ use mathlib.Core.Path.{refl}
 use borrow.Author.Rules.{rules}
 use borrow.Fn.Kinds.{In, Out}
 use Rattle.tree.specs.Ast.{Span, Stmt}
-use Rattle.parsing.specs.Statements.{namedStmt}
+use Rattle.parsing.specs.Statements.{named_stmt}
 use Rattle.parsing.proofs.Branches.{builds-first}
 use Rattle.parsing.proofs.Reached.{Reached, begin, room_for, length-after}
 use Rattle.parsing.proofs.Spared.{passed, ends_as}
@@ -23,7 +23,7 @@ module _ (t : ℕ) where
   Of N = N claims ((ranks.named).at t) Post
 
   abbrev at-start : Of lts.Start → Reached (Stmt Span)
-  at-start c = begin {answer = namedStmt c.args.text.now c.args.depth c.args.w} c.args.depth 3 refl c.requires.0 c.requires.1.0
+  at-start c = begin {answer = named_stmt c.args.text.now c.args.depth c.args.w} c.args.depth 3 refl c.requires.0 c.requires.1.0
 
   abbrev at_label : Of lts.After-enum-told → Reached (Stmt Span)
   at_label c = passed (at-start c.before.before.before.before.before.before.before.before) _ _ refl c.enum_told.given.1 c.before.before.before.before.assign.ensures

@@ -8,7 +8,7 @@ use Rattle.parsing.proofs as fn
 use fn.stmt.+aexpr_branch_case_choose_cond_cont_els_elsif_block_forall_label_looped_many_named_nested_one_scope_stmt_var_word as cycle
 use cycle.Lts-one as lts
 use cycle.Proof.Ranks as ranks
-use cycle.Proof.Ranks.{oneRank}
+use cycle.Proof.Ranks.{one_rank}
 use fn.stmt.one.Reads.{Post}
 
 module _ (t : ℕ) where
@@ -19,25 +19,25 @@ module _ (t : ℕ) where
   Of N = N claims ((ranks.one).at t) Post
 
   stmt-requires : Of lts.Need-stmt-requires
-  stmt-requires c κs = (omega (arith, c.before.before.before.before.before.requires.0, ap oneRank c.before.enum_told.given.1), c.before.before.before.before.before.requires.1)
+  stmt-requires c κs = (omega (arith, c.before.before.before.before.before.requires.0, ap one_rank c.before.enum_told.given.1), c.before.before.before.before.before.requires.1)
 
   nested-requires : Of lts.Need-nested-requires
-  nested-requires c κs = (omega (arith, c.before.before.before.before.before.requires.0, ap oneRank c.before.enum-told2.given.1), c.before.before.before.before.before.requires.1)
+  nested-requires c κs = (omega (arith, c.before.before.before.before.before.requires.0, ap one_rank c.before.enum-told2.given.1), c.before.before.before.before.before.requires.1)
 
   branch-requires : Of lts.Need-branch-requires
-  branch-requires c κs = (omega (arith, c.before.before.before.before.before.requires.0, ap oneRank c.before.enum-told3.given.1), c.before.before.before.before.before.requires.1)
+  branch-requires c κs = (omega (arith, c.before.before.before.before.before.requires.0, ap one_rank c.before.enum-told3.given.1), c.before.before.before.before.before.requires.1)
 
   case-requires : Of lts.Need-case-requires
-  case-requires c κs = (omega (arith, c.before.before.before.before.before.requires.0, ap oneRank c.before.enum-told4.given.1), c.before.before.before.before.before.requires.1)
+  case-requires c κs = (omega (arith, c.before.before.before.before.before.requires.0, ap one_rank c.before.enum-told4.given.1), c.before.before.before.before.before.requires.1)
 
   aexpr-requires : Of lts.Need-aexpr-requires
-  aexpr-requires c κs = (omega (arith, c.before.before.before.before.before.before.requires.0, ap oneRank c.before.before.enum-told5.given.1), (c.before.before.before.before.before.before.requires.1, omega arith))
+  aexpr-requires c κs = (omega (arith, c.before.before.before.before.before.before.requires.0, ap one_rank c.before.before.enum-told5.given.1), (c.before.before.before.before.before.before.requires.1, omega arith))
 
   aexpr-requires-2 : Of lts.Need-aexpr-requires-2
-  aexpr-requires-2 c κs = (omega (arith, c.before.before.before.before.before.before.requires.0, ap oneRank c.before.before.enum-told6.given.1), (c.before.before.before.before.before.before.requires.1, omega arith))
+  aexpr-requires-2 c κs = (omega (arith, c.before.before.before.before.before.before.requires.0, ap one_rank c.before.before.enum-told6.given.1), (c.before.before.before.before.before.before.requires.1, omega arith))
 
   aexpr-requires-3 : Of lts.Need-aexpr-requires-3
-  aexpr-requires-3 c κs = (omega (arith, c.before.before.before.before.before.before.requires.0, ap oneRank c.before.before.enum-told7.given.1), (c.before.before.before.before.before.before.requires.1, omega arith))
+  aexpr-requires-3 c κs = (omega (arith, c.before.before.before.before.before.before.requires.0, ap one_rank c.before.before.enum-told7.given.1), (c.before.before.before.before.before.before.requires.1, omega arith))
 
   when-requires : Of lts.Need-when-requires
   when-requires c κs = c.before.before.before.before.before.requires.1

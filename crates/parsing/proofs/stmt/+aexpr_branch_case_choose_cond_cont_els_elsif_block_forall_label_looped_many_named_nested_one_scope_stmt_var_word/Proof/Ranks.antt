@@ -7,15 +7,15 @@ use Rattle.parsing.specs.declared.stmt.Repeated.TheVariants.{Stmts, Nested, Bran
 use Rattle.parsing.proofs.stmt as fn
 
 -- one item of a repetition
-abbrev pub oneRank : Repeated → ℕ
-oneRank Stmts = 7
-oneRank Nested = 1
-oneRank Branches = 2
-oneRank Cases = 2
-oneRank Requires = 2
-oneRank Ensures = 2
-oneRank Invariants = 2
-oneRank Whens = 0
+abbrev pub one_rank : Repeated → ℕ
+one_rank Stmts = 7
+one_rank Nested = 1
+one_rank Branches = 2
+one_rank Cases = 2
+one_rank Requires = 2
+one_rank Ensures = 2
+one_rank Invariants = 2
+one_rank Whens = 0
 
 abbrev pub aexpr : Rank 3 fn.aexpr.Kinds.ps
 aexpr = rank 3 fn.aexpr.Kinds.ps fn.aexpr.Reads.Pre (λ κs a. 40 * a.1.1.1.1.0 + 1)
@@ -54,7 +54,7 @@ abbrev pub looped : Rank 2 fn.looped.Kinds.ps
 looped = rank 2 fn.looped.Kinds.ps fn.looped.Reads.Pre (λ κs a. 40 * a.1.1.1.1.0 + 0)
 
 abbrev pub many : Rank 2 fn.many.Kinds.ps
-many = rank 2 fn.many.Kinds.ps fn.many.Reads.Pre (λ κs a. 40 * a.1.1.1.1.0 + (oneRank a.1.1.1.1.1.0 + 1))
+many = rank 2 fn.many.Kinds.ps fn.many.Reads.Pre (λ κs a. 40 * a.1.1.1.1.0 + (one_rank a.1.1.1.1.1.0 + 1))
 
 abbrev pub named : Rank 2 fn.named.Kinds.ps
 named = rank 2 fn.named.Kinds.ps fn.named.Reads.Pre (λ κs a. 40 * a.1.1.1.1.0 + 3)
@@ -63,7 +63,7 @@ abbrev pub nested : Rank 2 fn.nested.Kinds.ps
 nested = rank 2 fn.nested.Kinds.ps fn.nested.Reads.Pre (λ κs a. 40 * a.1.1.1.1.0 + 0)
 
 abbrev pub one : Rank 2 fn.one.Kinds.ps
-one = rank 2 fn.one.Kinds.ps fn.one.Reads.Pre (λ κs a. 40 * a.1.1.1.1.0 + oneRank a.1.1.1.1.1.0)
+one = rank 2 fn.one.Kinds.ps fn.one.Reads.Pre (λ κs a. 40 * a.1.1.1.1.0 + one_rank a.1.1.1.1.1.0)
 
 abbrev pub scope : Rank 2 fn.scope.Kinds.ps
 scope = rank 2 fn.scope.Kinds.ps fn.scope.Reads.Pre (λ κs a. 40 * a.1.1.1.1.0 + 1)

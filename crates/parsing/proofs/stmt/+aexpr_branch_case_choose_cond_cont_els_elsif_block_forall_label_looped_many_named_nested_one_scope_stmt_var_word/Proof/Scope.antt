@@ -5,7 +5,7 @@ use mathlib.Core.Path.{refl}
 use borrow.Author.Rules.{rules}
 use borrow.Fn.Kinds.{In, Out}
 use Rattle.tree.specs.Ast.{Span, Stmt}
-use Rattle.parsing.specs.Statements.{scopeStmt}
+use Rattle.parsing.specs.Statements.{scope_stmt}
 use Rattle.parsing.proofs.Laws.{took}
 use Rattle.parsing.proofs.Branches.{builds-first}
 use Rattle.parsing.proofs.Reached.{Reached, begin, token, room_for, length-here, length-after, untaken}
@@ -34,7 +34,7 @@ module _ (t : ℕ) where
   Of N = N claims ((ranks.scope).at t) Post
 
   abbrev at-start : Of lts.Start → Reached (Stmt Span)
-  at-start c = begin {answer = scopeStmt c.args.text.now c.args.depth c.args.at} c.args.depth 1 refl c.requires.0 c.requires.1
+  at-start c = begin {answer = scope_stmt c.args.text.now c.args.depth c.args.at} c.args.depth 1 refl c.requires.0 c.requires.1
 
   abbrev at-loop : Of lts.After-enum-told → Reached (Stmt Span)
   at-loop c = resaid (passed (at-start c.before.before.before.before.before.before.before.before) _ _ refl c.enum_told.given.1 c.before.before.before.before.block.ensures) _ (loop_rule _ _ _)

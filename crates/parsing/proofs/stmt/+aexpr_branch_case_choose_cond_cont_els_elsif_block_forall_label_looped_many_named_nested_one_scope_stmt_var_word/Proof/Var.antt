@@ -5,7 +5,7 @@ use mathlib.Core.Path.{refl}
 use borrow.Author.Rules.{rules}
 use borrow.Fn.Kinds.{In, Out}
 use Rattle.tree.specs.Ast.{Span, Stmt}
-use Rattle.parsing.specs.Code.{boolOf}
+use Rattle.parsing.specs.Code.{bool_of}
 use Rattle.parsing.proofs.Reached.{Reached, begin, built, paired, headed, room_for, length-here, length-after, needed, done}
 use Rattle.parsing.proofs.StatementEquations.{var-rule}
 use Rattle.parsing.proofs as fn
@@ -33,7 +33,7 @@ module _ (t : ℕ) where
   Of N = N claims ((ranks.var).at t) Post
 
   abbrev at-start : Of lts.Start → Reached (Stmt Span)
-  at-start c = begin c.args.depth 3 (var-rule c.args.text.now c.args.depth (boolOf c.args.mutable) c.args.at) c.requires.0 c.requires.1.0
+  at-start c = begin c.args.depth 3 (var-rule c.args.text.now c.args.depth (bool_of c.args.mutable) c.args.at) c.requires.0 c.requires.1.0
 
   abbrev at_head : Of lts.After-head → Reached (Stmt Span)
   at_head c = built (at-start c.before.before.before.before.before.before.before.before) _ _ refl c.head.given.1 c.before.before.before.before.declared.ensures refl

@@ -6,9 +6,9 @@ use borrow.Fn.Kinds.{In, Out}
 use mathlib.Core.Path.{refl}
 use Rattle.layout.specs.declared.power.Side.TheVariants.{Left, Right}
 use Rattle.layout.specs.declared.format.ExprFormatOption.TheVariants.{SingleLine}
-use Rattle.rendering.specs.ExprParts.{aBinary}
+use Rattle.rendering.specs.ExprParts.{a_binary}
 use Rattle.rendering.proofs as fn
-use fn.ExprPrints.Equations.{binary-print, sign, rightFormat}
+use fn.ExprPrints.Equations.{binary-print, sign, right_format}
 use fn.Places.{ahead, passed, seen, text_of, ready, done}
 use fn.ExprPrints.Reached.{Reached, begin, sooner, expression}
 use fn.ExprPrints.Contexts.{operand-context, right-format, sign-wrote, right-indent}
@@ -38,7 +38,7 @@ module _ (t : ℕ) where
   abbrev at-start : Of lts.Start → Reached
   at-start c =
       seen
-      (begin c.args.text.now c.args.counts.now c.args.step c.args.context c.args.format (aBinary c.args.text.now c.args.words.now c.args.counts.now c.args.step c.args.at c.args.context c.args.format)
+      (begin c.args.text.now c.args.counts.now c.args.step c.args.context c.args.format (a_binary c.args.text.now c.args.words.now c.args.counts.now c.args.step c.args.at c.args.context c.args.format)
       c.args.words.now c.args.at c.args.out.now c.args.pos 0 c.requires.1 c.requires.0)
       _ (λ x. binary-print c.args.text.now c.args.step x.tree.0 x.tree.1 x.tree.2 c.args.context c.args.format)
 
@@ -54,7 +54,7 @@ module _ (t : ℕ) where
 
   abbrev at_sign : Of lts.After-put-sign → Reached
   at_sign c =
-      text_of (at_left c.before.before.before.before.before) (λ x. sign x.tree.0 (rightFormat x.tree.0 (at_left c.before.before.before.before.before).origin.known.format)) _
+      text_of (at_left c.before.before.before.before.before) (λ x. sign x.tree.0 (right_format x.tree.0 (at_left c.before.before.before.before.before).origin.known.format)) _
       (λ x. sign-wrote (at_left c.before.before.before.before.before).origin x x.tree.0 refl c.before.before.format-after.ensures c.put-sign.ensures) (λ x. refl)
 
   abbrev at_second : Of lts.After-after → Reached

@@ -6,7 +6,7 @@ use borrow.Fn.Kinds.{In, Out}
 use mathlib.Core.Path.{refl}
 use Rattle.layout.specs.declared.format.ExprFormatOption.TheVariants.{SingleLine}
 use Rattle.layout.specs.PrintUtil.{Init}
-use Rattle.rendering.specs.ExprParts.{aCall}
+use Rattle.rendering.specs.ExprParts.{a_call}
 use Rattle.rendering.proofs as fn
 use fn.ExprPrints.Equations.{call-print}
 use fn.Places.{ahead, seen, text, part, ready, done}
@@ -33,7 +33,7 @@ module _ (t : ℕ) where
   abbrev at-start : Of lts.Start → Reached
   at-start c =
       seen
-      (begin c.args.text.now c.args.counts.now c.args.step Init SingleLine (aCall c.args.text.now c.args.words.now c.args.counts.now c.args.step c.args.at)
+      (begin c.args.text.now c.args.counts.now c.args.step Init SingleLine (a_call c.args.text.now c.args.words.now c.args.counts.now c.args.step c.args.at)
       c.args.words.now c.args.at c.args.out.now c.args.pos 0 c.requires.1 c.requires.0)
       _ (λ x. call-print c.args.text.now c.args.step x.tree.0 x.tree.1 Init SingleLine)
 

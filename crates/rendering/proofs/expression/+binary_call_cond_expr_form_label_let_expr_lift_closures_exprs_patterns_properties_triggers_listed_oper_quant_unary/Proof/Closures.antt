@@ -10,7 +10,7 @@ use Rattle.lexing.specs.Bytes.{bytes}
 use Rattle.layout.specs.declared.format.ExprFormatOption.TheVariants.{SingleLine}
 use Rattle.layout.specs.PrintUtil.{Init}
 use Rattle.layout.specs.Text.{unless}
-use Rattle.rendering.specs.ExprParts.{closureList}
+use Rattle.rendering.specs.ExprParts.{closure_list}
 use Rattle.rendering.specs.Parts.{Prints}
 use Rattle.rendering.specs.declared.parts.Advance.{Advance}
 use Rattle.tree.proofs.get.Reads as get
@@ -19,7 +19,7 @@ use fn.PartPrints.Joins.{inside}
 use fn.ExprPrints.Equations.{closures-print}
 use fn.Places.{item, seen, part, ready, done}
 use fn.ExprPrints.Reached.{Reached, begin, sooner, expression}
-use fn.ExprPrints.SequencePrints.{someClosures, some-closures}
+use fn.ExprPrints.SequencePrints.{some_closures, some-closures}
 use fn.Sequences.{at_none, at_some}
 use fn.expression.+binary_call_cond_expr_form_label_let_expr_lift_closures_exprs_patterns_properties_triggers_listed_oper_quant_unary as cycle
 use cycle.Lts-list-closures as lts
@@ -47,7 +47,7 @@ module _ (t : ℕ) where
   abbrev at-start : (c : Of lts.Start) → c.args.at < length c.args.words.now → Reached
   at-start c h =
       seen
-      (begin c.args.text.now c.args.counts.now c.args.step Init SingleLine (someClosures c.args.text.now c.args.words.now c.args.counts.now c.args.step c.args.at c.args.first)
+      (begin c.args.text.now c.args.counts.now c.args.step Init SingleLine (some_closures c.args.text.now c.args.words.now c.args.counts.now c.args.step c.args.at c.args.first)
       c.args.words.now c.args.at c.args.out.now c.args.pos 0 h c.requires.0)
       _ (λ x. closures-print c.args.text.now c.args.step (unless c.args.first (bytes ", ")) x.tree.0 x.tree.1 x.tree.2 x.tree.3)
 
@@ -83,8 +83,8 @@ module _ (t : ℕ) where
 
   -- the print of an item and the others is that of the sequence
   with_item : (c : Of lts.Start) {g : ℕ} {b : List ℕ} {s : Advance} → g ≡ get_or c.args.words.now c.args.at 0 → (g ≡ 0 → ⊥)
-      → Prints (someClosures c.args.text.now c.args.words.now c.args.counts.now c.args.step c.args.at c.args.first) c.args.words.now c.args.at c.args.out.now c.args.pos b s
-      → Prints (closureList c.args.text.now c.args.words.now c.args.counts.now c.args.step c.args.at c.args.first) c.args.words.now c.args.at c.args.out.now c.args.pos b s
+      → Prints (some_closures c.args.text.now c.args.words.now c.args.counts.now c.args.step c.args.at c.args.first) c.args.words.now c.args.at c.args.out.now c.args.pos b s
+      → Prints (closure_list c.args.text.now c.args.words.now c.args.counts.now c.args.step c.args.at c.args.first) c.args.words.now c.args.at c.args.out.now c.args.pos b s
   with_item c e z p = at_some _ _ (some-closures c.args.text.now c.args.words.now c.args.counts.now c.args.step c.args.at c.args.first) e z p
 
   returns-2 : Of lts.Need-returns-2

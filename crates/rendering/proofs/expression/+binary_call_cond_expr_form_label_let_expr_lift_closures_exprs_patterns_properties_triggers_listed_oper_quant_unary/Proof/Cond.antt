@@ -9,10 +9,10 @@ use Rattle.lexing.specs.Bytes.{bytes}
 use Rattle.layout.specs.declared.power.Side.TheVariants.{Right}
 use Rattle.layout.specs.declared.format.ExprFormatOption.TheVariants.{SingleLine}
 use Rattle.layout.specs.PrintUtil.{Space}
-use Rattle.rendering.specs.ExprParts.{aConditional}
+use Rattle.rendering.specs.ExprParts.{a_conditional}
 use Rattle.layout.proofs as layout
 use Rattle.rendering.proofs as fn
-use fn.ExprPrints.Equations.{branches, elseSpace, elseFormat, conditional-print}
+use fn.ExprPrints.Equations.{branches, else_space, else_format, conditional-print}
 use fn.Places.{Begun, ahead, passed, seen, text_of, text, ready, ready-deeper, done}
 use fn.ExprPrints.Reached.{Reached, begin, sooner, one_deeper, ready-more, formatted, expression}
 use fn.ExprPrints.Contexts.{operand-context, else-format-is, else-wrote, else-indent}
@@ -48,7 +48,7 @@ module _ (t : ℕ) where
   abbrev at-start : Of lts.Start → Reached
   at-start c =
       seen
-      (begin c.args.text.now c.args.counts.now c.args.step c.args.context c.args.format (aConditional c.args.text.now c.args.words.now c.args.counts.now c.args.step c.args.at c.args.context c.args.format)
+      (begin c.args.text.now c.args.counts.now c.args.step c.args.context c.args.format (a_conditional c.args.text.now c.args.words.now c.args.counts.now c.args.step c.args.at c.args.context c.args.format)
       c.args.words.now c.args.at c.args.out.now c.args.pos 0 c.requires.1 c.requires.0)
       _ (λ x. conditional-print c.args.text.now c.args.step x.tree.0 x.tree.1 x.tree.2 x.tree.3 c.args.context c.args.format)
 
@@ -85,13 +85,13 @@ module _ (t : ℕ) where
   at-else c =
       text_of (at-third c.before.before)
       (λ x r. Space (at-third c.before.before).origin.known.format ++
-      (bytes "else" ++ (elseSpace (at-third c.before.before).origin.known.text (at-third c.before.before).origin.known.step x.tree.3 (at-third c.before.before).origin.known.format ++ r))) _
+      (bytes "else" ++ (else_space (at-third c.before.before).origin.known.text (at-third c.before.before).origin.known.step x.tree.3 (at-third c.before.before).origin.known.format ++ r))) _
       (λ x. else-wrote (at-third c.before.before).origin (at-third c.before.before).origin.known.format x.given.0 x.tree.3
       (c.else-head.ensures.else-head x.tree.3 _ ((at-third c.before.before).left x))) (λ x. refl)
 
   -- the format after `else`
   is-format : (c : Of lts.After-else-format) (x : Begun (at-third c.before.before.before.before.before.before).origin)
-      → c.else-format.result ≡ elseFormat (at-third c.before.before.before.before.before.before).origin.known.text (at-third c.before.before.before.before.before.before).origin.known.step x.tree.3
+      → c.else-format.result ≡ else_format (at-third c.before.before.before.before.before.before).origin.known.text (at-third c.before.before.before.before.before.before).origin.known.step x.tree.3
       (at-third c.before.before.before.before.before.before).origin.known.format
   is-format c x = else-format-is (at-third c.before.before.before.before.before.before).origin (at-third c.before.before.before.before.before.before).origin.known.format x.given.0 x.tree.3
       (c.else-format.ensures.else-format x.tree.3 _ ((at-third c.before.before.before.before.before.before).left x))

@@ -8,7 +8,7 @@ use lib.ListN.{length}
 use Rattle.tree.proofs.get.Reads as get
 use Rattle.rendering.proofs as fn
 use fn.PartPrints.Joins.{inside}
-use fn.ExprPrints.Dispatch.{is-operator, is_call, is-label, is-let, is-quantifier, is-closure, is_IsLeaf}
+use fn.ExprPrints.Dispatch.{is-operator, is_call, is-label, is-let, is-quantifier, is-closure, is_is_leaf}
 use fn.expression.+binary_call_cond_expr_form_label_let_expr_lift_closures_exprs_patterns_properties_triggers_listed_oper_quant_unary as cycle
 use cycle.Lts-expr as lts
 use cycle.Proof.Ranks as ranks
@@ -92,7 +92,7 @@ module _ (t : ℕ) where
 
   returns-7 : Of lts.Need-returns-7
   returns-7 c =
-      is_IsLeaf c.before.before.before.before.before.before.before.before.before.before.args.text.now c.before.before.before.before.before.before.before.before.before.before.args.counts.now c.before.before.before.before.before.before.before.before.before.before.args.step _ _
+      is_is_leaf c.before.before.before.before.before.before.before.before.before.before.args.text.now c.before.before.before.before.before.before.before.before.before.before.args.counts.now c.before.before.before.before.before.before.before.before.before.before.args.step _ _
       c.before.before.before.before.before.get.ensures c.before.before.before.before.match.rest.0.0.0.0.0.1
       c.before.before.before.before.match.rest.0.0.0.0.1 c.before.before.before.before.match.rest.0.0.0.1
       c.before.before.before.before.match.rest.0.0.1 c.before.before.before.before.match.rest.0.1

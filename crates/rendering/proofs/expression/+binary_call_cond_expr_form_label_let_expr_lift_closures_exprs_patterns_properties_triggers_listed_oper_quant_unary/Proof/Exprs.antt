@@ -10,7 +10,7 @@ use Rattle.lexing.specs.Bytes.{bytes}
 use Rattle.layout.specs.declared.format.ExprFormatOption.TheVariants.{SingleLine}
 use Rattle.layout.specs.PrintUtil.{Init}
 use Rattle.layout.specs.Text.{unless}
-use Rattle.rendering.specs.ExprParts.{expressionList}
+use Rattle.rendering.specs.ExprParts.{expression_list}
 use Rattle.rendering.specs.Parts.{Prints}
 use Rattle.rendering.specs.declared.parts.Advance.{Advance}
 use Rattle.tree.proofs.get.Reads as get
@@ -19,7 +19,7 @@ use fn.PartPrints.Joins.{inside}
 use fn.ExprPrints.Equations.{list-print}
 use fn.Places.{item, seen, text, part, ready, done}
 use fn.ExprPrints.Reached.{Reached, begin, sooner, expression}
-use fn.ExprPrints.SequencePrints.{someExprs, some-exprs}
+use fn.ExprPrints.SequencePrints.{some_exprs, some-exprs}
 use fn.Sequences.{at_none, at_some}
 use fn.expression.+binary_call_cond_expr_form_label_let_expr_lift_closures_exprs_patterns_properties_triggers_listed_oper_quant_unary as cycle
 use cycle.Lts-list-exprs as lts
@@ -47,7 +47,7 @@ module _ (t : ℕ) where
   abbrev at-start : (c : Of lts.Start) → c.args.at < length c.args.words.now → Reached
   at-start c h =
       seen
-      (begin c.args.text.now c.args.counts.now c.args.step Init SingleLine (someExprs c.args.text.now c.args.words.now c.args.counts.now c.args.step c.args.at c.args.first)
+      (begin c.args.text.now c.args.counts.now c.args.step Init SingleLine (some_exprs c.args.text.now c.args.words.now c.args.counts.now c.args.step c.args.at c.args.first)
       c.args.words.now c.args.at c.args.out.now c.args.pos 0 h c.requires.0)
       _ (λ x. list-print c.args.text.now c.args.step (unless c.args.first (bytes ", ")) x.tree.0 x.tree.1)
 
@@ -82,8 +82,8 @@ module _ (t : ℕ) where
 
   -- the print of an item and the others is that of the sequence
   with_item : (c : Of lts.Start) {g : ℕ} {b : List ℕ} {s : Advance} → g ≡ get_or c.args.words.now c.args.at 0 → (g ≡ 0 → ⊥)
-      → Prints (someExprs c.args.text.now c.args.words.now c.args.counts.now c.args.step c.args.at c.args.first) c.args.words.now c.args.at c.args.out.now c.args.pos b s
-      → Prints (expressionList c.args.text.now c.args.words.now c.args.counts.now c.args.step c.args.at c.args.first) c.args.words.now
+      → Prints (some_exprs c.args.text.now c.args.words.now c.args.counts.now c.args.step c.args.at c.args.first) c.args.words.now c.args.at c.args.out.now c.args.pos b s
+      → Prints (expression_list c.args.text.now c.args.words.now c.args.counts.now c.args.step c.args.at c.args.first) c.args.words.now
       c.args.at c.args.out.now c.args.pos b s
   with_item c e z p = at_some _ _ (some-exprs c.args.text.now c.args.words.now c.args.counts.now c.args.step c.args.at c.args.first) e z p
 

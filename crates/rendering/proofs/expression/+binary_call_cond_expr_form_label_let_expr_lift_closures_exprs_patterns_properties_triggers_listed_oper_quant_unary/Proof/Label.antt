@@ -4,7 +4,7 @@ use native.Mathlib.Omega.{arith}
 use borrow.Author.Rules.{rules}
 use borrow.Fn.Kinds.{In, Out}
 use mathlib.Core.Path.{refl}
-use Rattle.rendering.specs.ExprParts.{aLabel}
+use Rattle.rendering.specs.ExprParts.{a_label}
 use Rattle.layout.proofs as layout
 use Rattle.rendering.proofs as fn
 use fn.ExprPrints.Equations.{label-print}
@@ -34,7 +34,7 @@ module _ (t : ℕ) where
   abbrev at-start : Of lts.Start → Reached
   at-start c =
       seen
-      (begin c.args.text.now c.args.counts.now c.args.step c.args.context c.args.format (aLabel c.args.text.now c.args.words.now c.args.counts.now c.args.step c.args.at c.args.context c.args.format)
+      (begin c.args.text.now c.args.counts.now c.args.step c.args.context c.args.format (a_label c.args.text.now c.args.words.now c.args.counts.now c.args.step c.args.at c.args.context c.args.format)
       c.args.words.now c.args.at c.args.out.now c.args.pos 0 c.requires.1 c.requires.0)
       _ (λ x. label-print c.args.text.now c.args.step x.tree.0 x.tree.1 c.args.context c.args.format)
 

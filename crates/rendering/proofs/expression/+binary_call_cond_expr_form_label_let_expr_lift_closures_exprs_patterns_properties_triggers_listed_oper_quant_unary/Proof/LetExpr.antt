@@ -5,7 +5,7 @@ use borrow.Author.Rules.{rules}
 use borrow.Fn.Kinds.{In, Out}
 use mathlib.Core.Path.{refl}
 use Rattle.layout.specs.declared.format.ExprFormatOption.TheVariants.{SingleLine}
-use Rattle.rendering.specs.ExprParts.{aLet}
+use Rattle.rendering.specs.ExprParts.{a_let}
 use Rattle.layout.proofs as layout
 use Rattle.rendering.proofs as fn
 use fn.ExprPrints.Equations.{let-print}
@@ -37,7 +37,7 @@ module _ (t : ℕ) where
   abbrev at-start : Of lts.Start → Reached
   at-start c =
       seen
-      (begin c.args.text.now c.args.counts.now c.args.step c.args.context c.args.format (aLet c.args.text.now c.args.words.now c.args.counts.now c.args.step c.args.at c.args.context c.args.format)
+      (begin c.args.text.now c.args.counts.now c.args.step c.args.context c.args.format (a_let c.args.text.now c.args.words.now c.args.counts.now c.args.step c.args.at c.args.context c.args.format)
       c.args.words.now c.args.at c.args.out.now c.args.pos 0 c.requires.1 c.requires.0)
       _ (λ x. let-print c.args.text.now c.args.step x.tree.0 x.tree.1 x.tree.2 x.tree.3 c.args.context c.args.format)
 

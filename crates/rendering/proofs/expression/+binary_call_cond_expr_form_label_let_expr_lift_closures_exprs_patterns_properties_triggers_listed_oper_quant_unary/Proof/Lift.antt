@@ -6,7 +6,7 @@ use borrow.Fn.Kinds.{In, Out}
 use mathlib.Core.Path.{refl}
 use Rattle.layout.specs.declared.format.ExprFormatOption.TheVariants.{SingleLine}
 use Rattle.layout.specs.PrintUtil.{Init}
-use Rattle.rendering.specs.ExprParts.{aClosure}
+use Rattle.rendering.specs.ExprParts.{a_closure}
 use Rattle.rendering.proofs as fn
 use fn.ExprPrints.Equations.{closure-print}
 use fn.Places.{ahead, seen, text, part, ready, done}
@@ -35,7 +35,7 @@ module _ (t : ℕ) where
   abbrev at-start : Of lts.Start → Reached
   at-start c =
       seen
-      (begin c.args.text.now c.args.counts.now c.args.step Init SingleLine (aClosure c.args.text.now c.args.words.now c.args.counts.now c.args.step c.args.at)
+      (begin c.args.text.now c.args.counts.now c.args.step Init SingleLine (a_closure c.args.text.now c.args.words.now c.args.counts.now c.args.step c.args.at)
       c.args.words.now c.args.at c.args.out.now c.args.pos 0 c.requires.1 c.requires.0)
       _ (λ x. closure-print c.args.text.now c.args.step x.tree.0 x.tree.1 x.tree.2 x.tree.3 Init SingleLine)
 

@@ -9,7 +9,7 @@ use Rattle.lexing.specs.Bytes.{bytes}
 use Rattle.tree.specs.Ast.{Operator}
 use Rattle.layout.specs.declared.format.ExprFormatOption.TheVariants.{SingleLine}
 use Rattle.layout.specs.PrintUtil.{Init, ToString}
-use Rattle.rendering.specs.ExprParts.{aListed}
+use Rattle.rendering.specs.ExprParts.{a_listed}
 use Rattle.rendering.proofs as fn
 use fn.Places.{ahead, text_of, text, part, ready, done}
 use fn.ExprPrints.Reached.{Reached, begin, sooner}
@@ -35,7 +35,7 @@ module _ (t : ℕ) where
 
   abbrev at-start : Of lts.Start → Reached
   at-start c =
-      begin c.args.text.now c.args.counts.now c.args.step Init SingleLine (aListed c.args.text.now c.args.words.now c.args.counts.now c.args.step c.args.at)
+      begin c.args.text.now c.args.counts.now c.args.step Init SingleLine (a_listed c.args.text.now c.args.words.now c.args.counts.now c.args.step c.args.at)
       c.args.words.now c.args.at c.args.out.now c.args.pos 0 c.requires.1 c.requires.0
 
   abbrev at_head : Of lts.After-listed-head → Reached

@@ -8,8 +8,8 @@ use mathlib.Core.List.{◌++◌}
 use Rattle.layout.specs.declared.power.BindingPower.{BindingPower}
 use Rattle.layout.specs.declared.power.Side.TheVariants.{Left, Right}
 use Rattle.layout.specs.PrintUtil.{BindingStrength, Parenthesis}
-use Rattle.rendering.specs.OperatorWords.{operatorOf}
-use Rattle.rendering.specs.ExprParts.{anOperatorExpr}
+use Rattle.rendering.specs.OperatorWords.{operator_of}
+use Rattle.rendering.specs.ExprParts.{an_operator_expr}
 use Rattle.tree.proofs.get.Reads as get
 use Rattle.rendering.proofs as fn
 use fn.ExprPrints.Equations.{operator-print}
@@ -41,14 +41,14 @@ module _ (t : ℕ) where
   at-start c =
       seen
       (begin c.args.text.now c.args.counts.now c.args.step c.args.context c.args.format
-      (anOperatorExpr c.args.text.now c.args.words.now c.args.counts.now c.args.step c.args.at c.args.context c.args.format)
+      (an_operator_expr c.args.text.now c.args.words.now c.args.counts.now c.args.step c.args.at c.args.context c.args.format)
       c.args.words.now c.args.at c.args.out.now c.args.pos 2 c.requires.1 c.requires.0)
       _ (λ x. operator-print c.args.text.now c.args.step x.tree.0 x.tree.1 c.args.context c.args.format)
 
   -- the strength of the operator that was read
   is-strength : (c : Of lts.After-binding-strength) (x : Begun (at-start c.before.before.before.before.before.before).origin) → c.binding-strength.result ≡ BindingStrength x.tree.0
   is-strength c x = by-operator (at-start c.before.before.before.before.before.before).origin x x.tree.0 refl BindingStrength
-      (c.binding-strength.ensures ∙ ap (λ (n : ℕ). BindingStrength (operatorOf n)) c.before.get.ensures)
+      (c.binding-strength.ensures ∙ ap (λ (n : ℕ). BindingStrength (operator_of n)) c.before.get.ensures)
 
   abbrev at_left : Of lts.After-parenthesis → Reached
   at_left c =

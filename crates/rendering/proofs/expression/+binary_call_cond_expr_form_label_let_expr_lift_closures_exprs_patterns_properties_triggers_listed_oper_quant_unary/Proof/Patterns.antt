@@ -8,7 +8,7 @@ use mathlib.Core.List.{List}
 use lib.ListN.{get_or, length}
 use Rattle.layout.specs.declared.format.ExprFormatOption.TheVariants.{SingleLine}
 use Rattle.layout.specs.PrintUtil.{Init}
-use Rattle.rendering.specs.ExprParts.{patternList}
+use Rattle.rendering.specs.ExprParts.{pattern_list}
 use Rattle.rendering.specs.Parts.{Prints}
 use Rattle.rendering.specs.declared.parts.Advance.{Advance}
 use Rattle.tree.proofs.get.Reads as get
@@ -17,7 +17,7 @@ use fn.PartPrints.Joins.{inside}
 use fn.ExprPrints.Equations.{patterns-print}
 use fn.Places.{item, seen, text, part, ready, done}
 use fn.ExprPrints.Reached.{Reached, begin, sooner}
-use fn.ExprPrints.SequencePrints.{somePatterns, some-patterns}
+use fn.ExprPrints.SequencePrints.{some_patterns, some-patterns}
 use fn.Sequences.{at_none, at_some}
 use fn.expression.+binary_call_cond_expr_form_label_let_expr_lift_closures_exprs_patterns_properties_triggers_listed_oper_quant_unary as cycle
 use cycle.Lts-list-patterns as lts
@@ -45,7 +45,7 @@ module _ (t : ℕ) where
   abbrev at-start : (c : Of lts.Start) → c.args.at < length c.args.words.now → Reached
   at-start c h =
       seen
-      (begin c.args.text.now c.args.counts.now c.args.step Init SingleLine (somePatterns c.args.text.now c.args.words.now c.args.counts.now c.args.step c.args.at c.args.ind)
+      (begin c.args.text.now c.args.counts.now c.args.step Init SingleLine (some_patterns c.args.text.now c.args.words.now c.args.counts.now c.args.step c.args.at c.args.ind)
       c.args.words.now c.args.at c.args.out.now c.args.pos 0 h c.requires.0)
       _ (λ x. patterns-print c.args.text.now c.args.step x.tree.0 x.tree.1 c.args.ind)
 
@@ -79,8 +79,8 @@ module _ (t : ℕ) where
 
   -- the print of an item and the others is that of the sequence
   with_item : (c : Of lts.Start) {g : ℕ} {b : List ℕ} {s : Advance} → g ≡ get_or c.args.words.now c.args.at 0 → (g ≡ 0 → ⊥)
-      → Prints (somePatterns c.args.text.now c.args.words.now c.args.counts.now c.args.step c.args.at c.args.ind) c.args.words.now c.args.at c.args.out.now c.args.pos b s
-      → Prints (patternList c.args.text.now c.args.words.now c.args.counts.now c.args.step c.args.at c.args.ind) c.args.words.now c.args.at c.args.out.now c.args.pos b s
+      → Prints (some_patterns c.args.text.now c.args.words.now c.args.counts.now c.args.step c.args.at c.args.ind) c.args.words.now c.args.at c.args.out.now c.args.pos b s
+      → Prints (pattern_list c.args.text.now c.args.words.now c.args.counts.now c.args.step c.args.at c.args.ind) c.args.words.now c.args.at c.args.out.now c.args.pos b s
   with_item c e z p = at_some _ _ (some-patterns c.args.text.now c.args.words.now c.args.counts.now c.args.step c.args.at c.args.ind) e z p
 
   returns-2 : Of lts.Need-returns-2

@@ -9,9 +9,9 @@ use lib.ListN.{get_or, length}
 use Rattle.lexing.specs.Bytes.{bytes}
 use Rattle.layout.specs.declared.format.ExprFormatOption.TheVariants.{SingleLine}
 use Rattle.layout.specs.PrintUtil.{Init}
-use Rattle.layout.specs.Printer.{triggersEnd}
+use Rattle.layout.specs.Printer.{triggers_end}
 use Rattle.layout.specs.Text.{unless}
-use Rattle.rendering.specs.ExprParts.{propertyList}
+use Rattle.rendering.specs.ExprParts.{property_list}
 use Rattle.rendering.specs.Parts.{Prints}
 use Rattle.rendering.specs.declared.parts.Advance.{Advance}
 use Rattle.tree.proofs.get.Reads as get
@@ -20,7 +20,7 @@ use fn.PartPrints.Joins.{inside}
 use fn.ExprPrints.Equations.{properties-print}
 use fn.Places.{item, seen, text_of, text, part, ready, done}
 use fn.ExprPrints.Reached.{Reached, begin, sooner, same-print, expression}
-use fn.ExprPrints.SequencePrints.{someProperties, some-properties, triggers-end}
+use fn.ExprPrints.SequencePrints.{some_properties, some-properties, triggers-end}
 use fn.Sequences.{at_none, at_some}
 use fn.expression.+binary_call_cond_expr_form_label_let_expr_lift_closures_exprs_patterns_properties_triggers_listed_oper_quant_unary as cycle
 use cycle.Lts-list-properties as lts
@@ -52,7 +52,7 @@ module _ (t : ℕ) where
   abbrev at-start : (c : Of lts.Start) → c.args.at < length c.args.words.now → Reached
   at-start c h =
       seen
-      (begin c.args.text.now c.args.counts.now c.args.step Init SingleLine (someProperties c.args.text.now c.args.words.now c.args.counts.now c.args.step c.args.at c.args.first)
+      (begin c.args.text.now c.args.counts.now c.args.step Init SingleLine (some_properties c.args.text.now c.args.words.now c.args.counts.now c.args.step c.args.at c.args.first)
       c.args.words.now c.args.at c.args.out.now c.args.pos 0 h c.requires.0)
       _ (λ x. properties-print c.args.text.now c.args.step (unless c.args.first (bytes ", ")) x.tree.0 x.tree.1 x.tree.2)
 
@@ -73,7 +73,7 @@ module _ (t : ℕ) where
   abbrev at-colons : Of lts.After-put-unless → Reached
   at-colons c =
       text_of (at-triggers c.before.before.before.before.before.before)
-      (λ x r. bytes (triggersEnd x.tree.0) ++ r) _
+      (λ x r. bytes (triggers_end x.tree.0) ++ r) _
       (λ x. same-print (λ (l : List ℕ) r. l ++ r)
       (triggers-end (at_item c.before.before.before.before.before.before.before.before.before.before.before.before).origin.known.text
       (at_item c.before.before.before.before.before.before.before.before.before.before.before.before).origin.table
@@ -106,9 +106,9 @@ module _ (t : ℕ) where
 
   -- the print of an item and the others is that of the sequence
   with_item : (c : Of lts.Start) {g : ℕ} {b : List ℕ} {s : Advance} → g ≡ get_or c.args.words.now c.args.at 0 → (g ≡ 0 → ⊥)
-      → Prints (someProperties c.args.text.now c.args.words.now c.args.counts.now c.args.step c.args.at c.args.first) c.args.words.now
+      → Prints (some_properties c.args.text.now c.args.words.now c.args.counts.now c.args.step c.args.at c.args.first) c.args.words.now
       c.args.at c.args.out.now c.args.pos b s
-      → Prints (propertyList c.args.text.now c.args.words.now c.args.counts.now c.args.step c.args.at c.args.first) c.args.words.now c.args.at c.args.out.now c.args.pos b s
+      → Prints (property_list c.args.text.now c.args.words.now c.args.counts.now c.args.step c.args.at c.args.first) c.args.words.now c.args.at c.args.out.now c.args.pos b s
   with_item c e z p = at_some _ _ (some-properties c.args.text.now c.args.words.now c.args.counts.now c.args.step c.args.at c.args.first) e z p
 
   same_length : Of lts.Need-same-length

@@ -3,10 +3,10 @@ use Prim.Native.Nat.{ℕ}
 use native.Mathlib.Omega.{arith}
 use borrow.Fn.Kinds.{In, Out}
 use mathlib.Core.Path.{refl}
-use Rattle.rendering.specs.ExprParts.{aQuantifier}
+use Rattle.rendering.specs.ExprParts.{a_quantifier}
 use Rattle.layout.proofs as layout
 use Rattle.rendering.proofs as fn
-use fn.ExprPrints.Equations.{quantifierTail, quantifier-print}
+use fn.ExprPrints.Equations.{quantifier_tail, quantifier-print}
 use fn.Places.{ahead, seen, text, part, done}
 use fn.ExprPrints.Reached.{Reached, begin, sooner, one_deeper, ready-more, formatted, expression}
 use fn.expression.+binary_call_cond_expr_form_label_let_expr_lift_closures_exprs_patterns_properties_triggers_listed_oper_quant_unary as cycle
@@ -39,7 +39,7 @@ module _ (t : ℕ) where
   abbrev at-start : Of lts.Start → Reached
   at-start c =
       seen
-      (begin c.args.text.now c.args.counts.now c.args.step c.args.context c.args.format (aQuantifier c.args.text.now c.args.words.now c.args.counts.now c.args.step c.args.at c.args.context c.args.format)
+      (begin c.args.text.now c.args.counts.now c.args.step c.args.context c.args.format (a_quantifier c.args.text.now c.args.words.now c.args.counts.now c.args.step c.args.at c.args.context c.args.format)
       c.args.words.now c.args.at c.args.out.now c.args.pos 0 c.requires.1 c.requires.0)
       _ (λ x. quantifier-print c.args.text.now c.args.step x.tree.0 x.tree.1 x.tree.2 x.tree.3 c.args.context c.args.format)
 
@@ -50,7 +50,7 @@ module _ (t : ℕ) where
   abbrev at-indent : Of lts.After-more → Reached
   at-indent c =
       formatted (at_head c.before.before.before)
-      (λ f x r. quantifierTail (at_head c.before.before.before).origin.known.text (at_head c.before.before.before).origin.known.step x.tree.2 x.tree.3 (at_head c.before.before.before).origin.known.context f r)
+      (λ f x r. quantifier_tail (at_head c.before.before.before).origin.known.text (at_head c.before.before.before).origin.known.step x.tree.2 x.tree.3 (at_head c.before.before.before).origin.known.context f r)
       (λ x. one_deeper (at_head c.before.before.before) c.more.ensures x.given.0) (λ x. refl)
 
   abbrev at-patterns : Of lts.After-patterns → Reached

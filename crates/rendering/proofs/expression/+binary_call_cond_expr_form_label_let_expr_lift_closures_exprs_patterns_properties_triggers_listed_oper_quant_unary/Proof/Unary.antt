@@ -10,8 +10,8 @@ use Rattle.tree.specs.Ast.{Operator}
 use Rattle.layout.specs.declared.power.Side.TheVariants.{Right}
 use Rattle.layout.specs.declared.format.ExprFormatOption.TheVariants.{SingleLine}
 use Rattle.layout.specs.PrintUtil.{ToString}
-use Rattle.rendering.specs.OperatorWords.{operatorOf}
-use Rattle.rendering.specs.ExprParts.{aUnary}
+use Rattle.rendering.specs.OperatorWords.{operator_of}
+use Rattle.rendering.specs.ExprParts.{a_unary}
 use Rattle.tree.proofs.get.Reads as get
 use Rattle.rendering.proofs as fn
 use fn.Places.{ahead, passed, text_of, ready, done}
@@ -42,7 +42,7 @@ module _ (t : ℕ) where
 
   abbrev at-start : Of lts.Start → Reached
   at-start c =
-      begin c.args.text.now c.args.counts.now c.args.step c.args.context SingleLine (aUnary c.args.text.now c.args.words.now c.args.counts.now c.args.step c.args.at c.args.context)
+      begin c.args.text.now c.args.counts.now c.args.step c.args.context SingleLine (a_unary c.args.text.now c.args.words.now c.args.counts.now c.args.step c.args.at c.args.context)
       c.args.words.now c.args.at c.args.out.now c.args.pos 0 c.requires.1 c.requires.0
 
   abbrev at_sign : Of lts.After-put-operator → Reached
@@ -50,7 +50,7 @@ module _ (t : ℕ) where
       text_of (ahead (at-start c.before.before.before.before.before.before.before.before) 3 _ (λ x. refl)) (λ x r. bytes (ToString x.tree.0) ++ r) _
       (λ x. same-print (λ (o : Operator) r. bytes (ToString o) ++ r)
       (by-operator (at-start c.before.before.before.before.before.before.before.before).origin x x.tree.0 refl (λ (o : Operator). o)
-      (ap operatorOf c.before.get.ensures)) c.put-operator.ensures) (λ x. refl)
+      (ap operator_of c.before.get.ensures)) c.put-operator.ensures) (λ x. refl)
 
   abbrev at-operand : Of lts.After-expr → Reached
   at-operand c =

@@ -6,14 +6,14 @@ use borrow.Fn.Kinds.{In, Out}
 use mathlib.Core.Path.{refl, ◌≡◌}
 use Prim.Native.Nat.{◌<◌}
 use lib.ListN.{length}
-use Rattle.rendering.specs.StmtParts.{anAExpr}
+use Rattle.rendering.specs.StmtParts.{an_a_expr}
 use Rattle.tree.proofs.get.Reads as get
 use Rattle.rendering.proofs as fn
 use fn.PartPrints.Joins.{inside}
 use fn.Places.{Place, begin, seen, passed, text, part, done, ready}
 use fn.Sequences.{made}
 use fn.StmtPrints.Forms.{is-assertion, is_plain, plainly, plain-print}
-use fn.StmtPrints.Room.{one_line, nearer-by}
+use fn.StmtPrints.Room.{one_line_lem, nearer-by}
 use fn.statement.+aexpr_block_braces_by_case_choose_cond_forall_inner_label_aexprs_branches_cases_list_stmts_looped_onward_stmt_var as cycle
 use cycle.Lts-aexpr as lts
 use cycle.Proof.Ranks as ranks
@@ -52,13 +52,13 @@ module _ (t : ℕ) where
       c.before.before.before.before.before.before.after.ensures c.before.before.before.before.if1.true c.before.before.stmt.ensures
 
   abbrev at-start : Of lts.Start → Place
-  at-start c = seen (begin (made (anAExpr c.args.text.now c.args.words.now c.args.counts.now c.args.step c.args.at c.args.indent) (plainly c.args.text.now)) c.args.words.now c.args.at c.args.out.now c.args.pos) _ (λ x. plain-print c.args.text.now c.args.step x.tree c.args.indent)
+  at-start c = seen (begin (made (an_a_expr c.args.text.now c.args.words.now c.args.counts.now c.args.step c.args.at c.args.indent) (plainly c.args.text.now)) c.args.words.now c.args.at c.args.out.now c.args.pos) _ (λ x. plain-print c.args.text.now c.args.step x.tree c.args.indent)
 
   abbrev at-word : Of lts.Else1 → Place
   at-word c = passed (at-start c.before.before.before.before.before.before.before) c.before.before.after.ensures _ _ (λ x. refl)
 
   abbrev at-expr : Of lts.After-expr → Place
-  at-expr c = part (at-word c.before.before) (one_line c.before.before.before.before.before.before.before.before.before.args.text.now
+  at-expr c = part (at-word c.before.before) (one_line_lem c.before.before.before.before.before.before.before.before.before.args.text.now
       c.before.before.before.before.before.before.before.before.before.args.words.now c.before.before.before.before.before.before.before.before.before.args.counts.now c.before.before.before.before.before.before.before.before.before.args.step _
       c.expr.ensures) (λ x. x.tree) _ (λ x. (ready (at-word c.before.before) (omega arith) x.given.0, x.given.1)) _ (λ x. refl) (λ x. refl)
 

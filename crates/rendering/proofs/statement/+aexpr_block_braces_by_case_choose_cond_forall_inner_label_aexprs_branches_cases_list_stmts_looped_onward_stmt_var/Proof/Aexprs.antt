@@ -8,14 +8,14 @@ use native.Mathlib.Nat.{le_refl}
 use lib.ListN.{length}
 use Prim.Native.Nat.{◌<◌}
 use Rattle.rendering.specs.Parts.{Part}
-use Rattle.rendering.specs.StmtParts.{aExprList}
+use Rattle.rendering.specs.StmtParts.{a_expr_list}
 use Rattle.tree.proofs.get.Reads as get
 use Rattle.rendering.proofs as fn
 use fn.PartPrints.Joins.{inside}
 use fn.Places.{Place, begin, seen, item, text, text_of, part, done, ready}
 use fn.Sequences.{made, at_none, at_some}
 use fn.StmtPrints.Equations.{aexprs-print}
-use fn.StmtPrints.Marks.{aexprsOf, some-aexprs}
+use fn.StmtPrints.Marks.{aexprs_of, some-aexprs}
 use fn.StmtPrints.Room.{sooner}
 use fn.statement.+aexpr_block_braces_by_case_choose_cond_forall_inner_label_aexprs_branches_cases_list_stmts_looped_onward_stmt_var as cycle
 use cycle.Lts-list-aexprs as lts
@@ -43,20 +43,20 @@ module _ (t : ℕ) where
   Of N = N claims ((ranks.aexprs).at t) Post
 
   abbrev list : Of lts.Start → Part
-  list c = aExprList c.args.text.now c.args.words.now c.args.counts.now c.args.step c.args.at c.args.indent c.args.prefix.now
+  list c = a_expr_list c.args.text.now c.args.words.now c.args.counts.now c.args.step c.args.at c.args.indent c.args.prefix.now
 
   is-inside : (c : Of lts.Else1) → c.before.before.before.before.before.before.before.before.args.at < length c.before.before.before.before.before.before.before.before.args.words.now
   is-inside c = inside c.before.before.before.before.before.before.before.before.args.words.now c.before.get.ensures c.if1.false
 
   returns : Of lts.Need-returns
-  returns c = at_none (list c.before.before.before.before.before.before.before.before) aexprsOf (some-aexprs
+  returns c = at_none (list c.before.before.before.before.before.before.before.before) aexprs_of (some-aexprs
       c.before.before.before.before.before.before.before.before.args.text.now c.before.before.before.before.before.before.before.before.args.words.now
       c.before.before.before.before.before.before.before.before.args.counts.now c.before.before.before.before.before.before.before.before.args.step c.before.before.before.before.before.before.before.before.args.at
       c.before.before.before.before.before.before.before.before.args.indent c.before.before.before.before.before.before.before.before.args.prefix.now) c.before.get.ensures
       c.before.before.after.ensures c.if1.true
 
   abbrev at-start : Of lts.Start → Place
-  at-start c = seen (begin (made (list c) aexprsOf) c.args.words.now c.args.at c.args.out.now c.args.pos) _ (λ x. aexprs-print c.args.text.now c.args.step x.tree.0 x.tree.1 c.args.prefix.now c.args.indent)
+  at-start c = seen (begin (made (list c) aexprs_of) c.args.words.now c.args.at c.args.out.now c.args.pos) _ (λ x. aexprs-print c.args.text.now c.args.step x.tree.0 x.tree.1 c.args.prefix.now c.args.indent)
 
   abbrev at_item : Of lts.Else1 → Place
   at_item c = item (at-start c.before.before.before.before.before.before.before.before) c.before.before.after.ensures (is-inside c) _ _ (λ x. refl)
@@ -88,7 +88,7 @@ module _ (t : ℕ) where
 
   returns-2 : Of lts.Need-returns-2
   returns-2 c = at_some (list
-      c.before.before.before.before.before.before.before.before.before.before.before.before.before.before.before.before.before.before.before.before.before.before.before.before.before.before.before.before.before) aexprsOf
+      c.before.before.before.before.before.before.before.before.before.before.before.before.before.before.before.before.before.before.before.before.before.before.before.before.before.before.before.before.before) aexprs_of
       (some-aexprs
       c.before.before.before.before.before.before.before.before.before.before.before.before.before.before.before.before.before.before.before.before.before.before.before.before.before.before.before.before.before.args.text.now
       c.before.before.before.before.before.before.before.before.before.before.before.before.before.before.before.before.before.before.before.before.before.before.before.before.before.before.before.before.before.args.words.now

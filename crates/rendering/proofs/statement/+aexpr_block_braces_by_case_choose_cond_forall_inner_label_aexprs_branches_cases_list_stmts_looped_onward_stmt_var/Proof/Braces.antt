@@ -4,7 +4,7 @@ use native.Mathlib.Omega.{arith}
 use borrow.Author.Rules.{rules}
 use borrow.Fn.Kinds.{In, Out}
 use mathlib.Core.Path.{refl, ◌∙◌}
-use Rattle.rendering.specs.StmtParts.{aBraces}
+use Rattle.rendering.specs.StmtParts.{a_braces}
 use Rattle.layout.proofs as layout
 use Rattle.rendering.proofs as fn
 use fn.Places.{Place, begin, seen, ahead, text, part, done, ready-deeper}
@@ -32,7 +32,7 @@ module _ (t : ℕ) where
   Of N = N claims ((ranks.braces).at t) Post
 
   abbrev at-start : Of lts.After-deeper → Place
-  at-start c = ahead (text (seen (begin (aBraces c.before.before.before.before.before.before.before.before.before.before.args.text.now
+  at-start c = ahead (text (seen (begin (a_braces c.before.before.before.before.before.before.before.before.before.before.args.text.now
       c.before.before.before.before.before.before.before.before.before.before.args.words.now
       c.before.before.before.before.before.before.before.before.before.before.args.counts.now c.before.before.before.before.before.before.before.before.before.before.args.step c.before.before.before.before.before.before.before.before.before.before.args.at
       c.before.before.before.before.before.before.before.before.before.before.args.indent) c.before.before.before.before.before.before.before.before.before.before.args.words.now

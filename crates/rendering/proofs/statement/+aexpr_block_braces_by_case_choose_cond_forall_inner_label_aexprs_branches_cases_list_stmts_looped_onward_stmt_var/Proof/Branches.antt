@@ -8,15 +8,15 @@ use native.Mathlib.Nat.{le_refl}
 use lib.ListN.{length}
 use Prim.Native.Nat.{◌<◌}
 use Rattle.rendering.specs.Parts.{Part}
-use Rattle.rendering.specs.StmtParts.{branchList}
+use Rattle.rendering.specs.StmtParts.{branch_list}
 use Rattle.tree.proofs.get.Reads as get
 use Rattle.rendering.proofs as fn
 use fn.PartPrints.Joins.{inside}
 use fn.Places.{Place, begin, seen, item, text, text_of, part, done, ready, ready-deeper}
 use fn.Sequences.{made, at_none, at_some}
 use fn.StmtPrints.Equations.{choices-print}
-use fn.StmtPrints.Pieces.{same_bytes}
-use fn.StmtPrints.Marks.{stmtsOf, some-branches, branch-end}
+use fn.StmtPrints.Pieces.{same_bytes_lem}
+use fn.StmtPrints.Marks.{stmts_of, some-branches, branch-end}
 use fn.StmtPrints.Room.{sooner}
 use fn.statement.+aexpr_block_braces_by_case_choose_cond_forall_inner_label_aexprs_branches_cases_list_stmts_looped_onward_stmt_var as cycle
 use cycle.Lts-list-branches as lts
@@ -42,19 +42,19 @@ module _ (t : ℕ) where
   Of N = N claims ((ranks.branches).at t) Post
 
   abbrev list : Of lts.Start → Part
-  list c = branchList c.args.text.now c.args.words.now c.args.counts.now c.args.step c.args.at c.args.indent
+  list c = branch_list c.args.text.now c.args.words.now c.args.counts.now c.args.step c.args.at c.args.indent
 
   is-inside : (c : Of lts.Else1) → c.before.before.before.before.before.before.before.args.at < length c.before.before.before.before.before.before.before.args.words.now
   is-inside c = inside c.before.before.before.before.before.before.before.args.words.now c.before.get.ensures c.if1.false
 
   returns : Of lts.Need-returns
-  returns c = at_none (list c.before.before.before.before.before.before.before) stmtsOf (some-branches c.before.before.before.before.before.before.before.args.text.now
+  returns c = at_none (list c.before.before.before.before.before.before.before) stmts_of (some-branches c.before.before.before.before.before.before.before.args.text.now
       c.before.before.before.before.before.before.before.args.words.now c.before.before.before.before.before.before.before.args.counts.now c.before.before.before.before.before.before.before.args.step
       c.before.before.before.before.before.before.before.args.at c.before.before.before.before.before.before.before.args.indent) c.before.get.ensures
       c.before.before.after.ensures c.if1.true
 
   abbrev at-start : Of lts.Start → Place
-  at-start c = seen (begin (made (list c) stmtsOf) c.args.words.now c.args.at c.args.out.now c.args.pos) _ (λ x. choices-print c.args.text.now c.args.step x.tree.0 x.tree.1 c.args.indent)
+  at-start c = seen (begin (made (list c) stmts_of) c.args.words.now c.args.at c.args.out.now c.args.pos) _ (λ x. choices-print c.args.text.now c.args.step x.tree.0 x.tree.1 c.args.indent)
 
   abbrev at_item : Of lts.Else1 → Place
   at_item c = item (at-start c.before.before.before.before.before.before.before) c.before.before.after.ensures (is-inside c) _ _ (λ x. refl)
@@ -63,7 +63,7 @@ module _ (t : ℕ) where
   at_block c = part (at_item c.before.before) c.block.ensures (λ x. x.tree.0) _ (λ x. (ready-deeper (at_item c.before.before) (omega arith) (le_refl _) x.given.0, x.given.1.0)) _ (λ x. refl) (λ x. refl)
 
   abbrev at-suffix : Of lts.After-put-either → Place
-  at-suffix c = text_of (at_block c.before.before.before.before.before.before.before) _ _ (λ x. same_bytes (branch-end
+  at-suffix c = text_of (at_block c.before.before.before.before.before.before.before) _ _ (λ x. same_bytes_lem (branch-end
       c.before.before.before.before.before.before.before.before.before.before.before.before.before.before.before.before.args.text.now
       c.before.before.before.before.before.before.before.before.before.before.before.before.before.before.before.before.args.words.now _ c.before.before.before.get2.ensures
       x.tree.1 x.rest ((at_block c.before.before.before.before.before.before.before).left x)) c.put-either.ensures) (λ x. refl)
@@ -84,7 +84,7 @@ module _ (t : ℕ) where
 
   returns-2 : Of lts.Need-returns-2
   returns-2 c = at_some (list
-      c.before.before.before.before.before.before.before.before.before.before.before.before.before.before.before.before.before.before.before.before.before.before) stmtsOf
+      c.before.before.before.before.before.before.before.before.before.before.before.before.before.before.before.before.before.before.before.before.before.before) stmts_of
       (some-branches
       c.before.before.before.before.before.before.before.before.before.before.before.before.before.before.before.before.before.before.before.before.before.before.args.text.now
       c.before.before.before.before.before.before.before.before.before.before.before.before.before.before.before.before.before.before.before.before.before.before.args.words.now

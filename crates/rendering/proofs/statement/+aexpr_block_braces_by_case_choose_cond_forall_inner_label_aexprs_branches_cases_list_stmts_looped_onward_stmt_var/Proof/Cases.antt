@@ -8,16 +8,16 @@ use native.Mathlib.Nat.{le_refl}
 use lib.ListN.{length}
 use Prim.Native.Nat.{◌<◌}
 use Rattle.rendering.specs.Parts.{Part}
-use Rattle.rendering.specs.StmtParts.{caseSequence}
+use Rattle.rendering.specs.StmtParts.{case_sequence}
 use Rattle.tree.proofs.get.Reads as get
 use Rattle.rendering.proofs as fn
 use fn.PartPrints.Joins.{inside}
 use fn.Places.{Place, begin, seen, item, text, text_of, part, done, ready, ready-deeper}
 use fn.Sequences.{made, at_none, at_some}
 use fn.StmtPrints.Equations.{case-print}
-use fn.StmtPrints.Pieces.{same_bytes}
+use fn.StmtPrints.Pieces.{same_bytes_lem}
 use fn.StmtPrints.Marks.{cases_of, some-cases, case-end}
-use fn.StmtPrints.Room.{sooner, one_line}
+use fn.StmtPrints.Room.{sooner, one_line_lem}
 use fn.statement.+aexpr_block_braces_by_case_choose_cond_forall_inner_label_aexprs_branches_cases_list_stmts_looped_onward_stmt_var as cycle
 use cycle.Lts-list-cases as lts
 use cycle.Proof.Ranks as ranks
@@ -46,7 +46,7 @@ module _ (t : ℕ) where
   Of N = N claims ((ranks.cases).at t) Post
 
   abbrev list : Of lts.Start → Part
-  list c = caseSequence c.args.text.now c.args.words.now c.args.counts.now c.args.step c.args.at c.args.indent
+  list c = case_sequence c.args.text.now c.args.words.now c.args.counts.now c.args.step c.args.at c.args.indent
 
   is-inside : (c : Of lts.Else1) → c.before.before.before.before.before.before.before.args.at < length c.before.before.before.before.before.before.before.args.words.now
   is-inside c = inside c.before.before.before.before.before.before.before.args.words.now c.before.get.ensures c.if1.false
@@ -67,7 +67,7 @@ module _ (t : ℕ) where
   at-word c = text (at_item c.before.before.before) c.put.ensures _ (λ x. refl)
 
   abbrev at-cond : Of lts.After-expr → Place
-  at-cond c = part (at-word c.before.before.before.before) (one_line
+  at-cond c = part (at-word c.before.before.before.before) (one_line_lem
       c.before.before.before.before.before.before.before.before.before.before.before.before.before.before.args.text.now
       c.before.before.before.before.before.before.before.before.before.before.before.before.before.before.args.words.now
       c.before.before.before.before.before.before.before.before.before.before.before.before.before.before.args.counts.now c.before.before.before.before.before.before.before.before.before.before.before.before.before.before.args.step _ c.expr.ensures) (λ x. x.tree.0) _ (λ x. (
@@ -83,7 +83,7 @@ module _ (t : ℕ) where
   at_block c = part (at-space c.before.before.before.before) c.block.ensures (λ x. x.tree.1) _ (λ x. (ready-deeper (at-space c.before.before.before.before) (omega arith) (le_refl _) x.given.0, x.given.1.1)) _ (λ x. refl) (λ x. refl)
 
   abbrev at-suffix : Of lts.After-put-either → Place
-  at-suffix c = text_of (at_block c.before.before.before.before.before.before.before) _ _ (λ x. same_bytes (case-end
+  at-suffix c = text_of (at_block c.before.before.before.before.before.before.before) _ _ (λ x. same_bytes_lem (case-end
       c.before.before.before.before.before.before.before.before.before.before.before.before.before.before.before.before.before.before.before.before.before.before.before.before.before.before.before.before.before.before.args.text.now
       c.before.before.before.before.before.before.before.before.before.before.before.before.before.before.before.before.before.before.before.before.before.before.before.before.before.before.before.before.before.before.args.words.now _
       c.before.before.before.get2.ensures x.tree.2 x.rest ((at_block c.before.before.before.before.before.before.before).left x)) c.put-either.ensures) (λ x. refl)

@@ -5,7 +5,7 @@ use borrow.Author.Rules.{rules}
 use borrow.Fn.Kinds.{In, Out}
 use mathlib.Core.Path.{refl}
 use native.Mathlib.Nat.{le_refl}
-use Rattle.rendering.specs.StmtParts.{aChoose}
+use Rattle.rendering.specs.StmtParts.{a_choose}
 use Prim.Native.Nat.{◌+◌}
 use Rattle.tree.proofs.get.Reads as get
 use Rattle.rendering.proofs as fn
@@ -36,7 +36,7 @@ module _ (t : ℕ) where
   Of N = N claims ((ranks.choose).at t) Post
 
   abbrev at-start : Of lts.After-put-unless → Place
-  at-start c = ahead (text (text (seen (begin (aChoose c.before.before.before.before.before.before.before.before.before.before.before.before.before.args.text.now
+  at-start c = ahead (text (text (seen (begin (a_choose c.before.before.before.before.before.before.before.before.before.before.before.before.before.args.text.now
       c.before.before.before.before.before.before.before.before.before.before.before.before.before.args.words.now
       c.before.before.before.before.before.before.before.before.before.before.before.before.before.args.counts.now c.before.before.before.before.before.before.before.before.before.before.before.before.before.args.step
       c.before.before.before.before.before.before.before.before.before.before.before.before.before.args.at

@@ -5,12 +5,12 @@ use borrow.Author.Rules.{rules}
 use borrow.Fn.Kinds.{In, Out}
 use mathlib.Core.Path.{refl, ap}
 use native.Mathlib.Nat.{le_refl}
-use Rattle.rendering.specs.StmtParts.{anIf}
+use Rattle.rendering.specs.StmtParts.{an_if}
 use Rattle.rendering.proofs as fn
 use fn.Places.{Place, begin, seen, ahead, passed, text, part, done, ready, ready-deeper}
 use fn.StmtPrints.Equations.{if-print, if-empty, if-else, else-then}
 use fn.StmtPrints.Marks.{empty-block-words}
-use fn.StmtPrints.Room.{sooner, one_line}
+use fn.StmtPrints.Room.{sooner, one_line_lem}
 use fn.statement.+aexpr_block_braces_by_case_choose_cond_forall_inner_label_aexprs_branches_cases_list_stmts_looped_onward_stmt_var as cycle
 use cycle.Lts-cond as lts
 use cycle.Proof.Ranks as ranks
@@ -39,7 +39,7 @@ module _ (t : ℕ) where
   Of N = N claims ((ranks.cond).at t) Post
 
   abbrev at-start : Of lts.After-put → Place
-  at-start c = ahead (text (seen (begin (anIf c.before.before.before.before.before.before.before.args.text.now c.before.before.before.before.before.before.before.args.words.now
+  at-start c = ahead (text (seen (begin (an_if c.before.before.before.before.before.before.before.args.text.now c.before.before.before.before.before.before.before.args.words.now
       c.before.before.before.before.before.before.before.args.counts.now c.before.before.before.before.before.before.before.args.step c.before.before.before.before.before.before.before.args.at
       c.before.before.before.before.before.before.before.args.indent) c.before.before.before.before.before.before.before.args.words.now
       c.before.before.before.before.before.before.before.args.at c.before.before.before.before.before.before.before.args.out.now
@@ -47,7 +47,7 @@ module _ (t : ℕ) where
       x.tree.2 c.before.before.before.before.before.before.before.args.indent)) c.put.ensures _ (λ x. refl)) 1 _ (λ x. refl)
 
   abbrev at-cond : Of lts.After-expr → Place
-  at-cond c = part (at-start c.before.before.before.before) (one_line c.before.before.before.before.before.before.before.before.before.before.before.args.text.now
+  at-cond c = part (at-start c.before.before.before.before) (one_line_lem c.before.before.before.before.before.before.before.before.before.before.before.args.text.now
       c.before.before.before.before.before.before.before.before.before.before.before.args.words.now
       c.before.before.before.before.before.before.before.before.before.before.before.args.counts.now c.before.before.before.before.before.before.before.before.before.before.before.args.step _ c.expr.ensures) (λ x. x.tree.0) _ (λ x. (
         ready (at-start

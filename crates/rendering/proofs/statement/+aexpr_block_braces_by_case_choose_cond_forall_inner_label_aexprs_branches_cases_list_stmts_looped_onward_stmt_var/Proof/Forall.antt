@@ -5,7 +5,7 @@ use borrow.Author.Rules.{rules}
 use borrow.Fn.Kinds.{In, Out}
 use mathlib.Core.Path.{refl}
 use native.Mathlib.Nat.{le_refl}
-use Rattle.rendering.specs.StmtParts.{aForall}
+use Rattle.rendering.specs.StmtParts.{a_forall}
 use Rattle.rendering.proofs as fn
 use fn.Places.{Place, begin, seen, ahead, text, part, done, ready-deeper}
 use fn.StmtPrints.Equations.{forall-print}
@@ -30,7 +30,7 @@ module _ (t : ℕ) where
   Of N = N claims ((ranks.forall).at t) Post
 
   abbrev at-start : Of lts.Start → Place
-  at-start c = ahead (seen (begin (aForall c.args.text.now c.args.words.now c.args.counts.now c.args.step c.args.at c.args.indent) c.args.words.now c.args.at c.args.out.now c.args.pos) _ (λ x. forall-print c.args.text.now c.args.step x.tree.0 x.tree.1 x.tree.2 c.args.indent)) 1 _ (λ x. refl)
+  at-start c = ahead (seen (begin (a_forall c.args.text.now c.args.words.now c.args.counts.now c.args.step c.args.at c.args.indent) c.args.words.now c.args.at c.args.out.now c.args.pos) _ (λ x. forall-print c.args.text.now c.args.step x.tree.0 x.tree.1 x.tree.2 c.args.indent)) 1 _ (λ x. refl)
 
   abbrev at_head : Of lts.After-for-head → Place
   at_head c = part (at-start c.before.before.before.before.before.before) c.for-head.ensures (λ x. (x.tree.0, x.tree.1)) _ (λ x. tt) _ (λ x. refl) (λ x. refl)

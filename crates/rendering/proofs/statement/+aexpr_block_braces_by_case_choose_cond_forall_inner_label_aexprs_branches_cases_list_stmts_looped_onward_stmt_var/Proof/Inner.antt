@@ -7,7 +7,7 @@ use mathlib.Core.Path.{refl, sym, ◌∙◌}
 use lib.ListN.{length}
 use Prim.Native.Nat.{◌<◌}
 use Rattle.tree.specs.Ast.{Block}
-use Rattle.rendering.specs.StmtParts.{anInner, statementList}
+use Rattle.rendering.specs.StmtParts.{an_inner, statement_list}
 use mathlib.Core.Path.{◌≡◌}
 use Rattle.tree.proofs.get.Reads as get
 use Rattle.rendering.proofs as fn
@@ -56,7 +56,7 @@ module _ (t : ℕ) where
       (is-inside c.before.before.before.before.before c.before.before.before.before.if1.true)) c.before.before.before.before.if1.true c.before.before.list.ensures
 
   abbrev at-start : Of lts.Else1 → Place
-  at-start c = seen (begin (anInner c.before.before.before.before.before.before.args.text.now c.before.before.before.before.before.before.args.words.now
+  at-start c = seen (begin (an_inner c.before.before.before.before.before.before.args.text.now c.before.before.before.before.before.before.args.words.now
       c.before.before.before.before.before.before.args.counts.now c.before.before.before.before.before.before.args.step c.before.before.before.before.before.before.args.at c.before.before.before.before.before.before.args.indent
       c.before.before.before.before.before.before.args.followed) c.before.before.before.before.before.before.args.words.now c.before.before.before.before.before.before.args.at
       c.before.before.before.before.before.before.args.out.now c.before.before.before.before.before.before.args.pos) _

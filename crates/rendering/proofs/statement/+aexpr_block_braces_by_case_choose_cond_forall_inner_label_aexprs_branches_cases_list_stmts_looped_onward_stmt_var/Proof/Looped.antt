@@ -7,7 +7,7 @@ use mathlib.Core.Path.{refl, ◌∙◌}
 use native.Mathlib.Nat.{le_refl}
 use Prim.Native.Nat.{◌+◌}
 use lib.Dec.{eqb}
-use Rattle.rendering.specs.StmtParts.{aLoop}
+use Rattle.rendering.specs.StmtParts.{a_loop}
 use Rattle.tree.proofs.get.Reads as get
 use Rattle.layout.proofs as layout
 use Rattle.rendering.proofs as fn
@@ -44,7 +44,7 @@ module _ (t : ℕ) where
   Of N = N claims ((ranks.looped).at t) Post
 
   abbrev at-start : Of lts.After-deeper → Place
-  at-start c = ahead (text (text (seen (begin (aLoop
+  at-start c = ahead (text (text (seen (begin (a_loop
       c.before.before.before.before.before.before.before.before.before.before.before.before.before.before.before.before.before.before.args.text.now
       c.before.before.before.before.before.before.before.before.before.before.before.before.before.before.before.before.before.before.args.words.now
       c.before.before.before.before.before.before.before.before.before.before.before.before.before.before.before.before.before.before.args.counts.now c.before.before.before.before.before.before.before.before.before.before.before.before.before.before.before.before.before.before.args.step

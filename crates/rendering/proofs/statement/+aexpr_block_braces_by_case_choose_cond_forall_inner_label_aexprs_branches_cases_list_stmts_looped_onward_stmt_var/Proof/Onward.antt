@@ -4,10 +4,10 @@ use native.Mathlib.Omega.{arith}
 use borrow.Author.Rules.{rules}
 use borrow.Fn.Kinds.{In, Out}
 use mathlib.Core.Path.{refl, ap}
-use Rattle.rendering.specs.StmtParts.{anOnward}
+use Rattle.rendering.specs.StmtParts.{an_onward}
 use Rattle.rendering.proofs as fn
 use fn.Places.{Place, begin, seen, text, part, done}
-use fn.StmtPrints.Equations.{onwardPrint, S}
+use fn.StmtPrints.Equations.{onward_print, S}
 use fn.StmtPrints.Room.{less-indent}
 use fn.statement.+aexpr_block_braces_by_case_choose_cond_forall_inner_label_aexprs_branches_cases_list_stmts_looped_onward_stmt_var as cycle
 use cycle.Lts-onward as lts
@@ -29,10 +29,10 @@ module _ (t : ℕ) where
   Of N = N claims ((ranks.onward).at t) Post
 
   abbrev at-stay : Of lts.Then1 → Place
-  at-stay c = seen (begin (anOnward c.before.before.before.before.before.args.text.now c.before.before.before.before.before.args.words.now
+  at-stay c = seen (begin (an_onward c.before.before.before.before.before.args.text.now c.before.before.before.before.before.args.words.now
       c.before.before.before.before.before.args.counts.now c.before.before.before.before.before.args.step c.before.before.before.before.before.args.at c.before.before.before.before.before.args.indent
       c.before.before.before.before.before.args.stays) c.before.before.before.before.before.args.words.now c.before.before.before.before.before.args.at
-      c.before.before.before.before.before.args.out.now c.before.before.before.before.before.args.pos) _ (λ x. ap (onwardPrint c.before.before.before.before.before.args.text.now c.before.before.before.before.before.args.step
+      c.before.before.before.before.before.args.out.now c.before.before.before.before.before.args.pos) _ (λ x. ap (onward_print c.before.before.before.before.before.args.text.now c.before.before.before.before.before.args.step
       (S c.before.before.before.before.before.args.text.now c.before.before.before.before.before.args.step x.tree) c.before.before.before.before.before.args.indent) c.if1.true)
 
   abbrev at-stmt : Of lts.After-stmt → Place
@@ -45,10 +45,10 @@ module _ (t : ℕ) where
   returns c = done (at-stmt c.before.before) (λ x. refl) (λ x. refl)
 
   abbrev at_own : Of lts.Else1 → Place
-  at_own c = seen (begin (anOnward c.before.before.before.before.before.args.text.now c.before.before.before.before.before.args.words.now
+  at_own c = seen (begin (an_onward c.before.before.before.before.before.args.text.now c.before.before.before.before.before.args.words.now
       c.before.before.before.before.before.args.counts.now c.before.before.before.before.before.args.step c.before.before.before.before.before.args.at c.before.before.before.before.before.args.indent
       c.before.before.before.before.before.args.stays) c.before.before.before.before.before.args.words.now c.before.before.before.before.before.args.at
-      c.before.before.before.before.before.args.out.now c.before.before.before.before.before.args.pos) _ (λ x. ap (onwardPrint c.before.before.before.before.before.args.text.now c.before.before.before.before.before.args.step
+      c.before.before.before.before.before.args.out.now c.before.before.before.before.before.args.pos) _ (λ x. ap (onward_print c.before.before.before.before.before.args.text.now c.before.before.before.before.before.args.step
       (S c.before.before.before.before.before.args.text.now c.before.before.before.before.before.args.step x.tree) c.before.before.before.before.before.args.indent) c.if1.false)
 
   abbrev at_block : Of lts.After-block → Place

@@ -10,7 +10,7 @@ use Rattle.rendering.specs.StmtParts.{Simple}
 use Rattle.tree.proofs.get.Reads as get
 use Rattle.rendering.proofs as fn
 use fn.PartPrints.Joins.{inside}
-use fn.StmtPrints.Forms.{is-variable, is_Block, is-forall, is-choose, is-if, is-cases, is_Loop, is-labelled, is-simple}
+use fn.StmtPrints.Forms.{is-variable, is-block, is-forall, is-choose, is-if, is-cases, is-loop, is-labelled, is-simple}
 use fn.statement.+aexpr_block_braces_by_case_choose_cond_forall_inner_label_aexprs_branches_cases_list_stmts_looped_onward_stmt_var as cycle
 use cycle.Lts-stmt as lts
 use cycle.Proof.Ranks as ranks
@@ -61,7 +61,7 @@ module _ (t : ℕ) where
   braces-requires c κs = (omega (arith, c.before.before.before.before.before.before.before.requires.0), is-inside c.before.before 23 c.before.match.keys2)
 
   returns-2 : Of lts.Need-returns-2
-  returns-2 c = is_Block c.before.before.before.before.before.before.before.before.before.before.args.text.now
+  returns-2 c = is-block c.before.before.before.before.before.before.before.before.before.before.args.text.now
       c.before.before.before.before.before.before.before.before.before.before.args.words.now
       c.before.before.before.before.before.before.before.before.before.before.args.counts.now c.before.before.before.before.before.before.before.before.before.before.args.step c.before.before.before.before.before.before.before.before.before.before.args.at
       c.before.before.before.before.before.before.before.before.before.before.args.indent c.before.before.before.before.before.before.before.before.before.before.args.followed
@@ -111,7 +111,7 @@ module _ (t : ℕ) where
   looped-requires c κs = (omega (arith, c.before.before.before.before.before.before.before.requires.0), is-inside c.before.before 33 c.before.match.keys7)
 
   returns-7 : Of lts.Need-returns-7
-  returns-7 c = is_Loop c.before.before.before.before.before.before.before.before.before.before.args.text.now
+  returns-7 c = is-loop c.before.before.before.before.before.before.before.before.before.before.args.text.now
       c.before.before.before.before.before.before.before.before.before.before.args.words.now
       c.before.before.before.before.before.before.before.before.before.before.args.counts.now c.before.before.before.before.before.before.before.before.before.before.args.step c.before.before.before.before.before.before.before.before.before.before.args.at
       c.before.before.before.before.before.before.before.before.before.before.args.indent c.before.before.before.before.before.before.before.before.before.before.args.followed

@@ -8,7 +8,7 @@ use native.Mathlib.Nat.{le_refl}
 use lib.ListN.{length}
 use Prim.Native.Nat.{◌<◌}
 use Rattle.rendering.specs.Parts.{Part}
-use Rattle.rendering.specs.StmtParts.{lastStatements}
+use Rattle.rendering.specs.StmtParts.{last_statements}
 use lib.Dec.{eqb}
 use mathlib.Core.Path.{◌∙◌}
 use Rattle.tree.proofs.get.Reads as get
@@ -17,7 +17,7 @@ use fn.PartPrints.Joins.{inside}
 use fn.Places.{Place, begin, seen, item, text, text_of, part, done, ready}
 use fn.Sequences.{made, at_none, at_some}
 use fn.StmtPrints.Equations.{statements-print}
-use fn.StmtPrints.Marks.{stmtsOf, some-statements, last_is, others-left}
+use fn.StmtPrints.Marks.{stmts_of, some-statements, last_is, others-left}
 use fn.StmtPrints.Room.{sooner}
 use fn.statement.+aexpr_block_braces_by_case_choose_cond_forall_inner_label_aexprs_branches_cases_list_stmts_looped_onward_stmt_var as cycle
 use cycle.Lts-list-stmts as lts
@@ -45,19 +45,19 @@ module _ (t : ℕ) where
   Of N = N claims ((ranks.stmts).at t) Post
 
   abbrev list : Of lts.Start → Part
-  list c = lastStatements c.args.text.now c.args.words.now c.args.counts.now c.args.step c.args.at c.args.indent c.args.left
+  list c = last_statements c.args.text.now c.args.words.now c.args.counts.now c.args.step c.args.at c.args.indent c.args.left
 
   is-inside : (c : Of lts.Else1) → c.before.before.before.before.before.before.before.args.at < length c.before.before.before.before.before.before.before.args.words.now
   is-inside c = inside c.before.before.before.before.before.before.before.args.words.now c.before.get.ensures c.if1.false
 
   returns : Of lts.Need-returns
-  returns c = at_none (list c.before.before.before.before.before.before.before) stmtsOf (some-statements c.before.before.before.before.before.before.before.args.text.now
+  returns c = at_none (list c.before.before.before.before.before.before.before) stmts_of (some-statements c.before.before.before.before.before.before.before.args.text.now
       c.before.before.before.before.before.before.before.args.words.now c.before.before.before.before.before.before.before.args.counts.now c.before.before.before.before.before.before.before.args.step
       c.before.before.before.before.before.before.before.args.at c.before.before.before.before.before.before.before.args.indent
       c.before.before.before.before.before.before.before.args.left) c.before.get.ensures c.before.before.after.ensures c.if1.true
 
   abbrev at-start : Of lts.Start → Place
-  at-start c = seen (begin (made (list c) stmtsOf) c.args.words.now c.args.at c.args.out.now c.args.pos) _
+  at-start c = seen (begin (made (list c) stmts_of) c.args.words.now c.args.at c.args.out.now c.args.pos) _
       (λ x. statements-print c.args.text.now c.args.step x.tree.0 x.tree.1 c.args.indent (eqb c.args.left 1) (last_is x.tree.1 x.given.1.0))
 
   abbrev at_item : Of lts.Else1 → Place
@@ -89,7 +89,7 @@ module _ (t : ℕ) where
 
   returns-2 : Of lts.Need-returns-2
   returns-2 c = at_some (list
-      c.before.before.before.before.before.before.before.before.before.before.before.before.before.before.before.before.before.before.before.before) stmtsOf (some-statements
+      c.before.before.before.before.before.before.before.before.before.before.before.before.before.before.before.before.before.before.before.before) stmts_of (some-statements
       c.before.before.before.before.before.before.before.before.before.before.before.before.before.before.before.before.before.before.before.before.args.text.now
       c.before.before.before.before.before.before.before.before.before.before.before.before.before.before.before.before.before.before.before.before.args.words.now
       c.before.before.before.before.before.before.before.before.before.before.before.before.before.before.before.before.before.before.before.before.args.counts.now c.before.before.before.before.before.before.before.before.before.before.before.before.before.before.before.before.before.before.before.before.args.step

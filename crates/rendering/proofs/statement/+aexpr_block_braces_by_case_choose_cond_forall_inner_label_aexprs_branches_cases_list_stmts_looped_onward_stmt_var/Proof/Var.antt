@@ -4,7 +4,7 @@ use native.Mathlib.Omega.{arith}
 use borrow.Author.Rules.{rules}
 use borrow.Fn.Kinds.{In, Out}
 use mathlib.Core.Path.{refl}
-use Rattle.rendering.specs.StmtParts.{aVariable}
+use Rattle.rendering.specs.StmtParts.{a_variable}
 use Rattle.rendering.proofs as fn
 use fn.Places.{Place, begin, seen, ahead, text, part, done, ready, ready-deeper}
 use fn.StmtPrints.Equations.{variable-print}
@@ -33,7 +33,7 @@ module _ (t : ℕ) where
   Of N = N claims ((ranks.var).at t) Post
 
   abbrev at-start : Of lts.After-indent-inside → Place
-  at-start c = seen (begin (aVariable c.before.before.before.before.before.args.text.now c.before.before.before.before.before.args.words.now
+  at-start c = seen (begin (a_variable c.before.before.before.before.before.args.text.now c.before.before.before.before.before.args.words.now
       c.before.before.before.before.before.args.counts.now c.before.before.before.before.before.args.step c.before.before.before.before.before.args.at c.before.before.before.before.before.args.indent
       c.before.before.before.before.before.args.followed) c.before.before.before.before.before.args.words.now c.before.before.before.before.before.args.at
       c.before.before.before.before.before.args.out.now c.before.before.before.before.before.args.pos) _
