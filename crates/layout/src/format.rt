@@ -5,7 +5,7 @@ ghost use Rattle.layout.specs.PrintUtil.{start_indent, deeper_by, Deeper};
 
 pub const INDENT_AMOUNT: usize = 2;
 
-#[derive(Drop)]
+#[derive(Clone, Copy)]
 pub enum ExprFormatOption {
     SingleLine,
     MultipleLines(usize),

@@ -1,4 +1,7 @@
 // What the prints of B3 are: their definitions in specs/, and PrintUtil.dfy's types.
+
+#![tactic(auto)]
+
 mod format;
 mod power;
 

@@ -3,7 +3,7 @@ ghost use Rattle.std.specs.Prelude.{◌≡◌};
 ghost use Rattle.layout.specs.PrintUtil.{is_operator_wins, same_family, BreakTieInFavorOfOperator, power, pulls, WinsOver, adjusted, SubexpressionPower};
 
 // Who wins where an operator and its context pull equally.
-#[derive(Drop)]
+#[derive(Clone, Copy)]
 pub enum TieBreaker {
     OperatorWins,
     ContextWins,
@@ -11,14 +11,14 @@ pub enum TieBreaker {
     SameFamilyWins(u8),
 }
 
-#[derive(Drop)]
+#[derive(Clone, Copy)]
 pub enum Side {
     Left,
     Right,
 }
 
 // How strongly an operator pulls on the operands at its two ends, or a context on the expression in it.
-#[derive(Drop)]
+#[derive(Clone, Copy)]
 pub struct BindingPower {
     pub left: u16,
     pub right: u16,

@@ -6,7 +6,7 @@ ghost use Rattle.lexing.specs.CodeAnswers.{reach_of, mark_of, end_of, Position};
 use crate::bytes::{Class, is_space, run_length, starts_with};
 
 // How far blanks reach.
-#[derive(Drop)]
+#[derive(Clone, Copy)]
 pub enum Reach {
     // Over so many bytes.
     Passed(usize),
@@ -15,7 +15,7 @@ pub enum Reach {
 }
 
 // What two bytes of a long comment are.
-#[derive(Drop)]
+#[derive(Clone, Copy)]
 pub(crate) enum Pair {
     Closing,
     Opening,
@@ -23,7 +23,7 @@ pub(crate) enum Pair {
 }
 
 // Where a long comment ends.
-#[derive(Drop)]
+#[derive(Clone, Copy)]
 pub(crate) enum End {
     // After so many bytes.
     At(usize),

@@ -4,7 +4,7 @@ ghost use Rattle.lexing.specs.Bytes.{between, one_of, is_space, is_digit, can_st
 ghost use Rattle.lexing.specs.CodeAnswers.{class_of};
 
 // The classes that runs are made of.
-#[derive(Drop)]
+#[derive(Clone, Copy)]
 pub(crate) enum Class {
     Digit,
     IdentifierChar,

@@ -1,4 +1,7 @@
 // Blanks and words of B3. Each function reads from the start of the text that it is given, a part that may begin anywhere in a larger one.
+
+#![tactic(auto)]
+
 mod blank;
 mod bytes;
 pub mod refusal;

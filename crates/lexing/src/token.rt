@@ -11,7 +11,7 @@ use crate::refusal::{LARGE_NATURAL, UNCLOSED_COMMENT};
 const MOST_NATURAL: u64 = 18446744073709551615;
 
 // What reading a token answers.
-#[derive(Drop)]
+#[derive(Clone, Copy)]
 pub enum Lexed {
     // Its value, and how many bytes it takes with the blanks after it.
     Ok(u64, usize),
@@ -22,7 +22,7 @@ pub enum Lexed {
 }
 
 // The number that digits stand for.
-#[derive(Drop)]
+#[derive(Clone, Copy)]
 pub(crate) enum Number {
     Value(u64),
     // It exceeds the largest natural.

@@ -148,7 +148,7 @@ first-with seen (b ∷ bs) n f l = by_number (with-does seen b) (lt-or-le (numbe
           place = suc r.place;
           within = omega (arith, r.within);
           numbered = r.numbered;
-          before = λ j. elim j [ zero ↦ λ l. h | suc k ↦ λ l. r.before k (omega arith) ];
+          before = λ j. elim j as (λ k. k < suc r.place → get_or {A = ℕ} (number seen b ∷ numbering (with seen b) bs) k 0 < n) [ zero ↦ λ l. h | suc k ↦ λ l. r.before k (omega arith) ];
         }
 
     by_number : With seen b (with seen b) → (number seen b < n) ⊎ (n ≤ number seen b) → (length (with seen b) ≤ n → FirstWith (numbering (with seen b) bs) n)

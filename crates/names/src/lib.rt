@@ -1,6 +1,9 @@
 // Numbers for names: of a list of spans over a text, each span's number, counted from 0 in the order of first occurrence of its bytes.
 // Exact for every input, and n log n in the bytes and the spans whatever they are: the blocks of 1, 2, 4, .. bytes have class numbers
 // by which spans are compared (R. M. Karp, R. E. Miller, A. L. Rosenberg, 1972).
+
+#![tactic(auto)]
+
 mod blocks;
 mod cells;
 mod classes;

@@ -156,7 +156,27 @@ module _ {A B : Type 0} {words : A → Run} {text arena later : List ℕ} {at to
       → Builds words text arena later at top least credit (after answer stop go) r
   builds-else e b = rw (after_none stop go e) b
 
--- ---- answers that are not `Ok`
+-- ---- answers that are not `Ok`, or not `None`
+
+pub built-not_ok : {r : Built} → ((node next free : ℕ) → r ≡ Ok node next free → ⊥) → OneOf (1 ∷ 2 ∷ []) (tag_of built-type r)
+built-not_ok {r = Ok node next free} h = absurd (h node next free refl)
+built-not_ok {r = None} h = inl refl
+built-not_ok {r = Refused number place} h = inr refl
+
+pub built-not_none : {r : Built} → (r ≡ None → ⊥) → OneOf (0 ∷ 2 ∷ []) (tag_of built-type r)
+built-not_none {r = Ok node next free} h = inl refl
+built-not_none {r = None} h = absurd (h refl)
+built-not_none {r = Refused number place} h = inr refl
+
+pub lexed-not_ok : {r : Lexed} → ((v n : ℕ) → r ≡ LexedOk v n → ⊥) → OneOf (1 ∷ 2 ∷ []) (tag_of lexed-type r)
+lexed-not_ok {r = LexedOk v n} h = absurd (h v n refl)
+lexed-not_ok {r = LexedNone} h = inl refl
+lexed-not_ok {r = LexedRefused number place} h = inr refl
+
+pub lexed-not_none : {r : Lexed} → (r ≡ LexedNone → ⊥) → OneOf (0 ∷ 2 ∷ []) (tag_of lexed-type r)
+lexed-not_none {r = LexedOk v n} h = inl refl
+lexed-not_none {r = LexedNone} h = absurd (h refl)
+lexed-not_none {r = LexedRefused number place} h = inr refl
 
 rule-stopped : {A : Type 0} {words : A → Run} {text arena later : List ℕ} {at top least credit : ℕ} {answer : Answer A} (r : Built)
     → OneOf (1 ∷ 2 ∷ []) (tag_of built-type r) → Builds words text arena later at top least credit answer r → Stopped answer r

@@ -173,9 +173,6 @@ statement-words b =
     ∙ any-listed leads b
 
 -- where an identifier stands, by its lead
-abbrev IsWord : Lead → Type 0
-IsWord k = OneOf (0 ∷ 1 ∷ 2 ∷ 3 ∷ 4 ∷ 5 ∷ 6 ∷ []) (tag_of lead-type k)
-
 module _ {text : List ℕ} {at len : ℕ} (s : Spelt text at len) (f : len ≡ 0 → ⊥) {k : Lead} (e : k ≡ lead_of (take len (drop at text))) where
   said : k ≡ or_else Name (found leads (here text at))
   unfolding lead_of
@@ -194,14 +191,14 @@ module _ {text : List ℕ} {at len : ℕ} (s : Spelt text at len) (f : len ≡ 0
       (words-tested text at statement_words ∙ ap (λ t. pick t (blanks text at) Answer.none) (statement-words (here text at) ∙ h))
 
   -- a word; its blanks play no part, as they are never refused
-  pub deep-lead : IsWord k → (opened text 0).stmt at ≡ refused 3 at
+  pub deep-lead : (k ≡ Name → ⊥) → (opened text 0).stmt at ≡ refused 3 at
   unfolding lexeme
   deep-lead w =
       deep-words true (by-entry (found leads (here text at)) said)
       ∙ after-refused _ _ (after-ok _ _ (ap (λ r. moved at (closed 0 (identifier_length (drop at text)) r)) (W-closed (drop (identifier_length (drop at text)) (drop at text)))))
     where
       by-entry : (o : Option Lead) → k ≡ or_else Name o → any_found o ≡ true
-      by-entry none h = absurd (miss (0 ∷ 1 ∷ 2 ∷ 3 ∷ 4 ∷ 5 ∷ 6 ∷ []) 7 tt (subst IsWord h w))
+      by-entry none h = absurd (w h)
       by-entry (some k) h = refl
 
   -- a name

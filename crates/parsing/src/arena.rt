@@ -3,7 +3,7 @@ ghost use Rattle.std.specs.Prelude.{◌+◌, ◌≤◌, length};
 ghost use Rattle.parsing.specs.Arena.{Noted};
 
 // What a rule that builds a node answers.
-#[derive(Drop)]
+#[derive(Clone, Copy)]
 pub(crate) enum Built {
     // The node, the place after what was read, and the arena's next free word.
     Ok(u32, usize, usize),

@@ -11,14 +11,14 @@ use lexing::{Reach, blanks};
 use tree::MOST_TEXT;
 
 // What a text is read as.
-#[derive(Drop)]
+#[derive(Clone, Copy)]
 pub enum Whole {
     Expression,
     Program,
 }
 
 // What `parse` answers.
-#[derive(Drop)]
+#[derive(Clone, Copy)]
 pub enum Parsed {
     // The tree's node.
     Tree(u32),

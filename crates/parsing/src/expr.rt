@@ -20,7 +20,7 @@ use lexing::Lexed;
 use tree::word::{FALSE, FUNCTION_CALL_EXPR, LABELED_EXPR, LET_EXPR, TRUE};
 
 // `parseExpr`, with `depth` levels left.
-#[cycle(call_chain_cond_expr_imp_juct_label_left_logic_paren_primary_right_arg_bind_item_items_lift_list_marks_param_params_prop_quant_tight_unary_val_word)]
+#[cycle(expression)]
 pub(crate) fn expr(text: &[u8], at: usize, arena: &mut [u32], top: usize, depth: usize) -> Built
     requires { Room text.now arena.old at top 0 }
     ensures { Builds tree_words text.now arena.old arena.new at top 1 0 (inner text.now depth at) result }
@@ -32,7 +32,7 @@ pub(crate) fn expr(text: &[u8], at: usize, arena: &mut [u32], top: usize, depth:
 }
 
 // `parseEquivExpr`, `parseTermExpr` and `parseFactorExpr`: a level whose operators lean left.
-#[cycle(call_chain_cond_expr_imp_juct_label_left_logic_paren_primary_right_arg_bind_item_items_lift_list_marks_param_params_prop_quant_tight_unary_val_word)]
+#[cycle(expression)]
 fn chain(text: &[u8], at: usize, arena: &mut [u32], top: usize, depth: usize, kind: Level) -> Built
     requires { Room text.now arena.old at top 0 }
     ensures { Builds tree_words text.now arena.old arena.new at top 1 0 (left_chain (class_of kind) text.now depth at) result }
@@ -44,7 +44,7 @@ fn chain(text: &[u8], at: usize, arena: &mut [u32], top: usize, depth: usize, ki
     left(text, at, next, arena, top1, e, depth, kind)
 }
 
-#[cycle(call_chain_cond_expr_imp_juct_label_left_logic_paren_primary_right_arg_bind_item_items_lift_list_marks_param_params_prop_quant_tight_unary_val_word)]
+#[cycle(expression)]
 fn imp(text: &[u8], at: usize, arena: &mut [u32], top: usize, depth: usize) -> Built
     requires { Room text.now arena.old at top 0 }
     ensures { Follows parse_imp_exp_expr 0 text.now arena.old arena.new at top depth result }
@@ -60,7 +60,7 @@ fn imp(text: &[u8], at: usize, arena: &mut [u32], top: usize, depth: usize) -> B
     }
 }
 
-#[cycle(call_chain_cond_expr_imp_juct_label_left_logic_paren_primary_right_arg_bind_item_items_lift_list_marks_param_params_prop_quant_tight_unary_val_word)]
+#[cycle(expression)]
 fn logic(text: &[u8], at: usize, arena: &mut [u32], top: usize, depth: usize) -> Built
     requires { Room text.now arena.old at top 0 }
     ensures { Follows parse_logical_expr 0 text.now arena.old arena.new at top depth result }
@@ -76,7 +76,7 @@ fn logic(text: &[u8], at: usize, arena: &mut [u32], top: usize, depth: usize) ->
     }
 }
 
-#[cycle(call_chain_cond_expr_imp_juct_label_left_logic_paren_primary_right_arg_bind_item_items_lift_list_marks_param_params_prop_quant_tight_unary_val_word)]
+#[cycle(expression)]
 fn juct(text: &[u8], at: usize, arena: &mut [u32], top: usize, depth: usize) -> Built
     requires { Room text.now arena.old at top 0 }
     ensures { Follows parse_juct_expr 0 text.now arena.old arena.new at top depth result }
@@ -100,7 +100,7 @@ fn juct(text: &[u8], at: usize, arena: &mut [u32], top: usize, depth: usize) -> 
 }
 
 // The rule of a level's operands.
-#[cycle(call_chain_cond_expr_imp_juct_label_left_logic_paren_primary_right_arg_bind_item_items_lift_list_marks_param_params_prop_quant_tight_unary_val_word)]
+#[cycle(expression)]
 fn tight(text: &[u8], at: usize, arena: &mut [u32], top: usize, depth: usize, kind: Level) -> Built
     requires { Room text.now arena.old at top 0 }
     ensures { Builds tree_words text.now arena.old arena.new at top 1 0 (tighter_of (class_of kind) text.now depth at) result }
@@ -118,7 +118,7 @@ fn tight(text: &[u8], at: usize, arena: &mut [u32], top: usize, depth: usize, ki
 }
 
 // After the operand `first`, read from `start`: the rest of a chain that leans left.
-#[cycle(call_chain_cond_expr_imp_juct_label_left_logic_paren_primary_right_arg_bind_item_items_lift_list_marks_param_params_prop_quant_tight_unary_val_word)]
+#[cycle(expression)]
 fn left(
     text: &[u8],
     start: usize,
@@ -159,7 +159,7 @@ fn left(
 }
 
 // After the operand `first`, read from `start`: the rest of a chain of `==>`.
-#[cycle(call_chain_cond_expr_imp_juct_label_left_logic_paren_primary_right_arg_bind_item_items_lift_list_marks_param_params_prop_quant_tight_unary_val_word)]
+#[cycle(expression)]
 fn right(
     text: &[u8],
     start: usize,
@@ -200,7 +200,7 @@ fn right(
     }
 }
 
-#[cycle(call_chain_cond_expr_imp_juct_label_left_logic_paren_primary_right_arg_bind_item_items_lift_list_marks_param_params_prop_quant_tight_unary_val_word)]
+#[cycle(expression)]
 fn unary(text: &[u8], start: usize, arena: &mut [u32], free: usize, depth: usize) -> Built
     requires { Room text.now arena.old start free 0 }
     ensures { Follows parse_unary_expr 0 text.now arena.old arena.new start free depth result }
@@ -234,7 +234,7 @@ fn unary(text: &[u8], start: usize, arena: &mut [u32], free: usize, depth: usize
     fold(arena, top1, link, e, next)
 }
 
-#[cycle(call_chain_cond_expr_imp_juct_label_left_logic_paren_primary_right_arg_bind_item_items_lift_list_marks_param_params_prop_quant_tight_unary_val_word)]
+#[cycle(expression)]
 fn primary(text: &[u8], at: usize, arena: &mut [u32], top: usize, depth: usize) -> Built
     requires { Room text.now arena.old at top 0 }
     ensures { Follows parse_primary_expr 0 text.now arena.old arena.new at top depth result }
@@ -260,7 +260,7 @@ fn primary(text: &[u8], at: usize, arena: &mut [u32], top: usize, depth: usize) 
 }
 
 // What begins with the word `w`.
-#[cycle(call_chain_cond_expr_imp_juct_label_left_logic_paren_primary_right_arg_bind_item_items_lift_list_marks_param_params_prop_quant_tight_unary_val_word)]
+#[cycle(expression)]
 fn word(text: &[u8], w: Word, arena: &mut [u32], top: usize, depth: usize) -> Built
     requires room { Room text.now arena.old w.at top 0 }
     requires worded { Worded text.now w }
@@ -293,7 +293,7 @@ fn word(text: &[u8], w: Word, arena: &mut [u32], top: usize, depth: usize) -> Bu
 }
 
 // After the name `f` and `(`.
-#[cycle(call_chain_cond_expr_imp_juct_label_left_logic_paren_primary_right_arg_bind_item_items_lift_list_marks_param_params_prop_quant_tight_unary_val_word)]
+#[cycle(expression)]
 fn call(text: &[u8], f: Word, at: usize, arena: &mut [u32], top: usize, depth: usize) -> Built
     requires room { Room text.now arena.old at top 16 }
     requires worded { Worded text.now f }
@@ -315,7 +315,7 @@ fn call(text: &[u8], f: Word, at: usize, arena: &mut [u32], top: usize, depth: u
 }
 
 // After the name `l` that no `(` follows.
-#[cycle(call_chain_cond_expr_imp_juct_label_left_logic_paren_primary_right_arg_bind_item_items_lift_list_marks_param_params_prop_quant_tight_unary_val_word)]
+#[cycle(expression)]
 fn label(text: &[u8], l: Word, arena: &mut [u32], top: usize, depth: usize) -> Built
     requires room { Room text.now arena.old l.next top 4 }
     requires worded { Worded text.now l }
@@ -334,7 +334,7 @@ fn label(text: &[u8], l: Word, arena: &mut [u32], top: usize, depth: usize) -> B
 }
 
 // `(`, an expression and `)`.
-#[cycle(call_chain_cond_expr_imp_juct_label_left_logic_paren_primary_right_arg_bind_item_items_lift_list_marks_param_params_prop_quant_tight_unary_val_word)]
+#[cycle(expression)]
 fn paren(text: &[u8], at: usize, arena: &mut [u32], top: usize, depth: usize) -> Built
     requires { Room text.now arena.old at top 0 }
     ensures { Builds tree_words text.now arena.old arena.new at top 1 0 (paren_expr text.now (inner text.now depth) at) result }
@@ -351,7 +351,7 @@ fn paren(text: &[u8], at: usize, arena: &mut [u32], top: usize, depth: usize) ->
 }
 
 // After `if`.
-#[cycle(call_chain_cond_expr_imp_juct_label_left_logic_paren_primary_right_arg_bind_item_items_lift_list_marks_param_params_prop_quant_tight_unary_val_word)]
+#[cycle(expression)]
 fn cond(text: &[u8], at: usize, arena: &mut [u32], top: usize, depth: usize) -> Built
     requires { Room text.now arena.old at top 0 }
     ensures { Builds tree_words text.now arena.old arena.new at top 1 0 (after_if text.now (inner text.now depth) at) result }
@@ -376,7 +376,7 @@ fn cond(text: &[u8], at: usize, arena: &mut [u32], top: usize, depth: usize) -> 
 }
 
 // After `val`.
-#[cycle(call_chain_cond_expr_imp_juct_label_left_logic_paren_primary_right_arg_bind_item_items_lift_list_marks_param_params_prop_quant_tight_unary_val_word)]
+#[cycle(expression)]
 fn val(text: &[u8], at: usize, arena: &mut [u32], top: usize, depth: usize) -> Built
     requires { Room text.now arena.old at top 0 }
     ensures { Builds tree_words text.now arena.old arena.new at top 1 0 (after_val text.now (inner text.now depth) at) result }

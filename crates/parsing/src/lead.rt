@@ -7,7 +7,7 @@ ghost use Rattle.parsing.specs.Leads.{classed, of_length, leads, lead_of};
 use lexing::same_bytes;
 
 // What a statement begins with: one of the words, or a name.
-#[derive(Drop)]
+#[derive(Clone, Copy)]
 pub(crate) enum Lead {
     Var,
     Val,
@@ -20,7 +20,7 @@ pub(crate) enum Lead {
 }
 
 // The words that begin a statement that holds no statement.
-#[derive(Drop)]
+#[derive(Clone, Copy)]
 pub(crate) enum Simple {
     Reinit,
     Exit,

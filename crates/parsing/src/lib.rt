@@ -1,4 +1,7 @@
 // The reading rules of B3: the tree of a whole text, built in an arena.
+
+#![tactic(auto)]
+
 mod arena;
 mod build;
 mod decl;

@@ -16,7 +16,7 @@ use crate::step::{after_word, word_length};
 use lexing::{Lexed, same_bytes};
 
 // The kinds of declarations.
-#[derive(Drop)]
+#[derive(Clone, Copy)]
 pub(crate) enum DeclKind {
     Types,
     Taggers,
@@ -26,7 +26,7 @@ pub(crate) enum DeclKind {
 }
 
 // What a word begins.
-#[derive(Drop)]
+#[derive(Clone, Copy)]
 pub(crate) enum Head {
     // A declaration of this kind.
     Of(DeclKind),
@@ -35,7 +35,7 @@ pub(crate) enum Head {
 }
 
 // The word that begins a declaration.
-#[derive(Drop)]
+#[derive(Clone, Copy)]
 pub(crate) enum Led {
     // The declaration's kind, and the place after the word.
     Ok(DeclKind, usize),
@@ -46,7 +46,7 @@ pub(crate) enum Led {
 }
 
 // The last node of each sequence, 0 where it has no items.
-#[derive(Drop)]
+#[derive(Clone, Copy)]
 pub(crate) struct Lists {
     pub(crate) types: u32,
     pub(crate) taggers: u32,

@@ -13,7 +13,7 @@ use tree::word::{
 };
 
 // The levels of binary operators.
-#[derive(Drop)]
+#[derive(Clone, Copy)]
 pub(crate) enum Level {
     Product,
     Sum,
@@ -26,7 +26,7 @@ pub(crate) enum Level {
 }
 
 // An operator at a place.
-#[derive(Drop)]
+#[derive(Clone, Copy)]
 pub(crate) enum Sign {
     // Its word, whether its operands swap, and the place after it.
     Found(u32, bool, usize),

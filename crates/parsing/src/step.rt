@@ -11,7 +11,7 @@ ghost use Rattle.parsing.specs.Leads.{Spelt, Passes};
 use lexing::Lexed;
 
 // A word or name at `at`, of `len` bytes, and the place after its blanks.
-#[derive(Drop)]
+#[derive(Clone, Copy)]
 pub(crate) struct Word {
     pub(crate) at: usize,
     pub(crate) len: usize,

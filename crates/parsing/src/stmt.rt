@@ -20,7 +20,7 @@ use lexing::refusal::LEVEL_TOO_DEEP;
 use tree::word::{A_ASSERTION, A_EXPR, A_FORALL, BLOCK, FALSE, LABELED_STMT, LOOP, TRUE};
 
 // What is repeated.
-#[derive(Drop)]
+#[derive(Clone, Copy)]
 pub(crate) enum Repeated {
     Stmts,
     Nested,
@@ -32,7 +32,7 @@ pub(crate) enum Repeated {
     Whens,
 }
 
-#[cycle(aexpr_branch_case_choose_cond_cont_els_elsif_block_forall_label_looped_many_named_nested_one_scope_stmt_var_word)]
+#[cycle(statement)]
 fn one(text: &[u8], at: usize, arena: &mut [u32], top: usize, depth: usize, kind: Repeated) -> Built
     requires { Room text.now arena.old at top 0 }
     ensures { Leaves (repeated_words kind) text.now arena.old arena.new at top (repeated_rule kind text.now depth at) result }
@@ -50,7 +50,7 @@ fn one(text: &[u8], at: usize, arena: &mut [u32], top: usize, depth: usize, kind
 }
 
 // `.Rep()`.
-#[cycle(aexpr_branch_case_choose_cond_cont_els_elsif_block_forall_label_looped_many_named_nested_one_scope_stmt_var_word)]
+#[cycle(statement)]
 pub(crate) fn many(
     text: &[u8],
     start: usize,
@@ -84,7 +84,7 @@ pub(crate) fn many(
 }
 
 // "block" of `stmtGallery`.
-#[cycle(aexpr_branch_case_choose_cond_cont_els_elsif_block_forall_label_looped_many_named_nested_one_scope_stmt_var_word)]
+#[cycle(statement)]
 pub(crate) fn block(text: &[u8], at: usize, arena: &mut [u32], top: usize, depth: usize) -> Built
     requires { Room text.now arena.old at top 0 }
     ensures { Leaves (stmt_words same) text.now arena.old arena.new at top ((opened text.now depth).block at) result }
@@ -108,7 +108,7 @@ pub(crate) fn block(text: &[u8], at: usize, arena: &mut [u32], top: usize, depth
 }
 
 // After `loop`, which stands at `start`: its invariants and its body.
-#[cycle(aexpr_branch_case_choose_cond_cont_els_elsif_block_forall_label_looped_many_named_nested_one_scope_stmt_var_word)]
+#[cycle(statement)]
 fn looped(
     text: &[u8],
     at: usize,
@@ -136,7 +136,7 @@ fn looped(
 }
 
 // "stmt" of `stmtGallery`.
-#[cycle(aexpr_branch_case_choose_cond_cont_els_elsif_block_forall_label_looped_many_named_nested_one_scope_stmt_var_word)]
+#[cycle(statement)]
 fn nested(text: &[u8], at: usize, arena: &mut [u32], top: usize, depth: usize) -> Built
     requires { Room text.now arena.old at top 0 }
     ensures { Leaves (stmt_words same) text.now arena.old arena.new at top ((opened text.now depth).stmt at) result }
@@ -148,7 +148,7 @@ fn nested(text: &[u8], at: usize, arena: &mut [u32], top: usize, depth: usize) -
 }
 
 // `parseStmt`.
-#[cycle(aexpr_branch_case_choose_cond_cont_els_elsif_block_forall_label_looped_many_named_nested_one_scope_stmt_var_word)]
+#[cycle(statement)]
 fn stmt(text: &[u8], at: usize, arena: &mut [u32], top: usize, depth: usize) -> Built
     requires { Room text.now arena.old at top 0 }
     ensures { Leaves (stmt_words same) text.now arena.old arena.new at top (parse_stmt text.now (turns text.now) (opened text.now depth) at) result }
@@ -173,7 +173,7 @@ fn stmt(text: &[u8], at: usize, arena: &mut [u32], top: usize, depth: usize) -> 
 }
 
 // A statement that begins with the word `w`, by its lead.
-#[cycle(aexpr_branch_case_choose_cond_cont_els_elsif_block_forall_label_looped_many_named_nested_one_scope_stmt_var_word)]
+#[cycle(statement)]
 fn word(text: &[u8], w: Word, arena: &mut [u32], top: usize, depth: usize, lead: Lead) -> Built
     requires room { Room text.now arena.old w.at top 0 }
     requires worded { Worded text.now w }
@@ -193,7 +193,7 @@ fn word(text: &[u8], w: Word, arena: &mut [u32], top: usize, depth: usize, lead:
 }
 
 // A statement that begins with the name `w` and a mark.
-#[cycle(aexpr_branch_case_choose_cond_cont_els_elsif_block_forall_label_looped_many_named_nested_one_scope_stmt_var_word)]
+#[cycle(statement)]
 fn named(text: &[u8], w: Word, arena: &mut [u32], top: usize, depth: usize) -> Built
     requires room { Room text.now arena.old w.next top 8 }
     requires worded { Worded text.now w }
@@ -211,7 +211,7 @@ fn named(text: &[u8], w: Word, arena: &mut [u32], top: usize, depth: usize) -> B
 }
 
 // After the name `w`: `:`, and a block or a loop.
-#[cycle(aexpr_branch_case_choose_cond_cont_els_elsif_block_forall_label_looped_many_named_nested_one_scope_stmt_var_word)]
+#[cycle(statement)]
 fn label(text: &[u8], w: Word, arena: &mut [u32], top: usize, depth: usize) -> Built
     requires room { Room text.now arena.old w.next top 8 }
     requires worded { Worded text.now w }
@@ -230,7 +230,7 @@ fn label(text: &[u8], w: Word, arena: &mut [u32], top: usize, depth: usize) -> B
 }
 
 // A block or a loop.
-#[cycle(aexpr_branch_case_choose_cond_cont_els_elsif_block_forall_label_looped_many_named_nested_one_scope_stmt_var_word)]
+#[cycle(statement)]
 fn scope(text: &[u8], at: usize, arena: &mut [u32], top: usize, depth: usize) -> Built
     requires { Room text.now arena.old at top 0 }
     ensures { Leaves (stmt_words same) text.now arena.old arena.new at top (scope_stmt text.now depth at) result }
@@ -247,7 +247,7 @@ fn scope(text: &[u8], at: usize, arena: &mut [u32], top: usize, depth: usize) ->
 }
 
 // After `var` or `val`.
-#[cycle(aexpr_branch_case_choose_cond_cont_els_elsif_block_forall_label_looped_many_named_nested_one_scope_stmt_var_word)]
+#[cycle(statement)]
 fn var(text: &[u8], at: usize, arena: &mut [u32], top: usize, depth: usize, mutable: u32) -> Built
     requires room { Room text.now arena.old at top 24 }
     requires mutable_bound { mutable ≤ 1 }
@@ -266,7 +266,7 @@ fn var(text: &[u8], at: usize, arena: &mut [u32], top: usize, depth: usize, muta
 }
 
 // After `forall`.
-#[cycle(aexpr_branch_case_choose_cond_cont_els_elsif_block_forall_label_looped_many_named_nested_one_scope_stmt_var_word)]
+#[cycle(statement)]
 fn forall(text: &[u8], at: usize, arena: &mut [u32], top: usize, depth: usize) -> Built
     requires { Room text.now arena.old at top 8 }
     ensures { Builds (stmt_words same) text.now arena.old arena.new at top 1 8 (after_forall text.now (turns text.now) (opened text.now depth) at) result }
@@ -284,7 +284,7 @@ fn forall(text: &[u8], at: usize, arena: &mut [u32], top: usize, depth: usize) -
 }
 
 // `parseAExpr`.
-#[cycle(aexpr_branch_case_choose_cond_cont_els_elsif_block_forall_label_looped_many_named_nested_one_scope_stmt_var_word)]
+#[cycle(statement)]
 fn aexpr(text: &[u8], at: usize, arena: &mut [u32], top: usize, depth: usize, w: &[u8]) -> Built
     requires room { Room text.now arena.old at top 0 }
     requires in_bounds { 7 ≤ length w.now }

@@ -13,27 +13,18 @@ use Rattle.lexing.specs.Answer.{pick}
 use Rattle.lexing.specs.RunLaws.{pick-cases}
 use Rattle.rendering.specs.declared.Rendered.{Rendered}
 use Rattle.rendering.specs.declared.Rendered.TheVariants.{Bytes, Refused}
-use Rattle.tree.specs.Held.{Held, held, refused}
-use Rattle.rendering.specs.Tables.{Printable, held_for}
+use Rattle.rendering.specs.Tables.{Printable, Held, held, refused, held_by}
 use Rattle.rendering.specs.Render.{print_too_long, Made, Gives, Renders}
 use Rattle.printing.specs.Entries.{most_print, Outcome, written, refusal, stored, print_held, print_table}
 use Rattle.printing.specs.Delivery.{delivered}
 
 -- ---- from a buffer to the output
 
-module _ (buffer : List ℕ) (n : ℕ) (out : List ℕ) (b : n ≤ length buffer) where
-  -- how many bytes are handed over
-  pub front : length (take n buffer) ≡ n
-  front = simp length-take (omega arith)
-
+module _ (buffer : List ℕ) (n : ℕ) (out : List ℕ) where
   -- where the output has room for them they are copied
-  pub copied : {out' : List ℕ} → n ≤ length out
-      → out' ≡ take (length (take n buffer)) (take n buffer) ++ drop (length (take n buffer)) out → written n out' ≡ delivered buffer n out
+  pub copied : {first : List ℕ} → n ≤ length out → first ≡ take n buffer → written n (first ++ drop n out) ≡ delivered buffer n out
   unfolding delivered
-  copied {out'} h e =
-      let f : out' ≡ take n buffer ++ drop n out =
-      e ∙ ap (λ (l : List ℕ). l ++ drop (length (take n buffer)) out) (take-length (take n buffer)) ∙ ap (λ (k : ℕ). take n buffer ++ drop k out) front in
-      ap (written n) f ∙ sym (simp (le-leb n (length out) h))
+  copied h e = ap (λ (l : List ℕ). written n (l ++ drop n out)) e ∙ sym (simp (le-leb n (length out) h))
 
   -- an output that is too short is refused
   pub too_short : length out < n → refusal print_too_long 0 out ≡ delivered buffer n out
@@ -96,20 +87,20 @@ module _ (P : Printable) (b b' : List ℕ) where
 -- ---- by what `render` ensures
 
 module _ {P : Printable} {text words b b' : List ℕ} {r : Rendered} (x : Renders P text words b r b') where
-  by_answer : {q : Rendered} → r ≡ q → Gives P b q b' (held_for P text words)
-  by_answer e = subst (λ (q : Rendered). Gives P b q b' (held_for P text words)) e x.gives
+  by_answer : {q : Rendered} → r ≡ q → Gives P b q b' (held_by P text words)
+  by_answer e = subst (λ (q : Rendered). Gives P b q b' (held_by P text words)) e x.gives
 
   -- the first n bytes of the buffer are the print
   pub there : {n : ℕ} → r ≡ Bytes n → n ≤ length b'
-  there {n} e = bytes-there P b b' n (held_for P text words) (by_answer e)
+  there {n} e = bytes-there P b b' n (held_by P text words) (by_answer e)
 
   module _ (out : List ℕ) (h : length b ≤ most_print) (k : min (length out) most_print ≤ length b) where
     -- they are handed over
     pub handed : {n : ℕ} {o : Outcome} → r ≡ Bytes n → o ≡ delivered b' n out → o ≡ print_table P text words out
     unfolding print_table
-    handed {n} e d = d ∙ print-stored P b b' out h k n (held_for P text words) (by_answer e)
+    handed {n} e d = d ∙ print-stored P b b' out h k n (held_by P text words) (by_answer e)
 
     -- so is a refusal
     pub refused-too : {number place : ℕ} → r ≡ Refused number place → refusal number place out ≡ print_table P text words out
     unfolding print_table
-    refused-too {number} {place} e = print-refused P b b' out h k number place (held_for P text words) (by_answer e)
+    refused-too {number} {place} e = print-refused P b b' out h k number place (held_by P text words) (by_answer e)

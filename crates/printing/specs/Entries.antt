@@ -2,8 +2,7 @@
 use Rattle.std.specs.Prelude.{ℕ, ◌≤◌, ◌≡◌, ◌&&◌, List, ◌++◌, length, drop, leb}
 use Rattle.lexing.specs.Answer.{pick}
 use Rattle.layout.specs.declared.format.ExprFormatOption.{ExprFormatOption}
-use Rattle.tree.specs.Held.{Held, held, refused}
-use Rattle.rendering.specs.Tables.{Printable, expressions, programs, held_for}
+use Rattle.rendering.specs.Tables.{Printable, expressions, programs, Held, held, refused, held_by}
 use Rattle.rendering.specs.Render.{print_too_long}
 use Rattle.printing.specs.declared.Printed.{Printed}
 use Rattle.printing.specs.declared.Printed.TheVariants.{Written, Refused}
@@ -36,7 +35,7 @@ module _ (P : Printable) where
   print_held (refused number place) out = refusal number place out
 
   unfoldable pub print_table : (text words out : List ℕ) → Outcome
-  print_table text words out = print_held (held_for P text words) out
+  print_table text words out = print_held (held_by P text words) out
 
   -- the contract of a print: its answer r and the output afterwards
   abbrev pub Answered : (text words out : List ℕ) → Printed → (out' : List ℕ) → Type 0

@@ -2,8 +2,7 @@
 use Rattle.std.specs.Prelude.{◌≡◌, ℕ, ◌≤◌, List, length}
 use Rattle.std.proofs.Common.{ap}
 use Rattle.tree.specs.Limits.{most_text, most_words}
-use Rattle.tree.specs.Held.{Held}
-use Rattle.rendering.specs.Tables.{most_indent, Printable}
+use Rattle.rendering.specs.Tables.{most_indent, Printable, Held}
 use Rattle.rendering.specs.TableLaws.{Lawful, holds}
 use Rattle.printing.specs.Entries.{stored, print_held, print_table}
 

@@ -9,9 +9,8 @@ use borrow.Author.Tests.{leb-true, le-leb}
 use Rattle.lexing.specs.RunLaws.{pick-cases, both_true}
 use Rattle.tree.specs.Clash.{impossible}
 use Rattle.tree.specs.Check.{Refusal, oversized, misfitting}
-use Rattle.tree.specs.Held.{Held}
-use Rattle.rendering.specs.Tables.{Printable, Within}
-use Rattle.tree.specs.HeldLaws as tables
+use Rattle.rendering.specs.Tables.{Printable, Held, Within}
+use Rattle.rendering.specs.TableLaws as tables
 use Rattle.rendering.specs.TableLaws.{Lawful, Table, table}
 use Rattle.rendering.specs.Render.{print_too_long}
 use Rattle.printing.specs.declared.Printed.{Printed}
@@ -64,7 +63,7 @@ module _ (P : Printable) (L : Lawful P) (text words out : List ℕ) (r : Printed
   -- every answer is one of the four
   pub cases : Answered P text words out r out' → Answer P text words out r out'
   unfolding print_table
-  cases a = of-table (table P text words L) (sym a)
+  cases a = of-table (table P L text words) (sym a)
 
 -- a refusal has one place
 same_place : {q : Option Refusal} {p p' : ℕ} → q ≡ some (record { number = misfitting; place = p }) → q ≡ some (record { number = misfitting; place = p' }) → p ≡ p'

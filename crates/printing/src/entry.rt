@@ -6,7 +6,6 @@ ghost use Rattle.printing.specs.Entries.{most_print, outcome_of, Answered, Print
 ghost use Rattle.printing.specs.Delivery.{delivered};
 
 use crate::Printed;
-use bytes::copy;
 use layout::ExprFormatOption;
 use rendering::{PRINT_TOO_LONG, Rendered, Root, render};
 
@@ -82,6 +81,6 @@ fn deliver(buffer: &[u8], n: usize, out: &mut [u8]) -> Printed
     if out.len() < n {
         return Printed::Refused(PRINT_TOO_LONG, 0);
     }
-    copy(&buffer[..n], out);
+    out[..n].copy_from_slice(&buffer[..n]);
     Printed::Written(n)
 }

@@ -1,10 +1,13 @@
 // The prints of B3.
+
+#![tactic(auto)]
+
 mod entry;
 
 pub use entry::{print_expression, print_expression_lines, print_program};
 
 // What a print answers.
-#[derive(Drop)]
+#[derive(Clone, Copy)]
 pub enum Printed {
     // How many bytes the print has.
     Written(usize),

@@ -13,7 +13,7 @@ use parsing::{Parsed, Whole, parse};
 use tree::{MOST_TEXT, MOST_WORDS};
 
 // What reading answers: `outcomeOf` in specs/TreeRead.antt gives the number and values of each case (REFERENCE, "The entries").
-#[derive(Drop)]
+#[derive(Clone, Copy)]
 pub enum Reading {
     // How many words the tree has.
     Words(usize),

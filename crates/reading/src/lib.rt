@@ -1,4 +1,7 @@
 // Reading B3 expressions and programs.
+
+#![tactic(auto)]
+
 mod entry;
 mod flat;
 

@@ -15,8 +15,7 @@ use Rattle.rendering.specs.declared.Rendered.{Rendered}
 use Rattle.rendering.specs.declared.Rendered.TheVariants.{Bytes, Refused}
 use Rattle.rendering.specs.declared.Root.{Root}
 use Rattle.rendering.specs.declared.Root.TheVariants.{AnExpression, AProgram}
-use Rattle.tree.specs.Held.{Held, held, refused}
-use Rattle.rendering.specs.Tables.{most_indent, Printable, print_of, program_print_of, held_for, Within}
+use Rattle.rendering.specs.Tables.{most_indent, Printable, print_of, program_print_of, Held, held, refused, held_by, Within}
 use Rattle.rendering.specs.TableLaws.{Lawful, expression-laws, program-laws, holds, refuses, long-text, deep-indent}
 use Rattle.rendering.specs.Wrote.{Wrote}
 use Rattle.rendering.specs.Parts.{Prints}
@@ -114,7 +113,7 @@ module _ (step : ℕ) (root : Root) (text words b b' : List ℕ) where
   P = rooted step text root
 
   -- what the table is refused by
-  by-held : {r : Rendered} (h : Held P.Tree) → held_for P text words ≡ h → Gives P b r b' h → Renders P text words b r b'
+  by-held : {r : Rendered} (h : Held P.Tree) → held_by P text words ≡ h → Gives P b r b' h → Renders P text words b r b'
   by-held {r} h e g = record { gives = subst (λ (x : Held P.Tree). Gives P b r b' x) (sym e) g }
 
   -- a text that is too long, and a start indent that is too large, are refused by 6

@@ -5,18 +5,17 @@ use Rattle.std.proofs.Common.{◌∙◌, le-leb}
 use Rattle.std.proofs.lemmas.Bool.{lt-leb}
 use Rattle.rendering.specs.declared.Rendered.{Rendered}
 use Rattle.rendering.specs.declared.Rendered.TheVariants.{Bytes, Refused}
-use Rattle.tree.specs.Held.{refused}
-use Rattle.rendering.specs.Tables.{Printable, held_for, Within}
+use Rattle.rendering.specs.Tables.{Printable, refused, held_by, Within}
 use Rattle.rendering.specs.TableLaws.{Lawful, Table, table, holds}
 use Rattle.rendering.specs.Render.{print_too_long, Made, Renders}
 
 -- Every table is one of the three; which, its words and the limits decide.
-pub table-cases : (P : Printable) → Lawful P → (text words : List ℕ) → Table P text words (held_for P text words)
-table-cases P L text words = table P text words L
+pub table-cases : (P : Printable) → Lawful P → (text words : List ℕ) → Table P text words (held_by P text words)
+table-cases P L text words = table P L text words
 
 module _ (P : Printable) (text words b : List ℕ) (r : Rendered) (b' : List ℕ) (h : Renders P text words b r b') where
   -- A refused table is refused so.
-  pub refused-so : (number place : ℕ) → held_for P text words ≡ refused number place → r ≡ Refused number place
+  pub refused-so : (number place : ℕ) → held_by P text words ≡ refused number place → r ≡ Refused number place
   refused-so number place e = rw e at h.gives
 
   -- of a table that holds a tree

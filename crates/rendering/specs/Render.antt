@@ -10,8 +10,7 @@ use Rattle.rendering.specs.declared.Rendered.TheVariants.{Bytes, Refused}
 use Rattle.rendering.specs.declared.Root.{Root}
 use Rattle.rendering.specs.declared.Root.TheVariants.{AnExpression, AProgram}
 use Rattle.layout.specs.PrintUtil.{start_indent, Init}
-use Rattle.tree.specs.Held.{Held, held, refused}
-use Rattle.rendering.specs.Tables.{Printable, expressions, programs, held_for}
+use Rattle.rendering.specs.Tables.{Printable, expressions, programs, Held, held, refused, held_by}
 use Rattle.rendering.specs.Parts.{Part}
 use Rattle.rendering.specs.ExprParts.{an_expr}
 use Rattle.rendering.specs.DeclParts.{a_program}
@@ -64,7 +63,7 @@ Gives P b r b' (refused number place) = r ≡ Refused number place
 -- What `render` ensures of its answer r and the buffer b, which becomes b'. The buffer's bytes that no print occupies are free, after a refusal
 -- all of them.
 pub record Renders (P : Printable) (text words b : List ℕ) (r : Rendered) (b' : List ℕ) : Type 0 where
-  pub gives : Gives P b r b' (held_for P text words)
+  pub gives : Gives P b r b' (held_by P text words)
 
 -- the same by the tree whose words a checked table has
 pub record Makes (P : Printable) (words b : List ℕ) (r : Rendered) (b' : List ℕ) : Type 0 where

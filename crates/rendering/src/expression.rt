@@ -22,7 +22,7 @@ use tree::word::{
 };
 
 // An expression.
-#[cycle(binary_call_cond_expr_form_label_let_expr_lift_closures_exprs_patterns_properties_triggers_listed_oper_quant_unary)]
+#[cycle(expression)]
 pub(crate) fn expr(
     text: &[u8],
     words: &[u32],
@@ -48,7 +48,7 @@ pub(crate) fn expr(
 }
 
 // OperatorExpr.
-#[cycle(binary_call_cond_expr_form_label_let_expr_lift_closures_exprs_patterns_properties_triggers_listed_oper_quant_unary)]
+#[cycle(expression)]
 fn oper(
     text: &[u8],
     words: &[u32],
@@ -73,7 +73,7 @@ fn oper(
 }
 
 // The alternative of an operator by the number of its operands.
-#[cycle(binary_call_cond_expr_form_label_let_expr_lift_closures_exprs_patterns_properties_triggers_listed_oper_quant_unary)]
+#[cycle(expression)]
 fn form(
     text: &[u8],
     words: &[u32],
@@ -96,7 +96,7 @@ fn form(
     }
 }
 
-#[cycle(binary_call_cond_expr_form_label_let_expr_lift_closures_exprs_patterns_properties_triggers_listed_oper_quant_unary)]
+#[cycle(expression)]
 fn unary(
     text: &[u8],
     words: &[u32],
@@ -130,7 +130,7 @@ fn unary(
     }
 }
 
-#[cycle(binary_call_cond_expr_form_label_let_expr_lift_closures_exprs_patterns_properties_triggers_listed_oper_quant_unary)]
+#[cycle(expression)]
 fn binary(
     text: &[u8],
     words: &[u32],
@@ -170,7 +170,7 @@ fn binary(
 }
 
 // IfThenElse of three operands.
-#[cycle(binary_call_cond_expr_form_label_let_expr_lift_closures_exprs_patterns_properties_triggers_listed_oper_quant_unary)]
+#[cycle(expression)]
 fn cond(
     text: &[u8],
     words: &[u32],
@@ -232,7 +232,7 @@ fn cond(
 }
 
 // `op(args)`.
-#[cycle(binary_call_cond_expr_form_label_let_expr_lift_closures_exprs_patterns_properties_triggers_listed_oper_quant_unary)]
+#[cycle(expression)]
 fn listed(
     text: &[u8],
     words: &[u32],
@@ -254,7 +254,7 @@ fn listed(
 }
 
 // FunctionCallExpr.
-#[cycle(binary_call_cond_expr_form_label_let_expr_lift_closures_exprs_patterns_properties_triggers_listed_oper_quant_unary)]
+#[cycle(expression)]
 fn call(
     text: &[u8],
     words: &[u32],
@@ -276,7 +276,7 @@ fn call(
 }
 
 // LabeledExpr.
-#[cycle(binary_call_cond_expr_form_label_let_expr_lift_closures_exprs_patterns_properties_triggers_listed_oper_quant_unary)]
+#[cycle(expression)]
 fn label(
     text: &[u8],
     words: &[u32],
@@ -301,7 +301,7 @@ fn label(
 }
 
 // LetExpr.
-#[cycle(binary_call_cond_expr_form_label_let_expr_lift_closures_exprs_patterns_properties_triggers_listed_oper_quant_unary)]
+#[cycle(expression)]
 fn let_expr(
     text: &[u8],
     words: &[u32],
@@ -338,7 +338,7 @@ fn let_expr(
 }
 
 // QuantifierExpr.
-#[cycle(binary_call_cond_expr_form_label_let_expr_lift_closures_exprs_patterns_properties_triggers_listed_oper_quant_unary)]
+#[cycle(expression)]
 fn quant(
     text: &[u8],
     words: &[u32],
@@ -366,7 +366,7 @@ fn quant(
 }
 
 // ClosureExpr.
-#[cycle(binary_call_cond_expr_form_label_let_expr_lift_closures_exprs_patterns_properties_triggers_listed_oper_quant_unary)]
+#[cycle(expression)]
 fn lift(
     text: &[u8],
     words: &[u32],

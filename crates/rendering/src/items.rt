@@ -107,7 +107,7 @@ pub(crate) fn name_head(
     }
 }
 
-#[derive(Drop)]
+#[derive(Clone, Copy)]
 pub enum Item {
     Name,
     // A call's argument.

@@ -1,4 +1,7 @@
 // The prints of B3 in a buffer.
+
+#![tactic(auto)]
+
 mod around;
 mod entry;
 mod expression;
@@ -15,7 +18,7 @@ pub use entry::{PRINT_TOO_LONG, render};
 use layout::ExprFormatOption;
 
 // The tree that a table is to hold.
-#[derive(Drop)]
+#[derive(Clone, Copy)]
 pub enum Root {
     // An expression, printed in a format.
     AnExpression(ExprFormatOption),
@@ -23,7 +26,7 @@ pub enum Root {
 }
 
 // What `render` answers.
-#[derive(Drop)]
+#[derive(Clone, Copy)]
 pub enum Rendered {
     // How many bytes the print has.
     Bytes(usize),

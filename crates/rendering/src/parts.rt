@@ -13,7 +13,7 @@ use tree::word::{
 };
 use tree::{get, name, natural};
 
-#[derive(Drop)]
+#[derive(Clone, Copy)]
 pub struct Advance {
     // The place after the words that were printed.
     pub next: usize,

@@ -14,7 +14,7 @@ use layout::{BindingPower, ExprFormatOption};
 use tree::get;
 use tree::word::NO_MORE;
 
-#[derive(Drop)]
+#[derive(Clone, Copy)]
 pub enum DeclKind {
     Types,
     Taggers,

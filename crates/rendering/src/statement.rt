@@ -23,7 +23,7 @@ use tree::word::{
 };
 
 // A statement without its initial indent. `followed`: it is followed by a `}`.
-#[cycle(aexpr_block_braces_by_case_choose_cond_forall_inner_label_aexprs_branches_cases_list_stmts_looped_onward_stmt_var)]
+#[cycle(statement)]
 pub(crate) fn stmt(
     text: &[u8],
     words: &[u32],
@@ -51,7 +51,7 @@ pub(crate) fn stmt(
 }
 
 // VarDecl: `VariableDeclaration`, in braces of its own where no `}` follows.
-#[cycle(aexpr_block_braces_by_case_choose_cond_forall_inner_label_aexprs_branches_cases_list_stmts_looped_onward_stmt_var)]
+#[cycle(statement)]
 fn var(
     text: &[u8],
     words: &[u32],
@@ -77,7 +77,7 @@ fn var(
 }
 
 // `BlockAsStatementList`.
-#[cycle(aexpr_block_braces_by_case_choose_cond_forall_inner_label_aexprs_branches_cases_list_stmts_looped_onward_stmt_var)]
+#[cycle(statement)]
 fn inner(
     text: &[u8],
     words: &[u32],
@@ -99,7 +99,7 @@ fn inner(
 }
 
 // `StmtAsBlock`, without its suffix.
-#[cycle(aexpr_block_braces_by_case_choose_cond_forall_inner_label_aexprs_branches_cases_list_stmts_looped_onward_stmt_var)]
+#[cycle(statement)]
 pub(crate) fn block(
     text: &[u8],
     words: &[u32],
@@ -132,7 +132,7 @@ pub(crate) fn block(
 }
 
 // Block.
-#[cycle(aexpr_block_braces_by_case_choose_cond_forall_inner_label_aexprs_branches_cases_list_stmts_looped_onward_stmt_var)]
+#[cycle(statement)]
 fn braces(
     text: &[u8],
     words: &[u32],
@@ -165,7 +165,7 @@ fn braces(
 }
 
 // AForall.
-#[cycle(aexpr_block_braces_by_case_choose_cond_forall_inner_label_aexprs_branches_cases_list_stmts_looped_onward_stmt_var)]
+#[cycle(statement)]
 fn forall(
     text: &[u8],
     words: &[u32],
@@ -188,7 +188,7 @@ fn forall(
 }
 
 // Choose.
-#[cycle(aexpr_block_braces_by_case_choose_cond_forall_inner_label_aexprs_branches_cases_list_stmts_looped_onward_stmt_var)]
+#[cycle(statement)]
 fn choose(
     text: &[u8],
     words: &[u32],
@@ -208,7 +208,7 @@ fn choose(
 }
 
 // If.
-#[cycle(aexpr_block_braces_by_case_choose_cond_forall_inner_label_aexprs_branches_cases_list_stmts_looped_onward_stmt_var)]
+#[cycle(statement)]
 fn cond(
     text: &[u8],
     words: &[u32],
@@ -249,7 +249,7 @@ fn cond(
 }
 
 // A statement after `else` or a label: on the line where it stays there, else as a block.
-#[cycle(aexpr_block_braces_by_case_choose_cond_forall_inner_label_aexprs_branches_cases_list_stmts_looped_onward_stmt_var)]
+#[cycle(statement)]
 fn onward(
     text: &[u8],
     words: &[u32],
@@ -274,7 +274,7 @@ fn onward(
 }
 
 // IfCase.
-#[cycle(aexpr_block_braces_by_case_choose_cond_forall_inner_label_aexprs_branches_cases_list_stmts_looped_onward_stmt_var)]
+#[cycle(statement)]
 fn by_case(
     text: &[u8],
     words: &[u32],
@@ -294,7 +294,7 @@ fn by_case(
 }
 
 // Loop.
-#[cycle(aexpr_block_braces_by_case_choose_cond_forall_inner_label_aexprs_branches_cases_list_stmts_looped_onward_stmt_var)]
+#[cycle(statement)]
 fn looped(
     text: &[u8],
     words: &[u32],
@@ -331,7 +331,7 @@ fn looped(
 }
 
 // LabeledStmt.
-#[cycle(aexpr_block_braces_by_case_choose_cond_forall_inner_label_aexprs_branches_cases_list_stmts_looped_onward_stmt_var)]
+#[cycle(statement)]
 fn label(
     text: &[u8],
     words: &[u32],
@@ -351,7 +351,7 @@ fn label(
 }
 
 // An assertion of `PrintAExprs`, after its prefix.
-#[cycle(aexpr_block_braces_by_case_choose_cond_forall_inner_label_aexprs_branches_cases_list_stmts_looped_onward_stmt_var)]
+#[cycle(statement)]
 pub(crate) fn aexpr(
     text: &[u8],
     words: &[u32],

@@ -15,7 +15,7 @@ use Rattle.layout.specs.declared.format.ExprFormatOption.{ExprFormatOption}
 use Rattle.printing.specs.declared.Printed.{Printed}
 use Rattle.printing.specs.declared.Printed.TheVariants.{Written}
 use Rattle.layout.specs.PrintUtil.{Init}
-use Rattle.tree.specs.Held.{Holds}
+use Rattle.rendering.specs.Tables.{Holds}
 use Rattle.printing.specs.Entries.{PrintAnswered, ProgramAnswered}
 use Rattle.roundtrip.specs.Nesting.{nesting}
 use Rattle.roundtrip.specs.SmallNaturals.{Words32}

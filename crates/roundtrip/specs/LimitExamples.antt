@@ -12,8 +12,7 @@ use Rattle.tree.specs.Check.{NameIn}
 use Rattle.tree.specs.Resolve.{part}
 use Rattle.layout.specs.declared.format.ExprFormatOption.TheVariants.{SingleLine, MultipleLines}
 use Rattle.layout.specs.Examples.{computed}
-use Rattle.tree.specs.Held.{held_by}
-use Rattle.rendering.specs.Tables.{expressions, print_of}
+use Rattle.rendering.specs.Tables.{expressions, print_of, held_by}
 use Rattle.printing.specs.Entries.{most_print, written, refusal, stored, print_table, print_expression}
 use Rattle.rendering.specs.TableLaws.{expression-laws}
 use Rattle.printing.specs.EntryLaws.{prints}

@@ -21,11 +21,9 @@ use Rattle.printing.specs.declared.Printed.TheVariants.{Written}
 use Rattle.layout.specs.declared.format.ExprFormatOption.{ExprFormatOption}
 use Rattle.layout.specs.PrintUtil.{Init}
 use Rattle.layout.specs.Printer.{Expression}
-use Rattle.tree.specs.Held.{Holds}
-use Rattle.rendering.specs.Tables.{name_in, expressions, print_of}
+use Rattle.rendering.specs.Tables.{name_in, expressions, print_of, Holds}
 use Rattle.printing.specs.Entries.{PrintAnswered}
-use Rattle.tree.specs.HeldLaws.{same-tree}
-use Rattle.rendering.specs.TableLaws.{expression-laws}
+use Rattle.rendering.specs.TableLaws.{same-tree, expression-laws}
 use Rattle.printing.specs.Claims.{tree-printed, written-tree}
 use Rattle.roundtrip.specs.Nesting.{nesting}
 use Rattle.roundtrip.specs.Derived.{printed-derives}

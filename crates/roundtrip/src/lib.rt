@@ -1,1 +1,3 @@
 // That prints are read back; see specs/.
+
+#![tactic(auto)]

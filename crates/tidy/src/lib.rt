@@ -1,4 +1,7 @@
 // Tidy (REFERENCE, "The entries"): a program is read and printed in one call, for a host in C (include/tidy.h).
+
+#![tactic(auto)]
+
 ghost use Rattle.std.specs.Prelude.{◌≤◌, ◌≡◌, length};
 ghost use Rattle.std.proofs.Math.Option.{none};
 ghost use Rattle.tree.specs.Limits.{most_text};

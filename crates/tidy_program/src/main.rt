@@ -1,5 +1,8 @@
 // The tidy program (REFERENCE, "The entries"): standard input is read as a program and its print goes to standard output; or one line, the
 // word refused, the number, the word at, the place. Of an input longer than 32,768 bytes one byte more is read, which refuses it.
+
+#![tactic(auto)]
+
 ghost use Rattle.std.specs.Prelude.{◌≡◌, length};
 
 use libc::{STDIN_FILENO, STDOUT_FILENO};

@@ -1,7 +1,7 @@
 -- The check's answers as refusals (REFERENCE, "The refusals"), and which tables each refusal has.
 use Rattle.std.specs.Prelude.{ℕ, suc, ◌-◌, ◌≤◌, ◌<◌, ◌≡◌, refl, ◌↔◌, Bool, true, false, cond, List, [], ◌∷◌, ◌++◌, length, leb}
 use Rattle.std.proofs.Common.{arith, ap, leb-false}
-use Rattle.std.proofs.Math.Logic.{Iff·trans}
+use Rattle.std.proofs.Math.Logic.Iff
 use Rattle.std.proofs.Math.Option.{Option, none, some}
 use Rattle.std.proofs.lemmas.Bool.{lt-leb}
 use Rattle.tree.specs.Clash.{impossible}
@@ -87,7 +87,7 @@ program-answer words len e = refusal-injective _ _ e
 pub expression-unrefused : (words : List ℕ) (len : ℕ)
     → (expression_refusal words len ≡ none) ↔ ((length words ≤ most_words) × ((t : Expr (NameIn len)) × (expr_words (λ n. n.span) t [] ≡ words)))
 unfolding expression_refusal
-expression-unrefused words len = Iff·trans (no-refusal (check_expression words len)) (tables.expression-accepted words len)
+expression-unrefused words len = Iff.trans (no-refusal (check_expression words len)) (tables.expression-accepted words len)
 
 pub expression-too-many : (words : List ℕ) (len : ℕ) → (expression_refusal words len ≡ some (record { number = 6; place = 0 })) ↔ (most_words < length words)
 unfolding expression_refusal check_expression
@@ -100,7 +100,7 @@ expression-misfit words len p e = tables.expression-place words len p ((refusal-
 pub program-unrefused : (words : List ℕ) (len : ℕ)
     → (program_refusal words len ≡ none) ↔ ((length words ≤ most_words) × ((p : Program (NameIn len)) × (program_words (λ n. n.span) p [] ≡ words)))
 unfolding program_refusal
-program-unrefused words len = Iff·trans (no-refusal (check_program words len)) (tables.program-accepted words len)
+program-unrefused words len = Iff.trans (no-refusal (check_program words len)) (tables.program-accepted words len)
 
 pub program-too-many : (words : List ℕ) (len : ℕ) → (program_refusal words len ≡ some (record { number = 6; place = 0 })) ↔ (most_words < length words)
 unfolding program_refusal check_program

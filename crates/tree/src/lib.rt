@@ -1,5 +1,8 @@
 // The tree words of B3 (REFERENCE, "The tree words"): the check that a table's words are one tree over a text, and the small
 // functions by which checked words are read.
+
+#![tactic(auto)]
+
 mod frames;
 pub mod kind;
 mod outline;
@@ -32,7 +35,7 @@ pub const OVERSIZED: u64 = 6;
 pub const MISFITTING: u64 = 7;
 
 // What the check of a table finds.
-#[derive(Drop)]
+#[derive(Clone, Copy)]
 pub enum Checked {
     // The words are one tree.
     Tree,

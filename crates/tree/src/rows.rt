@@ -136,7 +136,7 @@ pub(crate) fn is_sequence(kind: u32) -> bool
 }
 
 // What a word says where a kind is expected.
-#[derive(Drop)]
+#[derive(Clone, Copy)]
 pub(crate) enum Fit {
     // The row of its fields.
     Row(u32),

@@ -17,7 +17,7 @@ use crate::rows::{BASE, Fit, turn};
 use crate::{Checked, get};
 
 // What the words at a place do where a kind is expected.
-#[derive(Drop)]
+#[derive(Clone, Copy)]
 pub(crate) enum Step {
     // They fit: the place after them, and the row that is expected next.
     Go(usize, u32),

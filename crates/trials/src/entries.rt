@@ -16,7 +16,7 @@ use reading::{Reading, read_expression, read_program};
 const OUTPUT: usize = 65600;
 
 // Which entry is run, how often (once where 0 is said), and its start indent.
-#[derive(Drop)]
+#[derive(Clone, Copy)]
 pub(crate) struct Run {
     pub(crate) entry: u8,
     pub(crate) times: u32,
@@ -24,7 +24,7 @@ pub(crate) struct Run {
 }
 
 // What an entry answers.
-#[derive(Drop)]
+#[derive(Clone, Copy)]
 enum Outcome {
     // So many words, in the table.
     Words(usize),

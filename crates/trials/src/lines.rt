@@ -25,7 +25,7 @@ pub(crate) fn tail(s: &[u8], n: usize) -> &[u8] {
 }
 
 // A byte, and how many bytes of a line stand for it.
-#[derive(Drop)]
+#[derive(Clone, Copy)]
 struct Glyph {
     byte: u8,
     width: usize,

@@ -18,6 +18,9 @@
 //
 // A number at once after `o`, `a`, `r`, `R`, `p`, `m` or `P` says how often the entry is run, for measuring; the answer is then only how much the
 // last run gave: of an outline the table's words, of spans the distinct names.
+
+#![tactic(auto)]
+
 mod entries;
 mod lines;
 mod numbers;

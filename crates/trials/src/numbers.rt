@@ -2,7 +2,7 @@
 ghost use Rattle.std.specs.Prelude.{◌<◌, ◌≤◌, length};
 
 // A number, and how many digits it has.
-#[derive(Drop)]
+#[derive(Clone, Copy)]
 pub(crate) struct Decimal {
     pub(crate) value: u32,
     pub(crate) digits: usize,

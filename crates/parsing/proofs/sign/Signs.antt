@@ -17,6 +17,11 @@ use Rattle.parsing.specs.declared.sign.Sign.TheVariants.{Found as SignFound, Non
 use Rattle.parsing.specs.contracts.sign.Sign.{the_type as sign-type}
 use Rattle.parsing.proofs.Laws.{after-ok, after_none, after-refused}
 
+pub sign-not_none : {s : Sign} → (s ≡ SignNone → ⊥) → OneOf (0 ∷ 2 ∷ []) (tag_of sign-type s)
+sign-not_none {s = SignFound op swaps n} h = inl refl
+sign-not_none {s = SignNone} h = absurd (h refl)
+sign-not_none {s = SignRefused number place} h = inr refl
+
 -- the contract of a function that reads an operator
 pub record Told {B : Type 0} (word : B → ℕ) (swap : B → Bool) (text : List ℕ) (at : ℕ) (answer : Answer B) (s : Sign) : Type 0 where
   pub signs : Signs word swap text at answer s

@@ -18,7 +18,7 @@ use lexing::Lexed;
 use tree::word::{CLOSURE_EXPR, MORE, QUANTIFIER_EXPR};
 
 // The sequences that commas part.
-#[derive(Drop)]
+#[derive(Clone, Copy)]
 pub(crate) enum Kind {
     Exprs,
     Bindings,
@@ -30,7 +30,7 @@ pub(crate) enum Kind {
     Arguments,
 }
 
-#[cycle(call_chain_cond_expr_imp_juct_label_left_logic_paren_primary_right_arg_bind_item_items_lift_list_marks_param_params_prop_quant_tight_unary_val_word)]
+#[cycle(expression)]
 fn item(text: &[u8], at: usize, arena: &mut [u32], top: usize, depth: usize, kind: Kind) -> Built
     requires { Room text.now arena.old at top 4 }
     ensures { Builds (item_words kind) text.now arena.old arena.new at top 1 4 (item_rule kind text.now depth at) result }
@@ -48,7 +48,7 @@ fn item(text: &[u8], at: usize, arena: &mut [u32], top: usize, depth: usize, kin
 }
 
 // `parseNonemptyCommaDelimitedSeq`.
-#[cycle(call_chain_cond_expr_imp_juct_label_left_logic_paren_primary_right_arg_bind_item_items_lift_list_marks_param_params_prop_quant_tight_unary_val_word)]
+#[cycle(expression)]
 pub(crate) fn items(
     text: &[u8],
     start: usize,
@@ -91,7 +91,7 @@ pub(crate) fn items(
 }
 
 // `parseCommaDelimitedSeq`, and the sign that closes it.
-#[cycle(call_chain_cond_expr_imp_juct_label_left_logic_paren_primary_right_arg_bind_item_items_lift_list_marks_param_params_prop_quant_tight_unary_val_word)]
+#[cycle(expression)]
 pub(crate) fn list(
     text: &[u8],
     at: usize,
@@ -113,7 +113,7 @@ pub(crate) fn list(
 }
 
 // `pattern` or `trigger` and expressions, again and again.
-#[cycle(call_chain_cond_expr_imp_juct_label_left_logic_paren_primary_right_arg_bind_item_items_lift_list_marks_param_params_prop_quant_tight_unary_val_word)]
+#[cycle(expression)]
 fn marks(
     text: &[u8],
     start: usize,
@@ -152,7 +152,7 @@ fn marks(
 }
 
 // After `forall` or `exists`.
-#[cycle(call_chain_cond_expr_imp_juct_label_left_logic_paren_primary_right_arg_bind_item_items_lift_list_marks_param_params_prop_quant_tight_unary_val_word)]
+#[cycle(expression)]
 pub(crate) fn quant(
     text: &[u8],
     at: usize,
@@ -182,7 +182,7 @@ pub(crate) fn quant(
 }
 
 // After `lift`.
-#[cycle(call_chain_cond_expr_imp_juct_label_left_logic_paren_primary_right_arg_bind_item_items_lift_list_marks_param_params_prop_quant_tight_unary_val_word)]
+#[cycle(expression)]
 pub(crate) fn lift(text: &[u8], at: usize, arena: &mut [u32], top: usize, depth: usize) -> Built
     requires { Room text.now arena.old at top 16 }
     ensures { Follows after_lift 16 text.now arena.old arena.new at top depth result }
@@ -216,7 +216,7 @@ pub(crate) fn lift(text: &[u8], at: usize, arena: &mut [u32], top: usize, depth:
 }
 
 // `parseClosureBinding`.
-#[cycle(call_chain_cond_expr_imp_juct_label_left_logic_paren_primary_right_arg_bind_item_items_lift_list_marks_param_params_prop_quant_tight_unary_val_word)]
+#[cycle(expression)]
 fn bind(text: &[u8], at: usize, arena: &mut [u32], top: usize, depth: usize) -> Built
     requires { Room text.now arena.old at top 0 }
     ensures { Builds closure_words text.now arena.old arena.new at top 1 0 (parse_closure_binding text.now (turns text.now) (inner text.now depth) at) result }
@@ -243,7 +243,7 @@ fn bind(text: &[u8], at: usize, arena: &mut [u32], top: usize, depth: usize) -> 
 }
 
 // The parameters of a closure binding, or none.
-#[cycle(call_chain_cond_expr_imp_juct_label_left_logic_paren_primary_right_arg_bind_item_items_lift_list_marks_param_params_prop_quant_tight_unary_val_word)]
+#[cycle(expression)]
 fn params(text: &[u8], at: usize, arena: &mut [u32], top: usize, depth: usize) -> Built
     requires { Room text.now arena.old at top 4 }
     ensures { Builds (seq_words (binding_words same)) text.now arena.old arena.new at top 0 4 (parse_parameters text.now (turns text.now) at) result }
@@ -256,7 +256,7 @@ fn params(text: &[u8], at: usize, arena: &mut [u32], top: usize, depth: usize) -
 }
 
 // `parseClosureProperty`.
-#[cycle(call_chain_cond_expr_imp_juct_label_left_logic_paren_primary_right_arg_bind_item_items_lift_list_marks_param_params_prop_quant_tight_unary_val_word)]
+#[cycle(expression)]
 fn prop(text: &[u8], at: usize, arena: &mut [u32], top: usize, depth: usize) -> Built
     requires { Room text.now arena.old at top 4 }
     ensures { Builds property_words text.now arena.old arena.new at top 1 4 (parse_closure_property text.now (turns text.now) (inner text.now depth) at) result }
@@ -274,7 +274,7 @@ fn prop(text: &[u8], at: usize, arena: &mut [u32], top: usize, depth: usize) -> 
 }
 
 // `parseProcFormal`.
-#[cycle(call_chain_cond_expr_imp_juct_label_left_logic_paren_primary_right_arg_bind_item_items_lift_list_marks_param_params_prop_quant_tight_unary_val_word)]
+#[cycle(expression)]
 fn param(text: &[u8], at: usize, arena: &mut [u32], top: usize, depth: usize) -> Built
     requires { Room text.now arena.old at top 4 }
     ensures { Builds (p_parameter_words same) text.now arena.old arena.new at top 1 4 (parse_proc_formal text.now (turns text.now) (opened text.now depth) at) result }
@@ -298,7 +298,7 @@ fn param(text: &[u8], at: usize, arena: &mut [u32], top: usize, depth: usize) ->
 }
 
 // `parseCallArgument`.
-#[cycle(call_chain_cond_expr_imp_juct_label_left_logic_paren_primary_right_arg_bind_item_items_lift_list_marks_param_params_prop_quant_tight_unary_val_word)]
+#[cycle(expression)]
 fn arg(text: &[u8], at: usize, arena: &mut [u32], top: usize, depth: usize) -> Built
     requires { Room text.now arena.old at top 4 }
     ensures { Builds (call_argument_words same) text.now arena.old arena.new at top 1 4 (parse_call_argument text.now (turns text.now) (opened text.now depth) at) result }

@@ -16,7 +16,7 @@ use lexing::Lexed;
 use tree::word::{BLOCK, CHOOSE, IF, IF_CASE, MORE, NO_MORE};
 
 // After `choose`.
-#[cycle(aexpr_branch_case_choose_cond_cont_els_elsif_block_forall_label_looped_many_named_nested_one_scope_stmt_var_word)]
+#[cycle(statement)]
 pub(crate) fn choose(text: &[u8], at: usize, arena: &mut [u32], top: usize, depth: usize) -> Built
     requires { Room text.now arena.old at top 12 }
     ensures { Builds (stmt_words same) text.now arena.old arena.new at top 1 12 (after_choose text.now (turns text.now) (opened text.now depth) at) result }
@@ -35,7 +35,7 @@ pub(crate) fn choose(text: &[u8], at: usize, arena: &mut [u32], top: usize, dept
 }
 
 // `or` and a block.
-#[cycle(aexpr_branch_case_choose_cond_cont_els_elsif_block_forall_label_looped_many_named_nested_one_scope_stmt_var_word)]
+#[cycle(statement)]
 pub(crate) fn branch(text: &[u8], at: usize, arena: &mut [u32], top: usize, depth: usize) -> Built
     requires { Room text.now arena.old at top 0 }
     ensures { Leaves (stmt_words same) text.now arena.old arena.new at top (parse_or text.now (turns text.now) (opened text.now depth) at) result }
@@ -49,7 +49,7 @@ pub(crate) fn branch(text: &[u8], at: usize, arena: &mut [u32], top: usize, dept
 }
 
 // "if-cont" of `stmtGallery`.
-#[cycle(aexpr_branch_case_choose_cond_cont_els_elsif_block_forall_label_looped_many_named_nested_one_scope_stmt_var_word)]
+#[cycle(statement)]
 fn elsif(text: &[u8], at: usize, arena: &mut [u32], top: usize, depth: usize) -> Built
     requires { Room text.now arena.old at top 12 }
     ensures { Builds (stmt_words same) text.now arena.old arena.new at top 1 12 ((opened text.now depth).if_cont at) result }
@@ -61,7 +61,7 @@ fn elsif(text: &[u8], at: usize, arena: &mut [u32], top: usize, depth: usize) ->
 }
 
 // `parseIfCont`.
-#[cycle(aexpr_branch_case_choose_cond_cont_els_elsif_block_forall_label_looped_many_named_nested_one_scope_stmt_var_word)]
+#[cycle(statement)]
 pub(crate) fn cont(text: &[u8], at: usize, arena: &mut [u32], top: usize, depth: usize) -> Built
     requires { Room text.now arena.old at top 12 }
     ensures { Builds (stmt_words same) text.now arena.old arena.new at top 1 12 (parse_if_cont text.now (turns text.now) (opened text.now depth) at) result }
@@ -82,7 +82,7 @@ pub(crate) fn cont(text: &[u8], at: usize, arena: &mut [u32], top: usize, depth:
 }
 
 // A condition, a block and what follows them.
-#[cycle(aexpr_branch_case_choose_cond_cont_els_elsif_block_forall_label_looped_many_named_nested_one_scope_stmt_var_word)]
+#[cycle(statement)]
 fn cond(text: &[u8], at: usize, arena: &mut [u32], top: usize, depth: usize) -> Built
     requires { Room text.now arena.old at top 12 }
     ensures { Builds (stmt_words same) text.now arena.old arena.new at top 1 12 (cond_stmt text.now depth at) result }
@@ -106,7 +106,7 @@ fn cond(text: &[u8], at: usize, arena: &mut [u32], top: usize, depth: usize) -> 
 }
 
 // `else` and what it leads, or the empty block.
-#[cycle(aexpr_branch_case_choose_cond_cont_els_elsif_block_forall_label_looped_many_named_nested_one_scope_stmt_var_word)]
+#[cycle(statement)]
 fn els(text: &[u8], at: usize, arena: &mut [u32], top: usize, depth: usize) -> Built
     requires { Room text.now arena.old at top 4 }
     ensures { Builds (stmt_words same) text.now arena.old arena.new at top 0 4 (parse_else text.now (turns text.now) (opened text.now depth) at) result }
@@ -123,7 +123,7 @@ fn els(text: &[u8], at: usize, arena: &mut [u32], top: usize, depth: usize) -> B
 }
 
 // `parseCase`.
-#[cycle(aexpr_branch_case_choose_cond_cont_els_elsif_block_forall_label_looped_many_named_nested_one_scope_stmt_var_word)]
+#[cycle(statement)]
 pub(crate) fn case(text: &[u8], at: usize, arena: &mut [u32], top: usize, depth: usize) -> Built
     requires { Room text.now arena.old at top 0 }
     ensures { Leaves case_words text.now arena.old arena.new at top (parse_case text.now (turns text.now) (opened text.now depth) at) result }

@@ -12,7 +12,7 @@ use tree::get;
 use tree::word::NO_MORE;
 
 // `ExpressionList`.
-#[cycle(binary_call_cond_expr_form_label_let_expr_lift_closures_exprs_patterns_properties_triggers_listed_oper_quant_unary)]
+#[cycle(expression)]
 pub(crate) fn exprs(
     text: &[u8],
     words: &[u32],
@@ -45,7 +45,7 @@ pub(crate) fn exprs(
 }
 
 // A quantifier's patterns.
-#[cycle(binary_call_cond_expr_form_label_let_expr_lift_closures_exprs_patterns_properties_triggers_listed_oper_quant_unary)]
+#[cycle(expression)]
 pub(crate) fn patterns(
     text: &[u8],
     words: &[u32],
@@ -68,7 +68,7 @@ pub(crate) fn patterns(
 }
 
 // A closure property's triggers.
-#[cycle(binary_call_cond_expr_form_label_let_expr_lift_closures_exprs_patterns_properties_triggers_listed_oper_quant_unary)]
+#[cycle(expression)]
 pub(crate) fn triggers(
     text: &[u8],
     words: &[u32],
@@ -91,7 +91,7 @@ pub(crate) fn triggers(
 }
 
 // A closure's bindings.
-#[cycle(binary_call_cond_expr_form_label_let_expr_lift_closures_exprs_patterns_properties_triggers_listed_oper_quant_unary)]
+#[cycle(expression)]
 pub(crate) fn closures(
     text: &[u8],
     words: &[u32],
@@ -124,7 +124,7 @@ pub(crate) fn closures(
 }
 
 // A closure's properties.
-#[cycle(binary_call_cond_expr_form_label_let_expr_lift_closures_exprs_patterns_properties_triggers_listed_oper_quant_unary)]
+#[cycle(expression)]
 pub(crate) fn properties(
     text: &[u8],
     words: &[u32],

@@ -13,7 +13,7 @@ use tree::get;
 use tree::word::NO_MORE;
 
 // `StatementList`.
-#[cycle(aexpr_block_braces_by_case_choose_cond_forall_inner_label_aexprs_branches_cases_list_stmts_looped_onward_stmt_var)]
+#[cycle(statement)]
 pub(crate) fn list(
     text: &[u8],
     words: &[u32],
@@ -40,7 +40,7 @@ pub(crate) fn list(
 }
 
 // The last `left` statements of a list.
-#[cycle(aexpr_block_braces_by_case_choose_cond_forall_inner_label_aexprs_branches_cases_list_stmts_looped_onward_stmt_var)]
+#[cycle(statement)]
 fn stmts(
     text: &[u8],
     words: &[u32],
@@ -74,7 +74,7 @@ fn stmts(
 }
 
 // The branches of a Choose.
-#[cycle(aexpr_block_braces_by_case_choose_cond_forall_inner_label_aexprs_branches_cases_list_stmts_looped_onward_stmt_var)]
+#[cycle(statement)]
 pub(crate) fn branches(
     text: &[u8],
     words: &[u32],
@@ -97,7 +97,7 @@ pub(crate) fn branches(
 }
 
 // The cases of an IfCase.
-#[cycle(aexpr_block_braces_by_case_choose_cond_forall_inner_label_aexprs_branches_cases_list_stmts_looped_onward_stmt_var)]
+#[cycle(statement)]
 pub(crate) fn cases(
     text: &[u8],
     words: &[u32],
@@ -133,7 +133,7 @@ pub(crate) fn cases(
 }
 
 // `PrintAExprs`.
-#[cycle(aexpr_block_braces_by_case_choose_cond_forall_inner_label_aexprs_branches_cases_list_stmts_looped_onward_stmt_var)]
+#[cycle(statement)]
 pub(crate) fn aexprs(
     text: &[u8],
     words: &[u32],

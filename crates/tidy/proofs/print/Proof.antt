@@ -18,21 +18,21 @@ given_out c = c.args.out.now
 
 refusal-requires : tie.Need-refusal-requires
 refusal-requires c κs =
-    let s = c.before.before.before.before.before.before.before.before.before.before in
-    print-refused (given-text s) (given-words s) (given_out s) _ _ c.before.before.before.before.before.print-program.ensures c.before.number.given.1 s.requires
+    let s = c.before.before.before.before.before.before.before.before in
+    print-refused (given-text s) (given-words s) (given_out s) _ _ c.print_program.ensures c.in-Refused.is s.requires
 
-returns : tie.Need-returns
+returns : tie.Need-returns-in-Written
 returns c =
-    let s = c.before.before.before.before.before.before.before.before.before.before in
-    print-written (given-text s) (given-words s) (given_out s) _ _ c.before.before.before.before.before.print-program.ensures c.before.n.given.1
+    let s = c.before.before.before.before.before.before.before.before in
+    print-written (given-text s) (given-words s) (given_out s) _ _ c.print_program.ensures c.in-Written.is
 
-returns-2 : tie.Need-returns-2
+returns-2 : tie.Need-returns-in-Refused
 returns-2 c =
-    let s = c.before.before.before.before.before.before.before.before.before.before.before in
-    print-answers (given-text s) (given-words s) (given_out s) _ _ c.before.before.before.before.before.before.print-program.ensures _ c.before.before.number.given.1 c.refusal.ensures
+    let s = c.before.before.before.before.before.before.before.before.before in
+    print-answers (given-text s) (given-words s) (given_out s) _ _ c.print_program.ensures _ c.in-Refused.is c.refusal.ensures
 
-pub print-spec : {M : Type 1} → statement M
-print-spec =
+pub print_spec : {M : Type 1} → statement M
+print_spec =
     tie.close
     (tie.spec
     (λ c κs. search rules)

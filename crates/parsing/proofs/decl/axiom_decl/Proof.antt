@@ -16,50 +16,50 @@ abbrev at-start : tie.Start → Reached (Axiom Span)
 at-start c = begin {answer = after_axiom c.args.text.now (turns c.args.text.now) (opened c.args.text.now c.args.depth) c.args.at} 0 0 (axiom-rule
     c.args.text.now c.args.depth c.args.at) refl c.requires
 
-abbrev at_listed : tie.After-listed → Reached (Axiom Span)
-at_listed c = built (at-start c.before.before.before.before.before.before.before.before) _ _ refl c.listed.given.1 c.before.before.before.before.explains.ensures refl
+abbrev at_listed : tie.In-Ok → Reached (Axiom Span)
+at_listed c = built (at-start c.before.before.before.before.before.before.before) _ _ refl c.in-Ok.is c.explains-listed.ensures refl
 
-abbrev at-said : tie.After-listed → Reached (Axiom Span)
-at-said c = resaid (at_listed c) _ (expr-needed _ c.before.before.before.before.before.before.before.before.args.text.now c.before.before.before.before.before.before.before.before.args.depth
+abbrev at-said : tie.In-Ok → Reached (Axiom Span)
+at-said c = resaid (at_listed c) _ (expr-needed _ c.args.text.now c.args.depth
     (at_listed c).at)
 
-abbrev at_value : tie.After-value → Reached (Axiom Span)
-at_value c = built (at-said c.before.before.before.before.before.before.before) _ _ refl c.value.given.1 c.before.before.before.before.expr.ensures refl
+abbrev at_value : tie.In-Ok-value → Reached (Axiom Span)
+at_value c = built (at-said c.before.before.before.before.before) _ _ refl c.in-Ok-value.is c.expr-value.ensures refl
 
 abbrev at-over : tie.After-over → Reached (Axiom Span)
-at-over c = paired (at_value c.before.before.before) c.over.ensures.1 (at_value c.before.before.before).stands.1.0 (at_value c.before.before.before).stands.0 refl
+at-over c = paired (at_value c.before.before) c.over.ensures.1 (at_value c.before.before).stands.1.0 (at_value c.before.before).stands.0 refl
 
-explains-requires : tie.Need-explains-requires
+explains-requires : tie.Need-explains-listed-requires
 explains-requires c κs = room_for (at-start c.before.before.before) refl
 
-same_length : tie.Need-same-length
-same_length c = length-after (at-start c.before.before.before.before.before.before.before.before) c.before.before.before.before.explains.ensures.kept
+same_length : tie.Need-shape_of-arena-in_default
+same_length c = length-after (at-start c.before.before.before.before.before.before.before.before) c.explains-listed.ensures.kept
 
-returns : tie.Need-returns
-returns c = needed (at-start c.before.before.before.before.before.before.before.before) _ c.before.before.before.before.explains.result c.before.before.before.before.explains.ensures
-    c.before.match.keys2 refl c.needed.ensures
+returns : tie.Need-returns-in_default
+returns c = needed (at-start c.before.before.before.before.before.before.before.before) _ c.explains-listed.result c.explains-listed.ensures
+    c.in_default.in_default-own.keys2 refl c.needed.ensures
 
-expr-requires : tie.Need-expr-requires
-expr-requires c κs = room_for (at-said c.before.before) refl
+expr-requires : tie.Need-expr-value-requires
+expr-requires c κs = room_for (at-said c.before) refl
 
-same-length-2 : tie.Need-same-length-2
-same-length-2 c = length-after (at-said c.before.before.before.before.before.before.before) c.before.before.before.before.expr.ensures.kept
+same-length-2 : tie.Need-shape_of-arena-in_default-value
+same-length-2 c = length-after (at-said c.before.before.before.before.before.before) c.expr-value.ensures.kept
 
-returns-2 : tie.Need-returns-2
-returns-2 c = needed (at-said c.before.before.before.before.before.before.before) _ c.before.before.before.before.expr.result c.before.before.before.before.expr.ensures
-    c.before.match2.keys2 refl c.needed2.ensures
+returns-2 : tie.Need-returns-in_default-value
+returns-2 c = needed (at-said c.before.before.before.before.before.before) _ c.expr-value.result c.expr-value.ensures
+    c.in_default-value.in_default-value-own.keys2 refl c.needed-in_default-value.ensures
 
 over-requires : tie.Need-over-requires
-over-requires c κs = omega (arith, (at_value c.before.before).room)
+over-requires c κs = omega (arith, (at_value c.before).room)
 
-same-length-3 : tie.Need-same-length-3
+same-length-3 : tie.Need-shape_of-arena
 same-length-3 c = length-here (at-over c.before.before)
 
-returns-3 : tie.Need-returns-3
-returns-3 c = done (at-over c.before.before) refl refl c.before.before.over.ensures.0 refl refl
+returns-3 : tie.Need-returns
+returns-3 c = done (at-over c.before.before) refl refl c.over.ensures.0 refl refl
 
-pub axiom-decl-spec : {M : Type 1} → statement M
-axiom-decl-spec =
+pub axiom_decl_spec : {M : Type 1} → statement M
+axiom_decl_spec =
     tie.close
     (tie.spec
     explains-requires

@@ -8,41 +8,41 @@ use Rattle.parsing.proofs.entry.Answers.{no_room, unclosed-refused, Led, led, ru
 use Rattle.parsing.proofs.entry.parse.Statement.{statement}
 use Rattle.parsing.proofs.entry.parse.Tie as tie
 
-abbrev at-lead : tie.After-at2 → Led
-at-lead c = led c.before.before.before.before.before.before.before.args.whole c.before.before.before.before.before.before.before.args.text.now
-    (length c.before.before.before.before.before.before.before.args.arena.now)
-    (sym c.before.before.before.before.has_room.ensures ∙ not-false c.before.before.before.before.has_room.result c.before.before.before.if1.false) c.before.before.blanks.result
-    c.before.before.blanks.ensures c.at2.given.1
+abbrev at-lead : tie.In-Passed → Led
+at-lead c = led c.args.whole c.args.text.now
+    (length c.args.arena.now)
+    (sym c.has_room.ensures ∙ c.if-not-has_room.false) c.blanks.result
+    c.blanks.ensures c.in-Passed.is
 
-returns : tie.Need-returns
-returns c = record { length-kept = refl; gives = no_room c.before.before.before.before.args.whole c.before.before.before.before.args.text.now (length c.before.before.before.before.args.arena.now) (sym c.before.has_room.ensures ∙ not-true c.before.has_room.result c.if1.true) }
+returns : tie.Need-returns-then-not-has_room
+returns c = record { length-kept = refl; gives = no_room c.args.whole c.args.text.now (length c.args.arena.now) (sym c.has_room.ensures ∙ c.if-not-has_room.true) }
 
 node-requires : tie.Need-node-requires
-node-requires c κs = omega (arith, (at-lead c.before.before).has.room)
+node-requires c κs = omega (arith, (at-lead c.before).has.room)
 
-node-requires-2 : tie.Need-node-requires-2
-node-requires-2 c κs = omega (arith, (at-lead c.before.before.before.before.before.before).has.room, c.before.before.before.node.ensures.kept.length-kept)
+node-requires-2 : tie.Need-node-requires-in-Passed
+node-requires-2 c κs = omega (arith, (at-lead c.before.before.before.before.before).has.room, c.node.ensures.kept.length-kept)
 
-rule-requires : tie.Need-rule-requires
-rule-requires c κs = rule-room (at-lead c.before.before.before.before.before.before.before.before.before.before) refl c.before.before.before.before.before.before.before.node.ensures c.before.before.before.node2.ensures
+rule-requires : tie.Need-rule-built-requires
+rule-requires c κs = rule-room (at-lead c.before.before.before.before.before.before.before.before.before) refl c.node.ensures c.node-in-Passed.ensures
 
-returns-2 : tie.Need-returns-2
+returns-2 : tie.Need-returns-in-Unclosed
 returns-2 c = record {
   length-kept = refl;
-  gives = unclosed-refused c.before.before.before.before.before.before.before.before.args.whole c.before.before.before.before.before.before.before.before.args.text.now
-      (length c.before.before.before.before.before.before.before.before.args.arena.now)
-      (sym c.before.before.before.before.before.has_room.ensures ∙ not-false c.before.before.before.before.before.has_room.result c.before.before.before.before.if1.false) c.before.before.before.blanks.result
-      c.before.before.before.blanks.ensures c.before.at.given.1;
+  gives = unclosed-refused c.args.whole c.args.text.now
+      (length c.args.arena.now)
+      (sym c.has_room.ensures ∙ c.if-not-has_room.false) c.blanks.result
+      c.blanks.ensures c.in-Unclosed.is;
 }
 
-returns-3 : tie.Need-returns-3
+returns-3 : tie.Need-returns-in-Passed
 returns-3 c = record {
-  length-kept = c.before.before.before.rule.ensures.kept.length-kept ∙ c.before.before.before.before.before.before.before.node2.ensures.kept.length-kept ∙ c.before.before.before.before.before.before.before.before.before.before.before.node.ensures.kept.length-kept;
-  gives = rw c.ended.ensures (built-gives (at-lead c.before.before.before.before.before.before.before.before.before.before.before.before.before.before) _ c.before.before.before.rule.result c.before.before.before.rule.ensures.agrees);
+  length-kept = c.rule-built.ensures.kept.length-kept ∙ c.node-in-Passed.ensures.kept.length-kept ∙ c.node.ensures.kept.length-kept;
+  gives = rw c.ended.ensures (built-gives (at-lead c.before.before.before.before.before.before.before.before.before.before.before.before.before) _ c.rule-built.result c.rule-built.ensures.agrees);
 }
 
-pub parse-spec : {M : Type 1} → statement M
-parse-spec =
+pub parse_spec : {M : Type 1} → statement M
+parse_spec =
     tie.close
     (tie.spec
     (λ c κs. search rules)

@@ -28,103 +28,102 @@ rule text at = refl
 abbrev at-start : tie.Start → Reached (Expr Span)
 at-start c = begin 0 0 (rule c.args.text.now c.args.at) refl c.requires
 
-abbrev at-bar : tie.After-r → Reached (Expr Span)
-at-bar c = token (at-start c.before.before.before.before.before.before) _ _ refl (took c.r.given.1 c.before.before.sym.ensures)
+abbrev at-bar : tie.In-Ok → Reached (Expr Span)
+at-bar c = token (at-start c.before.before.before.before.before.before) _ _ refl (took c.in-Ok.is c.sym-r.ensures)
 
-abbrev at-bytes : tie.After-r2 → Reached (Expr Span)
-at-bytes c = token (at-bar c.before.before.before.before) _ _ refl (took c.r2.given.1 c.before.before.literal-text.ensures)
+abbrev at-bytes : tie.In-Ok-r → Reached (Expr Span)
+at-bytes c = token (at-bar c.before.before) _ _ refl (took c.in-Ok-r.is c.literal_text-r.ensures)
 
-abbrev at-colon : tie.After-r3 → Reached (Expr Span)
-at-colon c = token (at-bytes c.before.before.before.before.before) _ _ refl (took c.r3.given.1 c.before.before.sym2.ensures)
+abbrev at-colon : tie.In-Ok-r-2 → Reached (Expr Span)
+at-colon c = token (at-bytes c.before.before.before.before) _ _ refl (took c.in-Ok-r-2.is c.sym-r-2.ensures)
 
-abbrev at-type : tie.After-r4 → Reached (Expr Span)
-at-type c = token (at-colon c.before.before.before.before) _ _ refl (took c.r4.given.1 c.before.before.name.ensures)
+abbrev at-type : tie.In-Ok-r-3 → Reached (Expr Span)
+at-type c = token (at-colon c.before.before) _ _ refl (took c.in-Ok-r-3.is c.name-r.ensures)
 
-abbrev at-end : tie.After-r5 → Reached (Expr Span)
-at-end c = token (at-type c.before.before.before.before.before) _ _ refl (took c.r5.given.1 c.before.before.sym3.ensures)
+abbrev at-end : tie.In-Ok-r-4 → Reached (Expr Span)
+at-end c = token (at-type c.before.before.before.before) _ _ refl (took c.in-Ok-r-4.is c.sym-r-3.ensures)
 
-returns : tie.Need-returns
-returns c = untaken (at-start c.before.before.before.before.before.before) _ c.before.before.sym.result (record { tells = c.before.before.sym.ensures; not-ok = c.before.match.keys2 }) refl c.untaken.ensures
+returns : tie.Need-returns-in_default
+returns c = untaken (at-start c.before.before.before.before.before.before.before) _ c.sym-r.result (record { tells = c.sym-r.ensures; not-ok = c.in_default.in_default-own.keys2 }) refl c.untaken.ensures
 
-literal-text-requires : tie.Need-literal-text-requires
-literal-text-requires c κs = (at-bar c.before).room.inside
+literal-text-requires : tie.Need-literal_text-r-requires
+literal-text-requires c κs = (at-bar c).room.inside
 
-returns-2 : tie.Need-returns-2
-returns-2 c = missing (at-bar c.before.before.before.before) _ c.before.before.literal-text.result (record { tells = c.before.before.literal-text.ensures; not-ok = c.before.match2.keys2 }) refl c.missing.ensures
+returns-2 : tie.Need-returns-in_default-r
+returns-2 c = missing (at-bar c.before.before.before) _ c.literal_text-r.result (record { tells = c.literal_text-r.ensures; not-ok = c.in_default-r.in_default-r-own.keys2 }) refl c.missing.ensures
 
-sym-requires-2 : tie.Need-sym-requires-2
+sym-requires-2 : tie.Need-sym-r-requires-2
 sym-requires-2 c κs = (at-bytes c.before.before).room.inside
 
-returns-3 : tie.Need-returns-3
-returns-3 c = missing (at-bytes c.before.before.before.before.before) _ c.before.before.sym2.result (record { tells = c.before.before.sym2.ensures; not-ok = c.before.match3.keys2 }) refl c.missing2.ensures
+returns-3 : tie.Need-returns-in_default-r-2
+returns-3 c = missing (at-bytes c.before.before.before.before.before) _ c.sym-r-2.result (record { tells = c.sym-r-2.ensures; not-ok = c.in_default-r-2.in_default-r-2-own.keys2 }) refl c.missing-in_default-r-2.ensures
 
-name-requires : tie.Need-name-requires
-name-requires c κs = (at-colon c.before).room.inside
+name-requires : tie.Need-name-r-requires
+name-requires c κs = (at-colon c).room.inside
 
-returns-4 : tie.Need-returns-4
-returns-4 c = missing (at-colon c.before.before.before.before) _ c.before.before.name.result (record { tells = c.before.before.name.ensures; not-ok = c.before.match4.keys2 }) refl c.missing3.ensures
+returns-4 : tie.Need-returns-in_default-r-3
+returns-4 c = missing (at-colon c.before.before.before) _ c.name-r.result (record { tells = c.name-r.ensures; not-ok = c.in_default-r-3.in_default-r-3-own.keys2 }) refl c.missing-in_default-r-3.ensures
 
-sym-requires-3 : tie.Need-sym-requires-3
+sym-requires-3 : tie.Need-sym-r-requires-3
 sym-requires-3 c κs = (at-type c.before.before).room.inside
 
-returns-5 : tie.Need-returns-5
-returns-5 c = missing (at-type c.before.before.before.before.before) _ c.before.before.sym3.result (record { tells = c.before.before.sym3.ensures; not-ok = c.before.match5.keys2 }) refl c.missing4.ensures
+returns-5 : tie.Need-returns-in_default-r-4
+returns-5 c = missing (at-type c.before.before.before.before.before) _ c.sym-r-3.result (record { tells = c.sym-r-3.ensures; not-ok = c.in_default-r-4.in_default-r-4-own.keys2 }) refl c.missing-in_default-r-4.ensures
 
-cast-node : tie.Need-overflow-cast-node
-cast-node c = omega (arith, (at-bar c.before.before.before.before.before.before.before.before.before.before.before.before.before.before.before.before.before.before.before.before).room)
+cast-node : tie.Need-overflow_cast-at1
+cast-node c = omega (arith, (at-bar c.before.before.before.before.before.before.before.before.before.before.before.before.before).room)
 
-cast-node-2 : tie.Need-overflow-cast-node-2
+cast-node-2 : tie.Need-overflow_cast-len
 cast-node-2 c =
     omega (
       arith,
-      (at-bytes c.before.before.before.before.before.before.before.before.before.before.before.before.before.before.before.before).room,
+      (at-bytes c.before.before.before.before.before.before.before.before.before.before.before).room,
       took
-          c.before.before.before.before.before.before.before.before.before.before.before.before.before.before.before.before.r2.given.1
-          c.before.before.before.before.before.before.before.before.before.before.before.before.before.before.before.before.before.before.literal-text.ensures,
+          c.in-Ok-r.is
+          c.literal_text-r.ensures,
     )
 
 node-requires : tie.Need-node-requires
-node-requires c κs = omega (arith, (at-end c.before.before).room)
+node-requires c κs = omega (arith, (at-end c.before).room)
 
-add-node : tie.Need-overflow-add-node
-add-node c = omega (arith, (at-end c.before.before.before.before.before.before).room)
+add-node : tie.Need-overflow_add-top
+add-node c = omega (arith, (at-end c.before.before.before.before.before).room)
 
-cast-node-3 : tie.Need-overflow-cast-node-3
-cast-node-3 c = omega (arith, (at-colon c.before.before.before.before.before.before.before.before.before.before.before.before.before.before.before).room)
+cast-node-3 : tie.Need-overflow_cast-at3
+cast-node-3 c = omega (arith, (at-colon c.before.before.before.before.before.before.before.before.before.before.before).room)
 
-cast-node-4 : tie.Need-overflow-cast-node-4
-cast-node-4 c = omega (arith, (at-type c.before.before.before.before.before.before.before.before.before.before.before).room, took c.before.before.before.before.before.before.before.before.before.before.before.r4.given.1 c.before.before.before.before.before.before.before.before.before.before.before.before.before.name.ensures)
+cast-node-4 : tie.Need-overflow_cast-len2
+cast-node-4 c = omega (arith, (at-type c.before.before.before.before.before.before.before.before.before).room, took c.in-Ok-r-3.is c.name-r.ensures)
 
 node-requires-2 : tie.Need-node-requires-2
-node-requires-2 c κs = omega (arith, (at-end c.before.before.before.before.before.before).room)
+node-requires-2 c κs = omega (arith, (at-end c.before.before.before.before.before).room)
 
-add-over : tie.Need-overflow-add-over
-add-over c = omega (arith, (at-end c.before.before.before.before.before.before.before.before.before.before).room)
+add-over : tie.Need-overflow_add-top-2
+add-over c = omega (arith, (at-end c.before.before.before.before.before.before.before.before.before).room)
 
-cast-over : tie.Need-overflow-cast-over
-cast-over c = omega (arith, (at-end c.before.before.before.before.before.before.before.before.before.before).room)
+cast-over : tie.Need-overflow_cast-top
+cast-over c = omega (arith, (at-end c.before.before.before.before.before.before.before.before.before).room)
 
-add-over-2 : tie.Need-overflow-add-over-2
-add-over-2 c = omega (arith, (at-end c.before.before.before.before.before.before.before.before.before.before).room)
+add-over-2 : tie.Need-overflow_add-top-3
+add-over-2 c = omega (arith, (at-end c.before.before.before.before.before.before.before.before.before).room)
 
-cast-over-2 : tie.Need-overflow-cast-over-2
-cast-over-2 c = omega (arith, (at-end c.before.before.before.before.before.before.before.before.before.before).room)
+cast-over-2 : tie.Need-overflow_cast-top-2
+cast-over-2 c = omega (arith, (at-end c.before.before.before.before.before.before.before.before.before).room)
 
 over-requires : tie.Need-over-requires
-over-requires c κs = omega (arith, (at-end c.before.before.before.before.before.before.before.before.before.before).room)
+over-requires c κs = omega (arith, (at-end c.before.before.before.before.before.before.before.before.before).room)
 
-returns-6 : tie.Need-returns-6
+returns-6 : tie.Need-returns
 returns-6 c =
-    pair-done (at-end c.before.before.before.before.before.before.before.before.before.before.before.before.before) refl refl c.before.before.before.before.before.before.before.before.before.before.node.ensures
-    (Holds.three c.before.before.before.before.before.before.before.before.before.before.node.ensures.node) c.before.before.before.before.before.before.node2.ensures
-    (Holds.two c.before.before.before.before.before.before.node2.ensures.node)
-    c.before.before.over.ensures refl refl
+    pair-done (at-end c.before.before.before.before.before.before.before.before.before.before.before.before) refl refl c.node.ensures
+    (Holds.three c.node.ensures.node) c.node-2.ensures
+    (Holds.two c.node-2.ensures.node)
+    c.over.ensures refl refl
 
-pub custom-spec : {M : Type 1} → statement M
-custom-spec =
+pub custom_spec : {M : Type 1} → statement M
+custom_spec =
     tie.close
     (tie.spec
-    (λ c. search rules)
     (λ c κs. search rules)
     (λ c. search rules)
     (λ c κs. search rules)
@@ -133,7 +132,6 @@ custom-spec =
     (λ c. search rules)
     (λ c κs. search rules)
     returns-2
-    (λ c. search rules)
     sym-requires-2
     (λ c. search rules)
     (λ c κs. search rules)
@@ -142,7 +140,6 @@ custom-spec =
     (λ c. search rules)
     (λ c κs. search rules)
     returns-4
-    (λ c. search rules)
     sym-requires-3
     (λ c. search rules)
     (λ c κs. search rules)

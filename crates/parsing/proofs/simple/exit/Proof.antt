@@ -16,38 +16,38 @@ use Rattle.parsing.proofs.simple.exit.Tie as tie
 abbrev at-start : tie.Start → Reached (Stmt Span)
 at-start c = begin {answer = exit_stmt c.args.text.now c.args.at} 0 0 refl refl c.requires
 
-abbrev at_none : tie.After-enum-told → Reached (Stmt Span)
-at_none c = resaid (at-start c.before.before.before.before.before) _ (exit-none _ _ (rw c.enum_told.given.1 at c.before.before.name.ensures))
+abbrev at_none : tie.In-None → Reached (Stmt Span)
+at_none c = resaid (at-start c.before.before.before.before) _ (exit-none _ _ (rw c.in-None.is at c.name.ensures))
 
 abbrev at-over : tie.After-over → Reached (Stmt Span)
 at-over c = noted (at_none c.before.before) c.over.ensures.1 (Holds.two c.over.ensures.1.node) refl
 
 name-requires : tie.Need-name-requires
-name-requires c κs = c.before.before.requires.inside
+name-requires c κs = c.requires.inside
 
 label-requires : tie.Need-label-requires
-label-requires c κs = (c.before.before.before.before.before.before.before.requires, name-worded (took c.before.before.n.given.1 c.before.before.before.before.name.ensures))
+label-requires c κs = (c.requires, name-worded (took c.in-Ok.is c.name.ensures))
 
 over-requires : tie.Need-over-requires
 over-requires c κs = omega (arith, (at_none c.before).room)
 
-same_length : tie.Need-same-length
-same_length c = c.before.before.label.ensures.kept.length-kept
+same_length : tie.Need-shape_of-arena-in-Ok
+same_length c = c.label.ensures.kept.length-kept
 
-returns : tie.Need-returns
-returns c = c.before.before.label.ensures
+returns : tie.Need-returns-in-Ok
+returns c = c.label.ensures
 
-same-length-2 : tie.Need-same-length-2
+same-length-2 : tie.Need-shape_of-arena-in-None
 same-length-2 c = length-here (at-over c.before.before)
 
-returns-2 : tie.Need-returns-2
-returns-2 c = done (at-over c.before.before) refl refl c.before.before.over.ensures.0 refl refl
+returns-2 : tie.Need-returns-in-None
+returns-2 c = done (at-over c.before.before) refl refl c.over.ensures.0 refl refl
 
-returns-3 : tie.Need-returns-3
-returns-3 c = refuses (at-start c.before.before.before.before.before.before) (exit-refused _ _ (rw c.before.number.given.1 at c.before.before.before.name.ensures))
+returns-3 : tie.Need-returns-in-Refused
+returns-3 c = refuses (at-start c.before.before.before.before) (exit-refused _ _ (rw c.in-Refused.is at c.name.ensures))
 
-pub exit-spec : {M : Type 1} → statement M
-exit-spec =
+pub exit_spec : {M : Type 1} → statement M
+exit_spec =
     tie.close
     (tie.spec
     name-requires

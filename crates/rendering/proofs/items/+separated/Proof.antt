@@ -8,7 +8,7 @@ use mathlib.Core.Path.{refl}
 use lib.ListN.{length}
 use Rattle.lexing.specs.Bytes.{bytes}
 use Rattle.rendering.specs.Parts.{Part}
-use Rattle.rendering.specs.StmtParts.{item_print, item_list}
+use Rattle.rendering.specs.StmtParts.{item_words, item_print, item_list}
 use Rattle.tree.proofs.get.Reads as get
 use Rattle.rendering.proofs as fn
 use fn.PartPrints.Joins.{inside, passed as nearer}
@@ -57,43 +57,48 @@ module _ (t : ℕ) where
       (λ x. separated-print (item_print c.args.text.now c.args.words.now c.args.counts.now c.args.step c.args.at 0 c.args.kind) c.args.first.now (bytes ", ") x.tree.0 x.tree.1)
 
   -- an item stands here
-  is-inside : (c : Of lts.Else1) → c.before.before.before.before.before.before.before.before.args.at < length c.before.before.before.before.before.before.before.before.args.words.now
-  is-inside c = inside c.before.before.before.before.before.before.before.before.args.words.now c.before.get.ensures c.if1.false
+  is-inside : (c : Of lts.Else-get-eq-NO_MORE) → c.args.at < length c.args.words.now
+  is-inside c = inside c.args.words.now c.get.ensures c.if-get-eq-NO_MORE.false
 
-  abbrev at_item : Of lts.Else1 → Place
-  at_item c = item (at-start c.before.before.before.before.before.before.before.before) c.before.before.after.ensures (is-inside c) _ _ (λ x. refl)
+  abbrev at_item : Of lts.Else-get-eq-NO_MORE → Place
+  at_item c = item (at-start c.before.before.before.before.before.before.before.before) c.after-inside.ensures (is-inside c) _ _ (λ x. refl)
 
-  abbrev at_first : Of lts.After-put → Place
-  at_first c = text (at_item c.before.before) c.put.ensures _ (λ x. refl)
+  abbrev at_first : Of lts.After-put-a → Place
+  at_first c = text (at_item c.before.before) c.put-a.ensures _ (λ x. refl)
 
-  abbrev at_one : Of lts.After-one → Place
-  at_one c = part (at_first c.before.before.before.before) c.one.ensures (λ x. x.tree.0) _ (λ x. (ready (at_first c.before.before.before.before) (le_refl 0) x.given.0, x.given.1.0)) _ (λ x. refl) (λ x. refl)
+  abbrev at_one : Of lts.After-one-s → Place
+  at_one c = part (at_first c.before.before.before.before) c.one-s.ensures (λ x. x.tree.0) _ (λ x. (ready (at_first c.before.before.before.before) (le_refl 0) x.given.0, x.given.1.0)) _ (λ x. refl) (λ x. refl)
 
   abbrev at-end : Of lts.After-separated → Place
   at-end c =
-      part (at_one c.before.before.before.before.before) c.separated.ensures (λ x. x.tree.1) _ (λ x. (ready (at_one c.before.before.before.before.before) (le_refl 0) x.given.0, x.given.1.1)) _ (λ x. refl) (λ x. refl)
+      part (at_one c.before.before.before.before.before.before) c.separated.ensures (λ x. x.tree.1) _ (λ x. (ready (at_one c.before.before.before.before.before.before) (le_refl 0) x.given.0, x.given.1.1)) _ (λ x. refl) (λ x. refl)
 
-  returns : Of lts.Need-returns
-  returns c = at_none (list c.before.before.before.before.before.before.before.before) cons (a-list _ _ _ _ (bytes ", ")) c.before.get.ensures c.before.before.after.ensures c.if1.true
+  returns : Of lts.Need-returns-then-get-eq-NO_MORE
+  returns c = at_none (list c.before.before.before.before.before.before.before.before) cons (a-list (list c.before.before.before.before.before.before.before.before).given (item_words c.args.text.now c.args.words.now c.args.counts.now c.args.step c.args.at 0 c.args.kind) (item_print c.args.text.now c.args.words.now c.args.counts.now c.args.step c.args.at 0 c.args.kind) c.args.first.now (bytes ", ")) c.get.ensures c.after-inside.ensures c.if-get-eq-NO_MORE.true
 
   separated-requires : Of lts.Need-separated-requires
   separated-requires c κs = (
-    nearer c.before.before.before.before.before.before.before.before.before.before.before.before.before.before.before.before.before.before.requires.0
-        c.before.before.before.before.before.before.before.before.before.before.before.before.after.ensures (is-inside
-        c.before.before.before.before.before.before.before.before.before.before) c.before.before.before.before.one.ensures.forward,
+    nearer c.requires.0
+        c.after-inside.ensures (is-inside
+        c.before.before.before.before.before.before.before.before.before.before.before) c.one-s.ensures.forward,
     tt,
   )
 
-  returns-2 : Of lts.Need-returns-2
-  returns-2 c = at_some (list
-      c.before.before.before.before.before.before.before.before.before.before.before.before.before.before.before.before.before.before.before.before.before) cons (a-list _ _ _ _
-      (bytes ", ")) c.before.before.before.before.before.before.before.before.before.before.before.before.before.before.get.ensures
-      c.before.before.before.before.before.before.before.before.before.before.before.before.before.if1.false (done (at-end c.before.before) (λ x. refl) (λ x. refl))
+  returns-2 : Of lts.Need-returns
+  returns-2 c = at_some (list c.before.before.before.before.before.before.before.before.before.before.before.before.before.before.before.before.before.before.before.before.before.before) cons (a-list (list c.before.before.before.before.before.before.before.before.before.before.before.before.before.before.before.before.before.before.before.before.before.before).given (item_words c.args.text.now c.args.words.now c.args.counts.now c.args.step c.args.at 0 c.args.kind) (item_print c.args.text.now c.args.words.now c.args.counts.now c.args.step c.args.at 0 c.args.kind) c.args.first.now (bytes ", ")) c.get.ensures
+      c.if-get-eq-NO_MORE.false (done (at-end c.before.before) (λ x. refl) (λ x. refl))
 
   pub spec : {M : Type 1} → lts.Closed claims (separated-at t) Post M
   spec =
       lts.spec claims (separated-at t) Post
-      (λ c κs. tt) (λ c κs. tt) returns (λ c κs. tt) (λ c κs. tt) (λ c. search rules) separated-requires (λ c. search rules) returns-2
+      (λ c κs. search rules)
+      (λ c κs. search rules)
+      returns
+      (λ c κs. search rules)
+      (λ c κs. search rules)
+      separated-requires
+      (λ c. search rules)
+      returns-2
 
-pub +separated-spec : {M : Type 1} → statement M
-+separated-spec = close μ-separated (λ t. spec t)
+pub +separated_spec : {M : Type 1} → statement M
++separated_spec = close μ-separated (λ t. spec t)

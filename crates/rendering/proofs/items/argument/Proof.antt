@@ -13,8 +13,8 @@ use Rattle.rendering.proofs.items.argument.Tie as tie
 abbrev at-start : tie.Start → Place
 at-start c = begin (an_item c.args.text.now c.args.words.now c.args.counts.now c.args.step c.args.at 0 Argument) c.args.words.now c.args.at c.args.out.now c.args.pos
 
-abbrev at-put-mode : tie.After-put-mode → Place
-at-put-mode c = text_of (at-start c.before.before.before.before.before.before) _ _ (λ x. mode-written c.before.before.before.before.before.before.args.words.now _ x.tree.mode (word_at c.before.before.before.before.before.before.args.words.now _ refl x.stands) c.put-mode.ensures) (λ x. refl)
+abbrev at-put-mode : tie.After-put_mode-a → Place
+at-put-mode c = text_of (at-start c.before.before.before.before.before.before) _ _ (λ x. mode-written c.args.words.now _ x.tree.mode (word_at c.args.words.now _ refl x.stands) c.put_mode-a.ensures) (λ x. refl)
 
 abbrev at_after : tie.After-after → Place
 at_after c = passed (at-put-mode c.before.before.before) c.after.ensures _ _ (λ x. refl)
@@ -25,6 +25,11 @@ at-inline c = part (at_after c.before.before) c.inline.ensures (λ x. x.tree.arg
 returns : tie.Need-returns
 returns c = done (at-inline c.before.before) (λ x. refl) (λ x. refl)
 
-pub argument-spec : {M : Type 1} → statement M
-argument-spec =
-    tie.close (tie.spec (λ c κs. search rules) (λ c κs. search rules) (λ c κs. search rules) (λ c. search rules) returns)
+pub argument_spec : {M : Type 1} → statement M
+argument_spec =
+    tie.close (tie.spec
+    (λ c κs. search rules)
+    (λ c κs. search rules)
+    (λ c κs. search rules)
+    (λ c. search rules)
+    returns)

@@ -12,24 +12,23 @@ use Rattle.rendering.proofs.items.formal.Tie as tie
 abbrev at-start : tie.Start → Place
 at-start c = begin (formal_part c.args.text.now) c.args.words.now c.args.at c.args.out.now c.args.pos
 
-abbrev at-put-unless : tie.After-put-unless → Place
-at-put-unless c = text_of (at-start c.before.before.before.before.before.before.before.before) _ _ (λ x. same_bytes_lem (injective-by x.tree.injective (word_at
-    c.before.before.before.before.before.before.before.before.args.words.now _ c.before.before.get.ensures (c.before.before.before.before.after-name.ensures.after _ _ _
-    x.stands))) c.put-unless.ensures) (λ x. refl)
+abbrev at-put-unless : tie.After-put_unless-a → Place
+at-put-unless c = text_of (at-start c.before.before.before.before.before.before.before.before.before) _ _ (λ x. same_bytes_lem (injective-by x.tree.injective (word_at
+    c.args.words.now _ c.get.ensures (c.after_name-third.ensures.after _ _ _
+    x.stands))) c.put_unless-a.ensures) (λ x. refl)
 
-abbrev at-typed-apart : tie.After-typed-apart → Place
-at-typed-apart c = part (at-put-unless c.before.before.before.before) c.typed-apart.ensures (λ x. (x.tree.name, bool_word x.tree.injective, x.tree.typ)) _ (λ x. tt) _ (λ x. refl) (λ x. refl)
+abbrev at-typed-apart : tie.After-typed_apart → Place
+at-typed-apart c = part (at-put-unless c.before.before.before.before) c.typed_apart.ensures (λ x. (x.tree.name, bool_word x.tree.injective, x.tree.typ)) _ (λ x. tt) _ (λ x. refl) (λ x. refl)
 
 returns : tie.Need-returns
 returns c = done (at-typed-apart c.before.before) (λ x. refl) (λ x. refl)
 
-pub formal-spec : {M : Type 1} → statement M
-formal-spec =
+pub formal_spec : {M : Type 1} → statement M
+formal_spec =
     tie.close
     (tie.spec
     (λ c κs. search rules)
     (λ c κs. search rules)
-    (λ c. search rules)
     (λ c κs. search rules)
     (λ c κs. search rules)
     (λ c. search rules)

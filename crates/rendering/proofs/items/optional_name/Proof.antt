@@ -11,27 +11,27 @@ use Rattle.rendering.proofs.items.optional_name.Tie as tie
 abbrev at-start : tie.Start → Place
 at-start c = begin (made (optional_name c.args.text.now c.args.prefix.now) some) c.args.words.now c.args.at c.args.out.now c.args.pos
 
-abbrev at_after : tie.After-after → Place
-at_after c = passed (at-start c.before.before.before.before.before) c.after.ensures _ _ (λ x. refl)
+abbrev at_after : tie.After-after-inside → Place
+at_after c = passed (at-start c.before.before.before.before.before) c.after-inside.ensures _ _ (λ x. refl)
 
-abbrev at-put : tie.After-put → Place
-at-put c = text (at_after c.before.before.before.before) c.put.ensures _ (λ x. refl)
+abbrev at-put : tie.After-put-a → Place
+at-put c = text (at_after c.before.before.before.before) c.put-a.ensures _ (λ x. refl)
 
-abbrev at-put-name : tie.After-put-name → Place
-at-put-name c = part (at-put c.before.before.before.before) c.put-name.ensures (λ x. x.tree) _ (λ x. tt) _ (λ x. refl) (λ x. refl)
+abbrev at-put-name : tie.After-put_name → Place
+at-put-name c = part (at-put c.before.before.before.before) c.put_name.ensures (λ x. x.tree) _ (λ x. tt) _ (λ x. refl) (λ x. refl)
 
-returns : tie.Need-returns
-returns c = at_none (optional_name c.before.before.before.before.before.before.before.args.text.now c.before.before.before.before.before.before.before.args.prefix.now) some (an-option _ _ _ c.before.before.before.before.before.before.before.args.prefix.now) c.before.get.ensures c.before.before.after.ensures c.if1.true
+returns : tie.Need-returns-then-get-eq-NO_MORE
+returns c = at_none (optional_name c.args.text.now c.args.prefix.now) some (an-option _ _ _ c.args.prefix.now) c.get.ensures c.after-inside.ensures c.if-get-eq-NO_MORE.true
 
-returns-2 : tie.Need-returns-2
-returns-2 c = at_some (optional_name c.before.before.before.before.before.before.before.before.before.before.before.before.before.before.before.args.text.now
-    c.before.before.before.before.before.before.before.before.before.before.before.before.before.before.before.args.prefix.now) some (an-option _ _ _
-    c.before.before.before.before.before.before.before.before.before.before.before.before.before.before.before.args.prefix.now)
-    c.before.before.before.before.before.before.before.before.before.get.ensures c.before.before.before.before.before.before.before.before.if1.false (done (at-put-name
+returns-2 : tie.Need-returns
+returns-2 c = at_some (optional_name c.args.text.now
+    c.args.prefix.now) some (an-option _ _ _
+    c.args.prefix.now)
+    c.get.ensures c.if-get-eq-NO_MORE.false (done (at-put-name
     c.before.before) (λ x. refl) (λ x. refl))
 
-pub optional-name-spec : {M : Type 1} → statement M
-optional-name-spec =
+pub optional_name_spec : {M : Type 1} → statement M
+optional_name_spec =
     tie.close
     (tie.spec
     (λ c κs. search rules)

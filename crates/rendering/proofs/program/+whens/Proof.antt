@@ -59,54 +59,63 @@ module _ (t : ℕ) where
       seen (begin (made (list c) whens_of) c.args.words.now c.args.at c.args.out.now c.args.pos) _ (λ x. whens-print c.args.text.now c.args.step x.tree.0 x.tree.1)
 
   -- a clause stands here
-  is-inside : (c : Of lts.Else1) → c.before.before.before.before.before.before.before.args.at < length c.before.before.before.before.before.before.before.args.words.now
-  is-inside c = inside c.before.before.before.before.before.before.before.args.words.now c.before.get.ensures c.if1.false
+  is-inside : (c : Of lts.Else-get-eq-NO_MORE) → c.args.at < length c.args.words.now
+  is-inside c = inside c.args.words.now c.get.ensures c.if-get-eq-NO_MORE.false
 
-  abbrev at_item : Of lts.Else1 → Place
-  at_item c = item (at-start c.before.before.before.before.before.before.before) c.before.before.after.ensures (is-inside c) _ _ (λ x. refl)
+  abbrev at_item : Of lts.Else-get-eq-NO_MORE → Place
+  at_item c = item (at-start c.before.before.before.before.before.before.before) c.after-inside.ensures (is-inside c) _ _ (λ x. refl)
 
-  abbrev at-indent : Of lts.After-put-indent → Place
-  at-indent c = text (at_item c.before.before) c.put-indent.ensures _ (λ x. refl)
+  abbrev at-indent : Of lts.After-put_indent-a → Place
+  at-indent c = text (at_item c.before.before) c.put_indent-a.ensures _ (λ x. refl)
 
-  abbrev at-when : Of lts.After-put → Place
-  at-when c = text (at-indent c.before.before.before.before.before) c.put.ensures _ (λ x. refl)
+  abbrev at-when : Of lts.After-put-b → Place
+  at-when c = text (at-indent c.before.before.before.before.before.before) c.put-b.ensures _ (λ x. refl)
 
-  abbrev at-expr : Of lts.After-inline → Place
-  at-expr c = part (at-when c.before.before.before.before) c.inline.ensures (λ x. x.tree.0) _ (λ x. (ready (at-when c.before.before.before.before) (omega arith) x.given.0, x.given.1.0)) _ (λ x. refl) (λ x. refl)
+  abbrev at-expr : Of lts.After-inline-s → Place
+  at-expr c = part (at-when c.before.before.before.before) c.inline-s.ensures (λ x. x.tree.0) _ (λ x. (ready (at-when c.before.before.before.before) (omega arith) x.given.0, x.given.1.0)) _ (λ x. refl) (λ x. refl)
 
-  abbrev at-line : Of lts.After-put2 → Place
-  at-line c = text (at-expr c.before.before.before.before.before) c.put2.ensures _ (λ x. refl)
+  abbrev at-line : Of lts.After-put-c → Place
+  at-line c = text (at-expr c.before.before.before.before.before.before) c.put-c.ensures _ (λ x. refl)
 
   abbrev at-end : Of lts.After-whens → Place
   at-end c = part (at-line c.before.before.before.before) c.whens.ensures (λ x. x.tree.1) _ (λ x. (ready (at-line c.before.before.before.before) (le_refl _) x.given.0, x.given.1.1)) _ (λ x. refl) (λ x. refl)
 
-  returns : Of lts.Need-returns
-  returns c = at_none (list c.before.before.before.before.before.before.before) whens_of (some-whens c.before.before.before.before.before.before.before.args.text.now c.before.before.before.before.before.before.before.args.words.now c.before.before.before.before.before.before.before.args.counts.now
-      c.before.before.before.before.before.before.before.args.step
-      c.before.before.before.before.before.before.before.args.at) c.before.get.ensures c.before.before.after.ensures c.if1.true
+  returns : Of lts.Need-returns-then-get-eq-NO_MORE
+  returns c = at_none (list c.before.before.before.before.before.before.before) whens_of (some-whens c.args.text.now c.args.words.now c.args.counts.now
+      c.args.step
+      c.args.at) c.get.ensures c.after-inside.ensures c.if-get-eq-NO_MORE.true
 
   whens-requires : Of lts.Need-whens-requires
   whens-requires c κs = (
-    nearer c.before.before.before.before.before.before.before.before.before.before.before.before.before.before.before.before.before.before.before.before.before.before.before.before.before.before.requires.0
-        c.before.before.before.before.before.before.before.before.before.before.before.before.before.before.before.before.before.before.before.before.before.after.ensures (is-inside c.before.before.before.before.before.before.before.before.before.before.before.before.before.before.before.before.before.before.before)
-        c.before.before.before.before.before.before.before.before.inline.ensures.forward,
+    nearer c.requires.0
+        c.after-inside.ensures (is-inside c.before.before.before.before.before.before.before.before.before.before.before.before.before.before.before.before.before.before.before.before.before)
+        c.inline-s.ensures.forward,
     tt,
   )
 
-  returns-2 : Of lts.Need-returns-2
-  returns-2 c = at_some (list c.before.before.before.before.before.before.before.before.before.before.before.before.before.before.before.before.before.before.before.before.before.before.before.before.before.before.before.before.before) whens_of
-      (some-whens c.before.before.before.before.before.before.before.before.before.before.before.before.before.before.before.before.before.before.before.before.before.before.before.before.before.before.before.before.before.args.text.now
-      c.before.before.before.before.before.before.before.before.before.before.before.before.before.before.before.before.before.before.before.before.before.before.before.before.before.before.before.before.before.args.words.now
-      c.before.before.before.before.before.before.before.before.before.before.before.before.before.before.before.before.before.before.before.before.before.before.before.before.before.before.before.before.before.args.counts.now
-      c.before.before.before.before.before.before.before.before.before.before.before.before.before.before.before.before.before.before.before.before.before.before.before.before.before.before.before.before.before.args.step
-      c.before.before.before.before.before.before.before.before.before.before.before.before.before.before.before.before.before.before.before.before.before.before.before.before.before.before.before.before.before.args.at)
-      c.before.before.before.before.before.before.before.before.before.before.before.before.before.before.before.before.before.before.before.before.before.before.before.get.ensures
-      c.before.before.before.before.before.before.before.before.before.before.before.before.before.before.before.before.before.before.before.before.before.before.if1.false (done (at-end c.before.before) (λ x. refl) (λ x. refl))
+  returns-2 : Of lts.Need-returns
+  returns-2 c = at_some (list c.before.before.before.before.before.before.before.before.before.before.before.before.before.before.before.before.before.before.before.before.before.before.before.before.before.before.before.before.before.before.before) whens_of
+      (some-whens c.args.text.now
+      c.args.words.now
+      c.args.counts.now
+      c.args.step
+      c.args.at)
+      c.get.ensures
+      c.if-get-eq-NO_MORE.false (done (at-end c.before.before) (λ x. refl) (λ x. refl))
 
   pub spec : {M : Type 1} → lts.Closed claims (whens-at t) Post M
   spec =
       lts.spec claims (whens-at t) Post
-      (λ c κs. tt) (λ c κs. tt) returns (λ c κs. tt) (λ c. search rules) (λ c κs. tt) (λ c κs. tt) (λ c. search rules) (λ c κs. tt) whens-requires (λ c. search rules) returns-2
+      (λ c κs. search rules)
+      (λ c κs. search rules)
+      returns
+      (λ c κs. search rules)
+      (λ c κs. search rules)
+      (λ c κs. search rules)
+      (λ c κs. search rules)
+      whens-requires
+      (λ c. search rules)
+      returns-2
 
-pub +whens-spec : {M : Type 1} → statement M
-+whens-spec = close μ-whens (λ t. spec t)
+pub +whens_spec : {M : Type 1} → statement M
++whens_spec = close μ-whens (λ t. spec t)

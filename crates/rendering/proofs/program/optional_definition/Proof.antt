@@ -13,48 +13,46 @@ use Rattle.rendering.proofs.program.optional_definition.Tie as tie
 abbrev at-start : tie.Start → Place
 at-start c = begin (made (optional_definition c.args.text.now c.args.words.now c.args.counts.now c.args.step c.args.at) some) c.args.words.now c.args.at c.args.out.now c.args.pos
 
-abbrev at_after : tie.After-after → Place
-at_after c = passed (at-start c.before.before.before.before.before) c.after.ensures _ _ (λ x. refl)
+abbrev at_after : tie.After-after-inside → Place
+at_after c = passed (at-start c.before.before.before.before.before) c.after-inside.ensures _ _ (λ x. refl)
 
-abbrev at-whens : tie.After-whens → Place
-at-whens c = part (at_after c.before.before.before.before) c.whens.ensures (λ x. x.tree.when) _ (λ x. (ready (at_after c.before.before.before.before) (le_refl _) x.given.0, x.given.1.1)) _ (λ x. refl) (λ x. refl)
+abbrev at-whens : tie.After-whens-s → Place
+at-whens c = part (at_after c.before.before.before.before) c.whens-s.ensures (λ x. x.tree.when) _ (λ x. (ready (at_after c.before.before.before.before) (le_refl _) x.given.0, x.given.1.1)) _ (λ x. refl) (λ x. refl)
 
-abbrev at-put : tie.After-put → Place
-at-put c = text (at-whens c.before.before.before.before.before) c.put.ensures _ (λ x. refl)
+abbrev at-put : tie.After-put-a → Place
+at-put c = text (at-whens c.before.before.before.before.before.before) c.put-a.ensures _ (λ x. refl)
 
-abbrev at-broken-lines : tie.After-broken-lines → Place
-at-broken-lines c = part (at-put c.before.before.before.before) c.broken-lines.ensures (λ x. x.tree.body) _ (λ x. (ready (at-put c.before.before.before.before) (le_refl _) x.given.0, x.given.1.2)) _ (λ x. refl) (λ x. refl)
+abbrev at-broken-lines : tie.After-broken_lines-t → Place
+at-broken-lines c = part (at-put c.before.before.before.before) c.broken_lines-t.ensures (λ x. x.tree.body) _ (λ x. (ready (at-put c.before.before.before.before) (le_refl _) x.given.0, x.given.1.2)) _ (λ x. refl) (λ x. refl)
 
-abbrev at-put2 : tie.After-put2 → Place
-at-put2 c = text (at-broken-lines c.before.before.before.before.before) c.put2.ensures _ (λ x. refl)
+abbrev at-put2 : tie.After-put → Place
+at-put2 c = text (at-broken-lines c.before.before.before.before.before.before) c.put.ensures _ (λ x. refl)
 
-returns : tie.Need-returns
+returns : tie.Need-returns-then-get-eq-NO_MORE
 returns c =
-    at_none (optional_definition c.before.before.before.before.before.before.before.args.text.now c.before.before.before.before.before.before.before.args.words.now c.before.before.before.before.before.before.before.args.counts.now c.before.before.before.before.before.before.before.args.step
-    c.before.before.before.before.before.before.before.args.at) some (an-option _ _ _ [])
-    c.before.get.ensures c.before.before.after.ensures c.if1.true
+    at_none (optional_definition c.args.text.now c.args.words.now c.args.counts.now c.args.step
+    c.args.at) some (an-option _ _ _ [])
+    c.get.ensures c.after-inside.ensures c.if-get-eq-NO_MORE.true
 
-returns-2 : tie.Need-returns-2
+returns-2 : tie.Need-returns
 returns-2 c =
-    at_some (optional_definition c.before.before.before.before.before.before.before.before.before.before.before.before.before.before.before.before.before.before.before.before.before.before.before.before.before.args.text.now
-    c.before.before.before.before.before.before.before.before.before.before.before.before.before.before.before.before.before.before.before.before.before.before.before.before.before.args.words.now
-    c.before.before.before.before.before.before.before.before.before.before.before.before.before.before.before.before.before.before.before.before.before.before.before.before.before.args.counts.now
-    c.before.before.before.before.before.before.before.before.before.before.before.before.before.before.before.before.before.before.before.before.before.before.before.before.before.args.step
-    c.before.before.before.before.before.before.before.before.before.before.before.before.before.before.before.before.before.before.before.before.before.before.before.before.before.args.at) some (an-option _ _ _ [])
-    c.before.before.before.before.before.before.before.before.before.before.before.before.before.before.before.before.before.before.before.get.ensures c.before.before.before.before.before.before.before.before.before.before.before.before.before.before.before.before.before.before.if1.false (done (at-put2 c.before.before) (λ x. refl) (λ x. refl))
+    at_some (optional_definition c.args.text.now
+    c.args.words.now
+    c.args.counts.now
+    c.args.step
+    c.args.at) some (an-option _ _ _ [])
+    c.get.ensures c.if-get-eq-NO_MORE.false (done (at-put2 c.before.before) (λ x. refl) (λ x. refl))
 
-pub optional-definition-spec : {M : Type 1} → statement M
-optional-definition-spec =
+pub optional_definition_spec : {M : Type 1} → statement M
+optional_definition_spec =
     tie.close
     (tie.spec
     (λ c κs. search rules)
     (λ c κs. search rules)
     returns
     (λ c κs. search rules)
-    (λ c. search rules)
     (λ c κs. search rules)
     (λ c κs. search rules)
-    (λ c. search rules)
     (λ c κs. search rules)
     (λ c. search rules)
     returns-2)

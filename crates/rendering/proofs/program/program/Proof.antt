@@ -14,56 +14,55 @@ use Rattle.rendering.proofs.program.program.Tie as tie
 abbrev at-start : tie.Start → Place
 at-start c = seen (begin (a_program c.args.text.now c.args.words.now c.args.counts.now c.args.step) c.args.words.now 0 c.args.out.now c.args.pos) _ (λ x. program-print c.args.text.now c.args.step x.tree)
 
-abbrev at-put : tie.After-put → Place
-at-put c = text (at-start c.before.before.before.before.before.before.before) c.put.ensures _ (λ x. refl)
+abbrev at-put : tie.After-put-a → Place
+at-put c = text (at-start c.before.before.before.before.before.before.before.before) c.put-a.ensures _ (λ x. refl)
 
-abbrev at-decls : tie.After-decls → Place
+abbrev at-decls : tie.After-decls-s → Place
 at-decls c =
-    part (at-put c.before.before.before.before) c.decls.ensures (λ x. x.tree.types) _ (λ x. (
+    part (at-put c.before.before.before.before) c.decls-s.ensures (λ x. x.tree.types) _ (λ x. (
       ready (at-put c.before.before.before.before) (le_refl _) x.given.0,
       free-items
-          (decl_words c.before.before.before.before.before.before.before.before.before.before.before.args.text.now c.before.before.before.before.before.before.before.before.before.before.before.args.words.now c.before.before.before.before.before.before.before.before.before.before.before.args.counts.now
-          c.before.before.before.before.before.before.before.before.before.before.before.args.step 0 Types) x.tree.types _,
+          (decl_words c.args.text.now c.args.words.now c.args.counts.now
+          c.args.step 0 Types) x.tree.types _,
     )) _ (λ x. refl) (λ x. refl)
 
-abbrev at-decls2 : tie.After-decls2 → Place
+abbrev at-decls2 : tie.After-decls-t → Place
 at-decls2 c =
-    part (at-decls c.before.before.before.before) c.decls2.ensures (λ x. x.tree.taggers) _ (λ x. (
+    part (at-decls c.before.before.before.before) c.decls-t.ensures (λ x. x.tree.taggers) _ (λ x. (
       ready (at-decls c.before.before.before.before) (le_refl _) x.given.0,
       free-items
-          (decl_words c.before.before.before.before.before.before.before.before.before.before.before.before.before.before.before.args.text.now c.before.before.before.before.before.before.before.before.before.before.before.before.before.before.before.args.words.now
-          c.before.before.before.before.before.before.before.before.before.before.before.before.before.before.before.args.counts.now c.before.before.before.before.before.before.before.before.before.before.before.before.before.before.before.args.step 0 Taggers) x.tree.taggers _,
+          (decl_words c.args.text.now c.args.words.now
+          c.args.counts.now c.args.step 0 Taggers) x.tree.taggers _,
     )) _ (λ x. refl) (λ x. refl)
 
-abbrev at-decls3 : tie.After-decls3 → Place
-at-decls3 c = part (at-decls2 c.before.before.before.before) c.decls3.ensures (λ x. x.tree.functions) _ (λ x. (ready (at-decls2 c.before.before.before.before) (le_refl _) x.given.0, x.given.1.2.1)) _ (λ x. refl) (λ x. refl)
+abbrev at-decls3 : tie.After-decls-u → Place
+at-decls3 c = part (at-decls2 c.before.before.before.before) c.decls-u.ensures (λ x. x.tree.functions) _ (λ x. (ready (at-decls2 c.before.before.before.before) (le_refl _) x.given.0, x.given.1.2.1)) _ (λ x. refl) (λ x. refl)
 
-abbrev at-decls4 : tie.After-decls4 → Place
-at-decls4 c = part (at-decls3 c.before.before.before.before) c.decls4.ensures (λ x. x.tree.axioms) _ (λ x. (ready (at-decls3 c.before.before.before.before) (le_refl _) x.given.0, x.given.1.3.1)) _ (λ x. refl) (λ x. refl)
+abbrev at-decls4 : tie.After-decls-v → Place
+at-decls4 c = part (at-decls3 c.before.before.before.before) c.decls-v.ensures (λ x. x.tree.axioms) _ (λ x. (ready (at-decls3 c.before.before.before.before) (le_refl _) x.given.0, x.given.1.3.1)) _ (λ x. refl) (λ x. refl)
 
-abbrev at-decls5 : tie.After-decls5 → Place
-at-decls5 c = part (at-decls4 c.before.before.before.before) c.decls5.ensures (λ x. x.tree.procedures) _ (λ x. (ready (at-decls4 c.before.before.before.before) (le_refl _) x.given.0, x.given.1.4.1)) _ (λ x. refl) (λ x. refl)
+abbrev at-decls5 : tie.After-decls → Place
+at-decls5 c = part (at-decls4 c.before.before.before.before) c.decls.ensures (λ x. x.tree.procedures) _ (λ x. (ready (at-decls4 c.before.before.before.before) (le_refl _) x.given.0, x.given.1.4.1)) _ (λ x. refl) (λ x. refl)
 
-same_length : tie.Need-same-length
+same_length : tie.Need-shape_of-out
 same_length c =
     omega (
       arith,
-      c.before.before.before.before.before.before.before.before.before.before.before.before.before.before.before.before.before.before.before.before.before.out.given,
-      c.before.before.before.before.before.before.before.before.before.before.before.before.before.before.before.before.before.out2.given,
-      c.before.before.before.before.before.before.before.before.before.before.before.before.before.out3.given,
-      c.before.before.before.before.before.before.before.before.before.out4.given,
-      c.before.before.before.before.before.out5.given,
-      c.before.out6.given,
+      c.out-1.given,
+      c.out-2-1.given,
+      c.out-3-1.given,
+      c.out-4-1.given,
+      c.out-5-1.given,
+      c.out-6-1.given,
     )
 
 returns : tie.Need-returns
 returns c = done (at-decls5 c.before.before) (λ x. refl) (λ x. refl)
 
-pub program-spec : {M : Type 1} → statement M
-program-spec =
+pub program_spec : {M : Type 1} → statement M
+program_spec =
     tie.close
     (tie.spec
-    (λ c. search rules)
     (λ c κs. search rules)
     (λ c κs. search rules)
     (λ c κs. search rules)

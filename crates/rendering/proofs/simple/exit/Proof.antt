@@ -9,27 +9,24 @@ use Rattle.rendering.proofs.simple.exit.Tie as tie
 abbrev at-start : tie.Start → Place
 at-start c = begin (an_exit c.args.text.now) c.args.words.now c.args.at c.args.out.now c.args.pos
 
-abbrev at-put : tie.After-put → Place
-at-put c = text (at-start c.before.before.before.before.before.before) c.put.ensures _ (λ x. refl)
+abbrev at-put : tie.After-put-a → Place
+at-put c = text (at-start c.before.before.before.before.before.before.before) c.put-a.ensures _ (λ x. refl)
 
-abbrev at-optional-name : tie.After-optional-name → Place
-at-optional-name c = part (at-put c.before.before.before.before.before) c.optional-name.ensures (λ x. x.tree) _ (λ x. tt) _ (λ x. refl) (λ x. refl)
+abbrev at-optional-name : tie.After-optional_name-s → Place
+at-optional-name c = part (at-put c.before.before.before.before.before.before) c.optional_name-s.ensures (λ x. x.tree) _ (λ x. tt) _ (λ x. refl) (λ x. refl)
 
-abbrev at-put2 : tie.After-put2 → Place
-at-put2 c = text (at-optional-name c.before.before.before.before.before) c.put2.ensures _ (λ x. refl)
+abbrev at-put2 : tie.After-put → Place
+at-put2 c = text (at-optional-name c.before.before.before.before.before.before) c.put.ensures _ (λ x. refl)
 
 returns : tie.Need-returns
 returns c = done (at-put2 c.before.before) (λ x. refl) (λ x. refl)
 
-pub exit-spec : {M : Type 1} → statement M
-exit-spec =
+pub exit_spec : {M : Type 1} → statement M
+exit_spec =
     tie.close
     (tie.spec
-    (λ c. search rules)
     (λ c κs. search rules)
-    (λ c. search rules)
     (λ c κs. search rules)
-    (λ c. search rules)
     (λ c κs. search rules)
     (λ c. search rules)
     returns)

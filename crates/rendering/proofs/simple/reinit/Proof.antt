@@ -12,34 +12,31 @@ use Rattle.rendering.proofs.simple.reinit.Tie as tie
 abbrev at-start : tie.Start → Place
 at-start c = begin (a_reinit c.args.text.now c.args.words.now c.args.counts.now c.args.step c.args.at 0) c.args.words.now c.args.at c.args.out.now c.args.pos
 
-abbrev at-put : tie.After-put → Place
-at-put c = text (at-start c.before.before.before.before.before.before.before) c.put.ensures _ (λ x. refl)
+abbrev at-put : tie.After-put-a → Place
+at-put c = text (at-start c.before.before.before.before.before.before.before.before) c.put-a.ensures _ (λ x. refl)
 
-abbrev at-separated : tie.After-separated → Place
-at-separated c = part (at-put c.before.before.before.before.before) c.separated.ensures (λ x. x.tree) _ (λ x. (
-  ready (at-put c.before.before.before.before.before) (le_refl 0)
+abbrev at-separated : tie.After-separated-s → Place
+at-separated c = part (at-put c.before.before.before.before.before.before) c.separated-s.ensures (λ x. x.tree) _ (λ x. (
+  ready (at-put c.before.before.before.before.before.before) (le_refl 0)
       x.given.0,
-  free-items (item_words c.before.before.before.before.before.before.before.before.before.before.before.before.args.text.now
-      c.before.before.before.before.before.before.before.before.before.before.before.before.args.words.now
-      c.before.before.before.before.before.before.before.before.before.before.before.before.args.counts.now c.before.before.before.before.before.before.before.before.before.before.before.before.args.step
-      c.before.before.before.before.before.before.before.before.before.before.before.before.args.at 0 Name) x.tree _,
+  free-items (item_words c.args.text.now
+      c.args.words.now
+      c.args.counts.now c.args.step
+      c.args.at 0 Name) x.tree _,
 )) _ (λ x. refl) (λ x. refl)
 
-abbrev at-put2 : tie.After-put2 → Place
-at-put2 c = text (at-separated c.before.before.before.before.before) c.put2.ensures _ (λ x. refl)
+abbrev at-put2 : tie.After-put → Place
+at-put2 c = text (at-separated c.before.before.before.before.before.before) c.put.ensures _ (λ x. refl)
 
 returns : tie.Need-returns
 returns c = done (at-put2 c.before.before) (λ x. refl) (λ x. refl)
 
-pub reinit-spec : {M : Type 1} → statement M
-reinit-spec =
+pub reinit_spec : {M : Type 1} → statement M
+reinit_spec =
     tie.close
     (tie.spec
-    (λ c. search rules)
     (λ c κs. search rules)
-    (λ c. search rules)
     (λ c κs. search rules)
-    (λ c. search rules)
     (λ c κs. search rules)
     (λ c. search rules)
     returns)

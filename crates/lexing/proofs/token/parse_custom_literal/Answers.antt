@@ -1,0 +1,14 @@
+-- `token::parse_custom_literal` meets its contract, by that of `run_length`.
+use mathlib.Core.Path.{sym, ◌∙◌}
+use borrow.Author.Rules.{rules}
+use Rattle.lexing.specs.TokenLaws.{unless_empty-none, unless_empty-some}
+use Rattle.lexing.specs.Tokens.{parse_custom_literal}
+use Rattle.lexing.proofs.token.parse_custom_literal.Goals as goal
+
+pub returns-then-n-eq0 : goal.returns-then-n-eq0
+unfolding parse_custom_literal
+returns-then-n-eq0 c = unless_empty-none _ _ (sym c.run_length-n.ensures ∙ c.if-n-eq0.true)
+
+pub returns : goal.returns
+unfolding parse_custom_literal
+returns c = rw (← c.run_length-n.ensures) (unless_empty-some _ _ c.if-n-eq0.false)

@@ -1,0 +1,14 @@
+use native.Mathlib.Omega.{arith}
+use borrow.Author.Rules.{rules}
+use Prim.Native.Nat.{ℕ, ◌+◌, ◌-◌, ◌≤◌}
+use lib.ListN.{length, get_or}
+use mathlib.Core.Path.{◌≡◌}
+use Rattle.names.specs.Spans.{Written}
+use Rattle.names.specs.WriteLaws.{written_none, written_next, written-to}
+use Rattle.names.proofs.cells.copy.Given as goal
+
+abbrev pub invariant-loop-i : goal.invariant-loop-i
+invariant-loop-i l = (l.i ≤ l.end) × Written (λ j. get_or l.from j 0) l.i l.initial.to l.to
+
+abbrev pub decreases-loop-i : goal.decreases-loop-i
+decreases-loop-i l = l.end - l.i

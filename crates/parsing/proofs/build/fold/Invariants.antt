@@ -1,0 +1,9 @@
+use native.Mathlib.Omega.{arith}
+use Rattle.parsing.proofs.Folds.{Folding, folding-start, turn, folding-next, folding-end}
+use Rattle.parsing.proofs.build.fold.Given as goal
+
+abbrev pub invariant-loop-link : goal.invariant-loop-link
+invariant-loop-link l = Folding l.initial.arena l.free l.first l.last l.arena l.e l.link l.top
+
+abbrev pub decreases-loop-link : goal.decreases-loop-link
+decreases-loop-link l = l.link

@@ -1,0 +1,29 @@
+-- `decl::explains` meets its contract, by those of `keyword` and `items`, and by the node of the word 0 (Laws).
+use native.Mathlib.Omega.{arith}
+use mathlib.Core.Path.{refl}
+use borrow.Author.Rules.{rules}
+use Rattle.grammar.specs.Declarations.{parse_explains}
+use Rattle.parsing.specs.Arena.{Holds}
+use Rattle.parsing.proofs.Laws.{kept_refl, took, after-refused, builds-node, builds-from, builds-after, builds-else}
+use Rattle.parsing.proofs.Rooms.{room-on}
+use Rattle.parsing.proofs.Mapping.{builds-must}
+use Rattle.parsing.proofs.decl.explains.Goals as goal
+
+pub items-requires : goal.items-requires
+items-requires c = let t = took c.in-Ok.is c.keyword.ensures in room-on c.requires
+    kept_refl (omega arith) t.inside (omega (arith, t))
+
+pub returns-in-Ok : goal.returns-in-Ok
+unfolding parse_explains
+returns-in-Ok c = let t = took c.in-Ok.is c.keyword.ensures in
+    builds-after _ _ t.says (builds-from c.items.ensures.kept (omega arith) (omega (arith, t)) (omega (arith, t)) (builds-must _
+    c.items.result c.needed.ensures c.items.ensures))
+
+pub returns-in-None : goal.returns-in-None
+unfolding parse_explains
+returns-in-None c = builds-else _ _ (rw c.in-None.is at c.keyword.ensures) (builds-node refl kept_refl (Holds.one c.requires.based.end-run)
+    (omega (arith, c.requires)))
+
+pub returns-in-Refused : goal.returns-in-Refused
+unfolding parse_explains
+returns-in-Refused c = record { kept = kept_refl; agrees = after-refused _ _ (rw c.in-Refused.is at c.keyword.ensures) }

@@ -1,0 +1,14 @@
+-- `leaf::missing` meets its contract, by the answer's three cases.
+use mathlib.Core.Path.{ap, sym}
+use borrow.Author.Rules.{rules}
+use Rattle.parsing.specs.Code.{missing_at}
+use Rattle.parsing.proofs.leaf.missing.Goals as goal
+
+pub returns-in-Ok : goal.returns-in-Ok
+returns-in-Ok c = ap (missing_at _) (sym c.in-Ok.is)
+
+pub returns-in-None : goal.returns-in-None
+returns-in-None c = ap (missing_at _) (sym c.in-None.is)
+
+pub returns-in-Refused : goal.returns-in-Refused
+returns-in-Refused c = ap (missing_at _) (sym c.in-Refused.is)

@@ -1,0 +1,14 @@
+-- `leaf::untaken` meets its contract, by the answer's three cases.
+use mathlib.Core.Path.{ap, sym}
+use borrow.Author.Rules.{rules}
+use Rattle.parsing.specs.Code.{untaken_at}
+use Rattle.parsing.proofs.leaf.untaken.Goals as goal
+
+pub returns-in-Ok : goal.returns-in-Ok
+returns-in-Ok c = ap untaken_at (sym c.in-Ok.is)
+
+pub returns-in-None : goal.returns-in-None
+returns-in-None c = ap untaken_at (sym c.in-None.is)
+
+pub returns-in-Refused : goal.returns-in-Refused
+returns-in-Refused c = ap untaken_at (sym c.in-Refused.is)

@@ -1,0 +1,10 @@
+-- `entry::store` meets its contract, by those of `flatten` and `clear` (Outcomes).
+use borrow.Author.Rules.{rules}
+use Rattle.reading.proofs.entry.Outcomes.{store_words, store-refused}
+use Rattle.reading.proofs.entry.store.Goals as goal
+
+pub returns-then-n-least : goal.returns-then-n-least
+returns-then-n-least c = λ f o. store_words (c.flatten-n.ensures f o) c.least.ensures c.flatten-n.auto.table c.if-n-least.true
+
+pub returns : goal.returns
+returns c = λ f o. store-refused (c.flatten-n.ensures f o) c.least.ensures c.flatten-n.auto.table c.if-n-least.false c.clear.ensures

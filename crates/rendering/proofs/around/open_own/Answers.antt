@@ -1,0 +1,7 @@
+-- The brace and the indent.
+use Rattle.rendering.proofs.Writing.Bytes.{then}
+use borrow.Author.Rules.{rules}
+use Rattle.rendering.proofs.around.open_own.Goals as goal
+
+pub returns : goal.returns
+returns c = then c.put_unless-a.ensures c.put_indent_unless.ensures

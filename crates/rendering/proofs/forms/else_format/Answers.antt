@@ -1,0 +1,7 @@
+-- The format after `else` by whether a conditional follows.
+use Rattle.rendering.proofs.Operators.Surroundings.{else-format-is}
+use borrow.Author.Rules.{rules}
+use Rattle.rendering.proofs.forms.else_format.Goals as goal
+
+pub returns : goal.returns
+returns c = else-format-is c.choose.ensures c.is_if.ensures c.more.ensures

@@ -1,0 +1,27 @@
+-- `outline::end_of` meets its contract: a second word, a first of two, or a row's fields.
+use borrow.Author.Rules.{rules}
+use mathlib.Core.Path.{refl, sym, ◌∙◌, ap}
+use mathlib.Core.Bool.{true}
+use native.Mathlib.Omega.{arith}
+use Rattle.tree.specs.Kind.{fits, misfit}
+use Rattle.tree.specs.Rows.{kinds_of, as_turn}
+use Rattle.tree.proofs.Outlines.{end-second, end-pair, end_row}
+use Rattle.tree.proofs.outline.end_of.Goals as goal
+
+pub returns-then-kind-eq-SECOND_WORD : goal.returns-then-kind-eq-SECOND_WORD
+returns-then-kind-eq-SECOND_WORD c = let a = c.args in end-second a.words.now a.kinds.now a.ends.now a.at c.note_at-kind.ensures c.if-kind-eq-SECOND_WORD.true refl
+
+pub returns-then-kind-ge-NAME : goal.returns-then-kind-ge-NAME
+returns-then-kind-ge-NAME c = let a = c.args in end-pair a.words.now a.kinds.now a.ends.now a.at c.note_at-kind.ensures c.if-kind-ge-NAME.true c.note_at.ensures
+
+pub returns-in-Row : goal.returns-in-Row
+returns-in-Row c =
+    let a = c.args in
+    end_row a.words.now a.kinds.now a.ends.now a.at c.note_at-kind.ensures (fits (kinds_of _)) c.if-kind-eq-SECOND_WORD.false (omega arith) c.get.ensures
+    (ap as_turn (sym c.in-Row.is) ∙ c.turn-f.ensures (λ s l. true)) c.after_fields.ensures
+
+pub returns-in-Misfit : goal.returns-in-Misfit
+returns-in-Misfit c =
+    let a = c.args in
+    end_row a.words.now a.kinds.now a.ends.now a.at c.note_at-kind.ensures (misfit 0) c.if-kind-eq-SECOND_WORD.false (omega arith) c.get.ensures
+    (ap as_turn (sym c.in-Misfit.is) ∙ c.turn-f.ensures (λ s l. true)) refl
