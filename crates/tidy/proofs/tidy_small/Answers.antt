@@ -5,7 +5,7 @@ use Rattle.tidy.proofs.Answers.{relength, small-answered}
 use Rattle.tidy.proofs.tidy_small.Goals as goal
 
 pub answer-requires : goal.answer-requires
-answer-requires c = relength _ c.read_program-read.new.1.0 _ c.read_program-read.result c.read_program-read.ensures (search rules)
+answer-requires c = relength _ c.read_program-read.new.table _ c.read_program-read.result c.read_program-read.ensures (search rules)
 
 pub returns : goal.returns
-returns c = small-answered _ _ (length c.read_program-read.new.1.0) _ c.answer.ensures (search rules) (search rules) (search rules)
+returns c = small-answered _ _ (length c.read_program-read.new.table) _ c.answer.ensures (search rules) (search rules) (search rules)
