@@ -1,4 +1,4 @@
-// Tidy (REFERENCE, "The entries"): a program is read and printed in one call, for a host in C (include/tidy.h).
+// Tidy (REFERENCE, "The entries"): a program is read and printed in one call.
 
 #![tactic(auto)]
 
@@ -19,8 +19,7 @@ use tree::MOST_WORDS;
 const FEW_WORDS: usize = 2565;
 
 // Reads the program `text` and prints it to `out`. Answers how many bytes were written, or a refusal's number times 2^32 plus its place.
-#[unsafe(no_mangle)]
-pub extern "C" fn tidy(text: &[u8], out: &mut [u8]) -> u64
+pub fn tidy(text: &[u8], out: &mut [u8]) -> u64
     ensures { Tidied text.now out.old result out.new }
 {
     if text.len() <= 512 {
