@@ -1,7 +1,7 @@
 /*
  * A host that calls tidy on a file:
  *
- *     rt staticlib tidy
+ *     tools/build tidy
  *     cc -std=c11 -Wall -Wextra -Werror -Iinclude -o target/host examples/host.c target/staticlib/libtidy.a
  *     target/host examples/aim_check.b3
  *

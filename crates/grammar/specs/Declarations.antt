@@ -1,8 +1,8 @@
 -- The reading rules of declarations and programs, in Parser.dfy's order and under its names (REFERENCE, "The reading rules").
-use Rattle.std.specs.Prelude.{ℕ, zero, suc, Bool, true, false, List, [], ◌∷◌}
+use Rattle.std.specs.Prelude.{ℕ, Bool, true, false, List, [], ◌∷◌}
 use Rattle.std.proofs.Math.Option.{Option, none, some}
 use Rattle.lexing.specs.Answer.{Answer, ok, refused, unusable_token}
-use Rattle.tree.specs.Ast.{Span, Binding, binding, Expr, Exprs, no_exprs, ◌then◌, Stmt, ParameterMode, In, InOut, Out}
+use Rattle.tree.specs.Ast.{Span, Binding, binding, Expr, Exprs, no_exprs, ◌then◌, ParameterMode, In, InOut, Out}
 use Rattle.tree.specs.Ast.{Tagger, FParameter, FunctionDefinition, Function, Axiom, PParameter, Procedure, Program}
 use Rattle.lexing.specs.Bytes.{bytes}
 use Rattle.grammar.specs.Steps.{Reader, after, need, must, ◌or◌, mapped, T, Sym, parse_name, parse_type}

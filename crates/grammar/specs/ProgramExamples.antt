@@ -4,7 +4,7 @@ use Rattle.std.specs.Prelude.{ℕ, ◌≡◌, refl, true, false, List, [], ◌�
 use Prim.Native.String.{String}
 use Rattle.std.proofs.Math.Option.{Option, none, some}
 use Rattle.lexing.specs.Answer.{Answer, ok, refused}
-use Rattle.tree.specs.Ast.{Span, Expr, ILiteral, IdExpr, OperatorExpr, Plus, Exprs, no_exprs, ◌then◌, In, InOut, Out, Program}
+use Rattle.tree.specs.Ast.{Span, Expr, ILiteral, IdExpr, OperatorExpr, Plus, no_exprs, ◌then◌, In, InOut, Out, Program}
 use Rattle.tree.specs.Ast.{Stmt, VarDecl, Assign, Reinit, Block, Call, Check, Assume, Reach, Assert, AForall, Choose, If, IfCase, Loop, LabeledStmt, Exit, Return, Probe}
 use Rattle.tree.specs.Ast.{Stmts, no_stmts, stmts, no_cases, case, a_expr, AAssertion, no_a_exprs, a_exprs}
 use Rattle.tree.specs.Resolve.{part, resolve_program}

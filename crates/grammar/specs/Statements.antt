@@ -5,7 +5,7 @@ use Prim.Native.String.{String}
 use Rattle.std.specs.Prelude.{Bool, true, false, List, [], ◌∷◌, drop}
 use Rattle.std.proofs.Math.Option.{Option, none, some}
 use Rattle.lexing.specs.Answer.{Answer, ok, refused, pick, level_too_deep}
-use Rattle.tree.specs.Ast.{Span, Binding, binding, Expr, IdExpr, Variable, CallArgument, ParameterMode, In, InOut, Out}
+use Rattle.tree.specs.Ast.{Span, Binding, binding, Expr, IdExpr, CallArgument, ParameterMode, In, InOut, Out}
 use Rattle.tree.specs.Ast.{Stmt, VarDecl, Assign, Reinit, Block, Call, Check, Assume, Reach, Assert, AForall, Choose, If, IfCase, Loop, LabeledStmt, Exit, Return, Probe}
 use Rattle.tree.specs.Ast.{Stmts, no_stmts, stmts, Cases, no_cases, case, AExpr, a_expr, AAssertion, AExprs, no_a_exprs, a_exprs}
 use Rattle.lexing.specs.Bytes.{bytes}

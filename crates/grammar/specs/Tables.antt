@@ -3,9 +3,8 @@ use Rattle.std.specs.Prelude.{ℕ, ◌-◌, ◌≤◌, ◌≡◌, refl, Bool, tr
 use Rattle.std.proofs.Common.{arith, sym, ap, ◌∙◌}
 use Rattle.std.proofs.lemmas.Bool.{false≢true}
 use Rattle.std.proofs.Math.Seq.{take-append_seam}
-use Rattle.lexing.specs.Answer.{Answer, ok, refused, pick}
+use Rattle.lexing.specs.Answer.{Answer, ok, refused}
 use Rattle.tree.specs.Limits.{most_words}
-use Rattle.tree.specs.Words.{program_words}
 use Rattle.grammar.specs.Reading.{Outcome, words, refusal, stored, outcome_by, read_tree_of_program, read_program}
 use Rattle.grammar.specs.Proofs.Bridge.Limits.{stored-inv, stored-fits}
 

@@ -4,7 +4,7 @@ use Prim.Native.String.{String}
 use Rattle.std.proofs.Math.Option.{none}
 use Rattle.lexing.specs.Bytes.{bytes}
 use Rattle.tree.specs.Ast.{binding, IfThenElse, Equiv, LogicalAnd, Plus, Minus, Times, LogicalNot, UnaryMinus}
-use Rattle.tree.specs.Ast.{Expr, BLiteral, ILiteral, CustomLiteral, IdExpr, OperatorExpr, FunctionCallExpr, LabeledExpr, LetExpr, QuantifierExpr, ClosureExpr}
+use Rattle.tree.specs.Ast.{Expr, BLiteral, ILiteral, CustomLiteral, OperatorExpr, FunctionCallExpr, LabeledExpr, LetExpr, QuantifierExpr, ClosureExpr}
 use Rattle.tree.specs.Ast.{no_patterns, pattern, no_closure_bindings, closure_binding, no_closure_properties, closure_property}
 use Rattle.layout.specs.Examples.{computed, line, lines, list, one, two, a, b, c}
 

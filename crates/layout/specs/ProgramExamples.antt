@@ -1,11 +1,9 @@
 -- Closed examples, by computation: the print of each kind of declaration, by an indent step of 3 and the smaller ones by upstream's 2, and of a
 -- program, with another name in every place.
 use Rattle.std.specs.Prelude.{◌≡◌, refl, true, false, [], ◌∷◌}
-use Prim.Native.String.{String}
 use Rattle.std.proofs.Math.Option.{none, some}
 use Rattle.lexing.specs.Bytes.{bytes}
 use Rattle.tree.specs.Ast.{In, InOut, Out, OperatorExpr, IfThenElse, LogicalAnd, Exit, a_expr, AAssertion, Check, no_a_exprs, a_exprs, no_exprs}
-use Rattle.tree.specs.Ast.{Tagger, FParameter, FunctionDefinition, Function, Axiom, PParameter, Procedure as Proc, Program as Tree}
 use Rattle.layout.specs.Examples.{list as exprs}
 use Rattle.layout.specs.StatementExamples.{statements-computed, v, both, block}
 use Rattle.layout.specs.Program.{TypeDecl, TaggerDecl, when_clauses, FunctionDecl, AxiomDecl, Procedure, Program}

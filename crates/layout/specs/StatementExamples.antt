@@ -2,9 +2,9 @@
 -- place.
 use Rattle.std.specs.Prelude.{◌≡◌, refl, true, false, List, [], ◌∷◌}
 use Prim.Native.String.{String}
-use Rattle.std.proofs.Math.Option.{Option, none, some}
+use Rattle.std.proofs.Math.Option.{none, some}
 use Rattle.lexing.specs.Bytes.{bytes}
-use Rattle.tree.specs.Ast.{In, InOut, Out, Variable, CallArgument, Expr, IdExpr, LogicalAnd}
+use Rattle.tree.specs.Ast.{In, InOut, Out, Expr, IdExpr, LogicalAnd}
 use Rattle.tree.specs.Ast.{Stmt, VarDecl, Assign, Reinit, Block, Call, Check, Assume, Reach, Assert, AForall, Choose, If, IfCase, Loop, LabeledStmt, Exit, Return, Probe}
 use Rattle.tree.specs.Ast.{Stmts, no_stmts, stmts, no_cases, case, a_expr, AAssertion, no_a_exprs, a_exprs}
 use Rattle.layout.specs.Examples.{computed, two}

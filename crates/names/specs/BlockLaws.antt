@@ -1,9 +1,9 @@
 -- The classes of blocks: those of single bytes, and those of twice the width.
-use Rattle.std.specs.Prelude.{ℕ, ◌+◌, ◌-◌, ◌<◌, ◌≤◌, ◌≡◌, refl, ◌↔◌, List, [], ◌∷◌, length, get_or}
+use Rattle.std.specs.Prelude.{ℕ, ◌+◌, ◌-◌, ◌<◌, ◌≤◌, ◌≡◌, List, [], ◌∷◌, length, get_or}
 use Rattle.std.proofs.Common.{arith, sym, ap, ◌∙◌, drop-cons}
 use Rattle.tree.specs.Resolve.{part}
 use Rattle.names.specs.Parts.{cover}
-use Rattle.names.specs.Spans.{Written, SamePair, Pairs, PairClasses, Blocks, Widens}
+use Rattle.names.specs.Spans.{Written, Pairs, PairClasses, Blocks, Widens}
 
 one_byte : (text : List ℕ) (i : ℕ) → i < length text → part text i 1 ≡ get_or text i 0 ∷ []
 unfolding part

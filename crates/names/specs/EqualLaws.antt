@@ -1,10 +1,10 @@
 -- The classes of the spans by their keys, and then by those classes and the lengths, are the first spans of equal bytes.
-use Rattle.std.specs.Prelude.{ℕ, suc, ◌+◌, ◌<◌, ◌≤◌, ◌≡◌, refl, ◌↔◌, List, [], length, get_or, set}
-use Rattle.std.proofs.Common.{arith, sym, ap, ◌∙◌, ⊎_elim, length-set, get_or-set_same, get_or-set_other}
-use Rattle.names.specs.Names.{most_bytes, names}
+use Rattle.std.specs.Prelude.{ℕ, ◌+◌, ◌<◌, ◌≤◌, ◌≡◌, refl, ◌↔◌, List, [], length, get_or, set}
+use Rattle.std.proofs.Common.{arith, sym, ◌∙◌, ⊎_elim, length-set, get_or-set_same, get_or-set_other}
+use Rattle.names.specs.Names.{names}
 use Rattle.names.specs.NumberLaws.{lt-or-le}
 use Rattle.names.specs.Parts.{lengths-equal, name-at}
-use Rattle.names.specs.Spans.{SamePair, Pairs, PairClasses, start_of, length_of, Keyed, KeyedAll, Lengths, Sized, Sorts, FirstEqual}
+use Rattle.names.specs.Spans.{SamePair, Pairs, PairClasses, start_of, length_of, Lengths, Sorts, FirstEqual}
 
 -- the lengths, span by span
 module _ (len : ℕ) (spans : List ℕ) (n : ℕ) where

@@ -1,5 +1,5 @@
 -- Numbers of spans, computed.
-use Rattle.std.specs.Prelude.{ℕ, ◌≡◌, refl, List, [], ◌∷◌, length}
+use Rattle.std.specs.Prelude.{ℕ, ◌≡◌, refl, List, [], ◌∷◌}
 use Rattle.tree.specs.Resolve.{part}
 use Rattle.names.specs.Names.{spelt, names, same, number, with, numbering, distinct}
 use Rattle.tree.specs.Outline.{filled}

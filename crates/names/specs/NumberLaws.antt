@@ -1,6 +1,6 @@
 -- Laws of `number`, `with`, `numbering` and `distinct`. A name is seen where its number is below the count of the distinct names.
-use Rattle.std.specs.Prelude.{ℕ, zero, suc, ◌+◌, ◌<◌, ◌≤◌, ◌≡◌, refl, Bool, true, false, cond, ◌↔◌, ◌⊎◌, List, [], ◌∷◌, ◌++◌, length, get_or, take, eqb, ltb}
-use Rattle.std.proofs.Common.{arith, add-one, sym, ap, ◌∙◌, inl, inr, ⊎_elim, length-take, get_or-take, eqb-true, eq-eqb, ltb-true, ltb-false}
+use Rattle.std.specs.Prelude.{ℕ, zero, suc, ◌+◌, ◌<◌, ◌≤◌, ◌≡◌, refl, Bool, true, false, cond, ◌↔◌, ◌⊎◌, List, [], ◌∷◌, length, get_or, take, eqb, ltb}
+use Rattle.std.proofs.Common.{arith, sym, ap, ◌∙◌, inl, inr, ⊎_elim, length-take, get_or-take, eqb-true, eq-eqb, ltb-true, ltb-false}
 use Rattle.names.specs.Names.{same, number, with, numbering, distinct}
 
 pub impossible {ℓ} : {A : Type ℓ} → ◌≡◌ {A = ℕ} 0 1 → A

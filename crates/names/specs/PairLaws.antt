@@ -1,9 +1,9 @@
 -- Classes of places whose two keys stand in one list.
-use Rattle.std.specs.Prelude.{ℕ, ◌+◌, ◌-◌, ◌<◌, ◌≤◌, min, ◌≡◌, refl, ◌↔◌, List, length, get_or, take, drop}
+use Rattle.std.specs.Prelude.{ℕ, ◌+◌, ◌-◌, ◌<◌, min, ◌≡◌, List, length, get_or, take, drop}
 use Rattle.std.proofs.Common.{arith, sym, ap, ◌∙◌, length-take, length-drop, get_or-drop, take_all}
-use Rattle.names.specs.Classes.{Keys, Same, Classed, Ready}
+use Rattle.names.specs.Classes.{Classed, Ready}
 use Rattle.names.specs.ClassLaws.{class-early, class-equal}
-use Rattle.names.specs.Spans.{Written, SamePair, Pairs, PairsIn, PairClasses}
+use Rattle.names.specs.Spans.{Written, Pairs, PairsIn, PairClasses}
 
 -- a slice from the place w on
 abbrev from : ℕ → List ℕ → List ℕ

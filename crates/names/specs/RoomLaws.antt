@@ -1,10 +1,10 @@
 -- The arrays are large enough.
-use Rattle.std.specs.Prelude.{ℕ, suc, ◌+◌, ◌/◌, ◌<◌, ◌≤◌, min, max, ◌≡◌, List, length, take, replicate}
+use Rattle.std.specs.Prelude.{ℕ, ◌+◌, ◌/◌, ◌≤◌, min, max, ◌≡◌, List, length, take, replicate}
 use Rattle.std.proofs.Common.{arith, sym, length-take, length-take-le}
 use Rattle.std.proofs.lemmas.List.{length-replicate}
-use Rattle.names.specs.Names.{most_spans, most_bytes, names}
+use Rattle.names.specs.Names.{most_spans, most_bytes}
 use Rattle.names.specs.Parts.{names-length}
-use Rattle.names.specs.Spans.{Pairs, PairsIn, Sized, Room, Prepared}
+use Rattle.names.specs.Spans.{Pairs, PairsIn, Room, Prepared}
 
 -- how many numbers an array has
 pub counted : (n : ℕ) → n ≡ length (replicate {A = ℕ} n 0)

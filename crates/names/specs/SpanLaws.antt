@@ -1,14 +1,13 @@
 -- The keys of spans: none at first, those of each width, and what their classes say of the names.
-use Rattle.std.specs.Prelude.{ℕ, suc, ◌+◌, ◌*◌, ◌-◌, ◌<◌, ◌≤◌, max, ◌≡◌, refl, ◌↔◌, ◌⊎◌, List, [], length, get_or, set, replicate}
+use Rattle.std.specs.Prelude.{ℕ, ◌+◌, ◌-◌, ◌<◌, ◌≤◌, max, ◌≡◌, refl, ◌↔◌, ◌⊎◌, List, [], length, get_or, set, replicate}
 use native.Mathlib.Omega.{arith}
 use Rattle.std.proofs.Common.{sym, ap, ap₂, ◌∙◌, inl, inr, ⊎_elim, length-set, get_or-set_same, get_or-set_other}
 use Rattle.std.proofs.lemmas.List.{get_or-replicate}
 use Rattle.tree.specs.Resolve.{part}
-use Rattle.names.specs.Names.{most_bytes, names}
 use Rattle.names.specs.NumberLaws.{lt-or-le}
-use Rattle.names.specs.Parts.{cover, lengths-equal, name-at}
-use Rattle.names.specs.Spans.{SamePair, Pairs, PairClasses, Blocks, start_of, length_of, Longest, AtWidth, first_key, last_key, KeyTaken, KeysTaken}
-use Rattle.names.specs.Spans.{Keyed, KeyedAll, Lengths, Sized, Sorts, FirstEqual}
+use Rattle.names.specs.Parts.{cover}
+use Rattle.names.specs.Spans.{SamePair, Blocks, start_of, length_of, Longest, AtWidth, first_key, last_key, KeyTaken, KeysTaken}
+use Rattle.names.specs.Spans.{Keyed, KeyedAll}
 
 -- before the first width only empty spans have keys
 module _ (text spans : List ℕ) (n most : ℕ) where

@@ -1,5 +1,5 @@
 -- Lists written from the front.
-use Rattle.std.specs.Prelude.{ℕ, ◌+◌, ◌<◌, ◌≤◌, ◌≡◌, refl, List, length, get_or, set}
+use Rattle.std.specs.Prelude.{ℕ, ◌+◌, ◌<◌, ◌≡◌, refl, List, length, set}
 use Rattle.std.proofs.Common.{arith, ◌∙◌, ⊎_elim, length-set, get_or-set_same, get_or-set_other}
 use Rattle.names.specs.NumberLaws.{lt-or-le}
 use Rattle.names.specs.Spans.{Written}

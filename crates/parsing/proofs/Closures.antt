@@ -1,22 +1,17 @@
 -- Closure properties, quantifiers and closures: their rules as the code takes their steps, and their words.
-use Prim.Native.Nat.{ℕ, zero, suc, ◌+◌, ◌*◌, ◌≤◌}
+use Prim.Native.Nat.{ℕ, zero, suc, ◌≤◌}
 use native.Mathlib.Omega.{arith}
 use mathlib.Core.Path.{◌≡◌, refl, sym, ap, fun_ext, ◌∙◌}
-use mathlib.Core.List.{List, [], ◌∷◌}
-use types.Run.{OneOf}
-use denote.Enum.Declared.{tag_of}
+use mathlib.Core.List.{List, ◌∷◌}
 use Rattle.lexing.specs.Answer.{Answer, ok, refused}
-use Rattle.lexing.specs.declared.token.Lexed.{Lexed}
-use Rattle.lexing.specs.declared.token.Lexed.TheVariants.{Ok as LexedOk, None as LexedNone, Refused as LexedRefused}
-use Rattle.lexing.specs.contracts.token.Lexed.{the_type as lexed-type}
-use Rattle.tree.specs.Ast.{Span, Binding, binding, Expr, ClosureExpr, Exprs, Patterns, no_patterns, pattern}
+use Rattle.tree.specs.Ast.{Span, Binding, binding, Expr, ClosureExpr, Patterns, no_patterns, pattern}
 use Rattle.tree.specs.Words.{bool_word, binding_words, name_words}
 use Rattle.lexing.specs.Bytes.{bytes}
 use Rattle.grammar.specs.Steps.{Reader, after, need, T, Sym, keyword_at, parse_name, parse_type}
-use Rattle.grammar.specs.Rules.{exprs, closures, properties, parse_nonempty_comma_delimited_seq, parse_listed, parse_marked, parse_id_type, parse_closure_binding, parse_closure_property, after_triggers, after_lift}
-use Rattle.parsing.specs.Arena.{Run, Node, Holds, Kept, Found, Builds, Stopped, needed_at}
-use Rattle.parsing.proofs.Laws.{after-ok, after_none, after-refused}
-use Rattle.parsing.specs.Code.{Tells, needed_if, bool_of, same, turns}
+use Rattle.grammar.specs.Rules.{closures, properties, parse_nonempty_comma_delimited_seq, parse_listed, parse_marked, parse_id_type, parse_closure_binding, parse_closure_property, after_triggers, after_lift}
+use Rattle.parsing.specs.Arena.{Node, Holds}
+use Rattle.parsing.proofs.Laws.{after-ok, after_none}
+use Rattle.parsing.specs.Code.{bool_of, same}
 
 -- ---- closure properties
 

@@ -9,20 +9,19 @@ use lib.Dec.{leb}
 use Rattle.lexing.specs.Answer.{Answer, ok, refused}
 use Rattle.lexing.specs.declared.token.Lexed.{Lexed}
 use Rattle.lexing.specs.declared.token.Lexed.TheVariants.{Ok as LexedOk, None as LexedNone, Refused as LexedRefused}
-use Rattle.tree.specs.Ast.{Span, Expr, Exprs, no_exprs, ◌then◌, FunctionDefinition, Axiom}
+use Rattle.tree.specs.Ast.{Span, Expr, Exprs, no_exprs, ◌then◌, FunctionDefinition}
 use Rattle.tree.specs.Words.{option_words, function_definition_words}
 use Rattle.lexing.specs.Bytes.{bytes}
-use Rattle.grammar.specs.Steps.{Reader, after, need, must, mapped, T, Sym, parse_name, parse_type}
+use Rattle.grammar.specs.Steps.{Reader, after, need, must, mapped, T, Sym, parse_name}
 use Rattle.grammar.specs.StepLaws.{mapped-same}
 use Rattle.grammar.specs.Rules.{exprs, parse_listed}
 use Rattle.grammar.specs.Statements.{rep, aexprs, the_expr, parse_a_expr, parse_a_expr_seq}
-use Rattle.grammar.specs.Declarations.{formals, parameters, undefined, after_type, after_tagger, parse_function_formal, parse_tag, parse_when_clause, parse_function_definition, after_function, parse_explains, after_axiom, parse_proc_formal, after_procedure}
+use Rattle.grammar.specs.Declarations.{undefined, after_type, after_tagger, parse_tag, parse_when_clause, parse_function_definition, after_function, parse_explains, after_axiom, after_procedure}
 use Rattle.tree.specs.Clash.{impossible}
 use Rattle.parsing.specs.Arena.{Builds}
 use Rattle.parsing.specs.Code.{Tells, ListOf, sequence_of, item_rule, same, turns, inner, opened}
 use Rattle.parsing.specs.Declarations.{signature_rule, undefined_at, optional_block, decl_rule}
 use Rattle.parsing.specs.declared.arena.Built.{Built}
-use Rattle.parsing.specs.declared.arena.Built.TheVariants.{Ok, None, Refused}
 use Rattle.parsing.specs.declared.expr.seq.Kind.{Kind}
 use Rattle.parsing.specs.declared.expr.seq.Kind.TheVariants.{Formals, Parameters}
 use Rattle.parsing.specs.declared.program.DeclKind.{DeclKind}

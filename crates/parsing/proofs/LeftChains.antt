@@ -14,7 +14,7 @@ use Rattle.grammar.specs.Steps.{after, need}
 use Rattle.grammar.specs.Rules.{left_tail, operator_of}
 use Rattle.grammar.specs.Reading.{tree_words}
 use Rattle.parsing.specs.Arena.{Run, Holds, Kept, Room}
-use Rattle.parsing.specs.Code.{turns, tighter_of, left_chain, Begun}
+use Rattle.parsing.specs.Code.{tighter_of, left_chain, Begun}
 use Rattle.parsing.proofs.Laws.{kept_refl, after-ok}
 use Rattle.parsing.proofs.Rooms.{room-on}
 use Rattle.parsing.proofs.Reached.{Stand, Reached}

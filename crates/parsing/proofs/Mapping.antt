@@ -8,7 +8,6 @@ use Rattle.tree.specs.Ast.{Span, Binding, binding, Expr, ParameterMode}
 use Rattle.tree.specs.Words.{binding_words, bool_word, mode_word, f_parameter_words}
 use Rattle.grammar.specs.Steps.{Reader, after, need, must, mapped}
 use Rattle.grammar.specs.StepLaws.{mapped-same}
-use Rattle.grammar.specs.Rules.{parse_expr}
 use Rattle.grammar.specs.Statements.{gallery, the_expr}
 use Rattle.grammar.specs.Declarations.{formal, moded}
 use Rattle.parsing.specs.Arena.{Run, Holds, Agrees, Builds, needed_at}

@@ -8,7 +8,7 @@ use mathlib.Core.Logic.{inl, inr}
 use lib.ListN.{length}
 use types.Run.{OneOf}
 use denote.Enum.Declared.{tag_of}
-use Rattle.parsing.specs.Arena.{Run, Holds, Kept, Noted, Based, most_arena}
+use Rattle.parsing.specs.Arena.{Run, Kept, Noted, Based, most_arena}
 use Rattle.parsing.specs.Code.{Four, Closes, Ended}
 use Rattle.parsing.specs.Declarations.{last_of, Endable, Open, joined_run, Joins}
 use Rattle.parsing.specs.declared.arena.Built.{Built}

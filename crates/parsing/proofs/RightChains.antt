@@ -14,7 +14,7 @@ use Rattle.grammar.specs.Steps.{after, need, mapped, Sym}
 use Rattle.grammar.specs.Rules.{right_tail, implies_operator, operator_of}
 use Rattle.grammar.specs.Reading.{tree_words}
 use Rattle.parsing.specs.Arena.{Holds, Kept, Noted, Room, Found, Builds, needed_at}
-use Rattle.parsing.specs.Code.{turns, tighter_of, right_chain, Begun, Stands, word_of, swap_of}
+use Rattle.parsing.specs.Code.{tighter_of, right_chain, Begun, Stands, word_of, swap_of}
 use Rattle.parsing.specs.Code.{Layer, binary_layer, fold_layers, Links, Folds, Foldable, FoldedAt}
 use Rattle.parsing.specs.declared.arena.Built.{Built}
 use Rattle.parsing.specs.declared.arena.Built.TheVariants.{Refused}

@@ -1,10 +1,8 @@
 -- Room for the next step of a rule, and an operand that a chain begins with.
-use Prim.Native.Nat.{ℕ, ◌+◌, ◌*◌, ◌≤◌, ◌<◌}
+use Prim.Native.Nat.{ℕ, ◌+◌, ◌*◌, ◌≤◌}
 use native.Mathlib.Omega.{arith}
-use mathlib.Core.Path.{◌≡◌}
 use mathlib.Core.List.{List, ◌∷◌}
 use lib.ListN.{length}
-use Rattle.lexing.specs.Answer.{Answer}
 use Rattle.tree.specs.Ast.{Expr, Span}
 use Rattle.grammar.specs.Steps.{Reader}
 use Rattle.parsing.specs.Arena.{Run, Based, Room, Kept, Found, Holds}

@@ -3,7 +3,6 @@ use Prim.Native.Nat.{ℕ, zero, suc, ◌+◌, ◌*◌, ◌≤◌, ◌<◌}
 use native.Mathlib.Omega.{arith}
 use mathlib.Core.Path.{◌≡◌, refl, sym, ap, subst, fun_ext, ◌∙◌}
 use mathlib.Core.List.{List, [], ◌∷◌}
-use mathlib.Core.Logic.{◌⊎◌, inl, inr}
 use lib.ListN.{length}
 use types.Run.{OneOf}
 use denote.Enum.Declared.{tag_of}
@@ -12,7 +11,7 @@ use Rattle.tree.specs.Ast.{Span, Expr, no_patterns, pattern}
 use Rattle.tree.specs.Words.{exprs_words, patterns_words}
 use Rattle.grammar.specs.Steps.{Reader, after, need, mapped, Sym, sign_at, keyword_at}
 use Rattle.grammar.specs.Rules.{Sequence, exprs, comma_tail, parse_nonempty_comma_delimited_seq, parse_comma_delimited_seq, parse_listed, parse_marked}
-use Rattle.parsing.specs.Arena.{Run, Node, Holds, Kept, Noted, Based, Found, Builds, needed_at}
+use Rattle.parsing.specs.Arena.{Run, Holds, Kept, Noted, Based, Found, Builds, needed_at}
 use Rattle.parsing.specs.Code.{ItemOf, ListOf, sequence_of, Shuts, Ended, Closes, list_words, item_words, same, turns}
 use Rattle.parsing.specs.declared.arena.Built.{Built}
 use Rattle.parsing.specs.declared.expr.seq.Kind.{Kind}

@@ -3,13 +3,13 @@ use Prim.Native.Nat.{ℕ, ◌+◌, ◌≤◌}
 use Prim.Native.String.{String}
 use native.Mathlib.Nat.{le_refl}
 use native.Mathlib.Omega.{arith}
-use mathlib.Core.Path.{◌≡◌, refl, sym, ap, subst, ◌∙◌}
+use mathlib.Core.Path.{◌≡◌, refl, sym, ap, ◌∙◌}
 use mathlib.Core.Bool.{Bool, true, false, ◌||◌}
 use mathlib.Core.List.{List, [], ◌∷◌, ◌++◌}
 use mathlib.Core.Logic.{inl, inr}
 use mathlib.Core.Option.{Option, none, some}
 use lib.ListN.{length, take, drop}
-use types.Run.{OneOf, miss}
+use types.Run.{OneOf}
 use denote.Enum.Declared.{tag_of}
 use Rattle.lexing.specs.Answer.{Answer, ok, refused, pick, moved}
 use Rattle.lexing.specs.Bytes.{same_bytes, can_start_identifier_char, bytes}
@@ -29,7 +29,6 @@ use Rattle.parsing.specs.declared.lead.Lead.{Lead}
 use Rattle.parsing.specs.declared.lead.Lead.TheVariants.{Name}
 use Rattle.parsing.specs.declared.step.Word.{Word}
 use Rattle.parsing.specs.declared.arena.Built.{Built}
-use Rattle.parsing.specs.contracts.lead.Lead.{the_type as lead-type}
 use Rattle.parsing.proofs.Laws.{after-ok, after_none, after-refused}
 use Rattle.parsing.proofs.Identifiers.{no_name, spelt-filled}
 use Rattle.parsing.proofs.Mapping.{must-mapped, opened-expr}

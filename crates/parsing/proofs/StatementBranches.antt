@@ -12,7 +12,7 @@ use Rattle.lexing.specs.Tokens.{identifier_length}
 use Rattle.lexing.specs.TokenLaws.{identifier-starts, identifier-maximal}
 use Rattle.tree.specs.Ast.{Span, Stmt}
 use Rattle.tree.specs.Words.{stmt_words}
-use Rattle.grammar.specs.Steps.{after, must, parse_name}
+use Rattle.grammar.specs.Steps.{must, parse_name}
 use Rattle.grammar.specs.Statements.{Gallery, parse_variable_declaration, after_forall, after_choose}
 use Rattle.tree.specs.Clash.{impossible}
 use Rattle.parsing.specs.Arena.{Agrees, Builds}

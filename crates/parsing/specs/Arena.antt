@@ -1,6 +1,6 @@
 -- The arena in which the reading rules build trees: nodes of four words, a tag and three fields, appended at `top` and never moved. A node
 -- stands for a run of tree words, given as a function that puts the run before other words. Contracts of the rules' functions.
-use Rattle.std.specs.Prelude.{ℕ, zero, suc, ◌+◌, ◌*◌, ◌≤◌, ◌<◌, ◌≡◌, List, [], ◌∷◌, length, get_or}
+use Rattle.std.specs.Prelude.{ℕ, ◌+◌, ◌*◌, ◌≤◌, ◌<◌, ◌≡◌, List, ◌∷◌, length, get_or}
 use Rattle.tree.specs.Tags.{more, no_more, id_expr_tag, operator_expr_tag}
 use Rattle.lexing.specs.Answer.{Answer, ok, refused, unusable_token}
 use Rattle.tree.specs.Limits.{most_text}

@@ -1,13 +1,12 @@
 -- What the code of the rules promises, in terms of the rules.
-use Rattle.std.specs.Prelude.{ℕ, zero, suc, ◌+◌, ◌*◌, ◌^◌, ◌≤◌, ◌<◌, ◌≡◌, cond, Bool, true, false, ◌||◌, List, [], ◌∷◌, length, eqb}
-use Rattle.std.proofs.Math.Option.{Option, none, some}
+use Rattle.std.specs.Prelude.{ℕ, suc, ◌+◌, ◌*◌, ◌^◌, ◌≤◌, ◌<◌, ◌≡◌, cond, Bool, true, false, ◌||◌, List, [], ◌∷◌, length, eqb}
 use Rattle.tree.specs.Tags.{operator_expr_tag}
 use Rattle.lexing.specs.Answer.{Answer, ok, refused, unusable_token}
 use Rattle.lexing.specs.declared.token.Lexed.{Lexed}
 use Rattle.lexing.specs.declared.token.Lexed.TheVariants.{Ok as LexedOk, None as LexedNone, Refused as LexedRefused}
-use Rattle.tree.specs.Ast.{Span, Expr, BLiteral, ILiteral, Operator, OperatorExpr, no_exprs, ◌then◌, Patterns, Binding, binding, Exprs, ClosureBindings, ClosureProperties, IfThenElse}
+use Rattle.tree.specs.Ast.{Span, Expr, BLiteral, ILiteral, Operator, OperatorExpr, no_exprs, ◌then◌, Binding, binding, Exprs, ClosureBindings, ClosureProperties, IfThenElse}
 use Rattle.tree.specs.Ast.{IdExpr, ParameterMode, InOut, Out, CallArgument, FParameter, PParameter}
-use Rattle.tree.specs.Words.{operator_word, expr_words, exprs_words, patterns_words, closure_bindings_words, closure_properties_words, name_words, binding_words, seq_words, option_words}
+use Rattle.tree.specs.Words.{operator_word, expr_words, exprs_words, patterns_words, closure_bindings_words, closure_properties_words, name_words, binding_words, seq_words}
 use Rattle.tree.specs.Words.{mode_word, call_argument_words, f_parameter_words, p_parameter_words}
 use Rattle.grammar.specs.Grammar.{Build, straight, swapped, single, Class, product, sum, comparison, conjunction, disjunction, implication, explication, equivalence}
 use Rattle.grammar.specs.Steps.{Reader, after, need, must, mapped, ◌or◌, Sym, T, sign_at, parse_name, parse_nat}

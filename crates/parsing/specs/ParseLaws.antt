@@ -1,11 +1,11 @@
 -- What `parse` answers by the definition's tree, in an arena that has room and in one that has not.
-use Rattle.std.specs.Prelude.{ℕ, ◌≡◌, refl, Bool, true, false, List, length}
+use Rattle.std.specs.Prelude.{ℕ, ◌≡◌, refl, true, false, List, length}
 use Rattle.std.proofs.Common.{sym, ap, subst, ◌∙◌}
 use Rattle.lexing.specs.Answer.{Answer, ok, refused, pick, tree_too_large}
 use Rattle.tree.specs.Clash.{impossible}
 use Rattle.grammar.specs.Steps.{after, mapped}
 use Rattle.parsing.specs.Arena.{Run, Holds}
-use Rattle.parsing.specs.Parse.{roomy, whole_run, parsed, Gives, Parses}
+use Rattle.parsing.specs.Parse.{roomy, whole_run, Gives, Parses}
 use Rattle.parsing.specs.declared.entry.Whole.{Whole}
 use Rattle.parsing.specs.declared.entry.Parsed.{Parsed}
 use Rattle.parsing.specs.declared.entry.Parsed.TheVariants.{Tree, Refused}

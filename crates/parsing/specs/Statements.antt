@@ -1,5 +1,5 @@
 -- What the code of the statement rules promises, in terms of the rules.
-use Rattle.std.specs.Prelude.{ℕ, ◌+◌, ◌≤◌, Bool, List, [], ◌∷◌, length}
+use Rattle.std.specs.Prelude.{ℕ, ◌+◌, ◌≤◌, Bool, List, ◌∷◌, length}
 use Rattle.std.proofs.Math.Option.{Option, none, some}
 use Rattle.tree.specs.Tags.{var_decl_tag}
 use Rattle.lexing.specs.Answer.{Answer, ok, level_too_deep}

@@ -8,11 +8,10 @@ use Rattle.lexing.specs.Answer.{Answer, ok, refused}
 use Rattle.tree.specs.Ast.{Span, Expr}
 use Rattle.tree.specs.Clash.{impossible}
 use Rattle.tree.specs.Kind.{expr}
-use Rattle.tree.specs.Resolve.{resolve_expr}
 use Rattle.tree.specs.Claims.{expression-unique, append}
 use Rattle.grammar.specs.Grammar.{Tree}
 use Rattle.grammar.specs.OperatorTrees.{OperatorTree, DerivesWithin}
-use Rattle.grammar.specs.Reading.{Outcome, words, refusal, tree_words, stored, outcome, read_tree, read_expression}
+use Rattle.grammar.specs.Reading.{Outcome, words, refusal, tree_words, outcome, read_tree, read_expression}
 use Rattle.reading.specs.TreeRead.{Answered, Leaves}
 use Rattle.grammar.specs.Proofs.Bridge.Limits.{read-derives, derives-gives, stored-inv, stored-fits}
 use Rattle.reading.specs.declared.entry.Reading.{Reading}

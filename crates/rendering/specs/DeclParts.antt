@@ -1,7 +1,6 @@
 -- The parts of a table that hold declarations, with their prints: what the functions of src/program.rt print.
 use Rattle.std.specs.Prelude.{ℕ, List, [], length}
-use Rattle.std.proofs.Math.Option.{Option}
-use Rattle.tree.specs.Ast.{Expr, Exprs, Stmt, Tagger, Function, Axiom, Procedure as Proc, Program as Tree}
+use Rattle.tree.specs.Ast.{Tagger, Function, Axiom, Procedure as Proc}
 use Rattle.tree.specs.Words.{option_words, seq_words, name_words, expr_words, exprs_words, stmt_words, tagger_words, function_definition_words, function_words, axiom_words, procedure_words, program_words}
 use Rattle.tree.specs.Counted.{CountedOption, CountedItems, CountedExpr, CountedExprs, CountedStmt, CountedDefinition, CountedFunction, CountedAxiom, CountedProcedure, CountedProgram}
 use Rattle.layout.specs.declared.format.ExprFormatOption.TheVariants.{MultipleLines}

@@ -3,7 +3,7 @@ use Rattle.std.specs.Prelude.{ℕ, ◌+◌, ◌≤◌, ◌≡◌, Bool, false, L
 use Rattle.std.proofs.Math.Option.{Option}
 use Rattle.lexing.specs.Answer.{pick}
 use Rattle.lexing.specs.Bytes.{bytes}
-use Rattle.tree.specs.Ast.{Expr, CallArgument, FParameter, PParameter, Variable, Stmt, VarDecl, Block, AForall, Choose, If, IfCase, Loop, LabeledStmt, Stmts, Cases, AExpr, AExprs}
+use Rattle.tree.specs.Ast.{Expr, CallArgument, FParameter, PParameter, Variable, Stmt, VarDecl, Block, AForall, Choose, If, IfCase, Loop, LabeledStmt, Stmts, Cases, AExprs}
 use Rattle.tree.specs.Words.{name_words, option_words, seq_words, expr_words, variable_words, call_argument_words, f_parameter_words, p_parameter_words}
 use Rattle.tree.specs.Words.{stmt_words, stmts_words, cases_words, a_expr_words, a_exprs_words}
 use Rattle.tree.specs.Counted.{Noted, stmt_count, CountedOption, CountedItems, CountedExpr, CountedStmt, CountedStmts, CountedCases, CountedAExpr, CountedAExprs}

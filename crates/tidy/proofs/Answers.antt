@@ -1,14 +1,14 @@
 -- What the answers of the reading and of the print say of tidy's answer, case by case.
 use Prim.Native.Nat.{ℕ, ◌≤◌}
 use native.Mathlib.Omega.{arith}
-use mathlib.Core.Path.{◌≡◌, refl, sym, ap, subst, ◌∙◌}
+use mathlib.Core.Path.{◌≡◌, sym, ap, subst, ◌∙◌}
 use mathlib.Core.Option.{none}
 use mathlib.Core.List.{List}
 use lib.ListN.{length, take, length-take}
 use Rattle.tree.specs.Limits.{most_text, most_words}
 use Rattle.tree.specs.Check.{program_refusal}
 use Rattle.grammar.specs.Reading.{words, refusal, read_program}
-use Rattle.grammar.specs.Proofs.Refusals.Entries.{Refused, Held, program-refused, program-held}
+use Rattle.grammar.specs.Proofs.Refusals.Entries.{Held, program-refused, program-held}
 use Rattle.grammar.specs.Claims.{read-program-accepted, program-table-long}
 use Rattle.reading.specs.TreeRead.{ProgramAnswered}
 use Rattle.reading.specs.declared.entry.Reading.{Reading}
@@ -17,7 +17,7 @@ use Rattle.printing.specs.Entries.{written, refusal as unprinted, print_program}
 use Rattle.printing.specs.Entries.{ProgramAnswered as ProgramPrinted}
 use Rattle.printing.specs.declared.Printed.{Printed}
 use Rattle.printing.specs.declared.Printed.TheVariants.{Written as PrintWritten, Refused as PrintRefused}
-use Rattle.tidy.specs.Tidy.{Answered, Tidied, refusal_number, of_print, of_reading, tidied}
+use Rattle.tidy.specs.Tidy.{Answered, refusal_number, of_print, of_reading, tidied}
 use Rattle.tidy.specs.TidyLaws.{shorter, Limited, print-limited}
 
 -- ---- `print`

@@ -4,7 +4,7 @@ use native.Mathlib.Omega.{arith}
 use native.Mathlib.Nat.{not-suc-le-zero, le_of_suc-le-suc}
 use mathlib.Core.Path.{◌≡◌, refl, sym, ap, ◌∙◌}
 use mathlib.Core.Bool.{Bool, true, false, cond}
-use mathlib.Core.Option.{Option, none, some}
+use mathlib.Core.Option.{none, some}
 use mathlib.Core.List.{List, [], ◌∷◌, ◌++◌}
 use lib.ListN.{length, get_or, set, get_or-append}
 use lib.Seq.{get_or-append-add, set_out}
@@ -13,7 +13,7 @@ use borrow.Author.Tests.{eq-eqb, ne_eqb, leb-true, leb-false}
 use Rattle.tree.specs.Kind.{Kind, bool, operator, mode, natural, name, expr, stmt, aexpr, option, seq}
 use Rattle.tree.specs.Kind.{of_name, of_expr, of_binding, of_pattern, of_closure_binding, of_closure_property, of_stmt, of_call_argument, of_case, of_a_expr, of_tagger, of_f_parameter, of_function, of_axiom, of_p_parameter, of_procedure}
 use Rattle.tree.specs.Kind.{a_name, an_expr, a_stmt, a_definition}
-use Rattle.tree.specs.Tally.{Mark, sequence, opened, mark_at, more, noted}
+use Rattle.tree.specs.Tally.{sequence, opened, more, noted}
 use Rattle.tree.specs.Trees.{◌▸◌}
 use Rattle.tree.specs.KindNumbers.{kind_of}
 use Rattle.tree.specs.Rows.{kinds_of, as_mark, own_mark, Opens, MarkIs, FrameIs}

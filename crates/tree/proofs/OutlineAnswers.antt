@@ -9,8 +9,8 @@ use lib.Dec.{leb}
 use borrow.Author.Tests.{leb-true}
 use Rattle.tree.specs.Clash.{impossible}
 use Rattle.tree.specs.Limits.{most_words}
-use Rattle.tree.specs.Kind.{Kind, program_fields}
-use Rattle.tree.specs.Check.{run, within, check, check_program, Refusal, refusal, program_refusal}
+use Rattle.tree.specs.Kind.{program_fields}
+use Rattle.tree.specs.Check.{run, within, check_program, Refusal, refusal, program_refusal}
 use Rattle.tree.specs.Outline.{kind_numbers, end_places, filled, unless_refused, program_kinds, program_ends}
 use Rattle.tree.specs.Notes.{kind_notes, end_notes}
 use Rattle.tree.specs.declared.Checked.{Checked}

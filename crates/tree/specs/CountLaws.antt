@@ -1,6 +1,6 @@
 -- After the walk over a tree's words every sequence of the tree has its number noted: what is expected is followed with the trees that stand
 -- for it, and the number of a sequence is noted once, at a place that nothing noted later is for.
-use Rattle.std.specs.Prelude.{ℕ, zero, suc, ◌+◌, ◌-◌, ◌≤◌, ◌<◌, ◌≡◌, refl, Bool, true, false, List, [], ◌∷◌, ◌++◌, length, get_or, drop, set}
+use Rattle.std.specs.Prelude.{ℕ, zero, suc, ◌+◌, ◌-◌, ◌≤◌, ◌≡◌, refl, Bool, false, List, [], ◌∷◌, ◌++◌, length, get_or, drop, set}
 use Rattle.std.proofs.Common.{arith, sym, ◌∙◌, subst, true≢false, append-nil, length-set, length-drop, get_or-set_same, le-leb}
 use Rattle.std.proofs.Math.Path.{ap}
 use Rattle.std.proofs.Math.Bool.{cond}
@@ -19,7 +19,7 @@ use Rattle.tree.specs.FormLaws.{Agrees, agree}
 use Rattle.tree.specs.Opened.{Opened, opened as open-tree, some_word}
 use Rattle.tree.specs.Walk.{tree-at, word-range}
 use Rattle.tree.specs.Tally.{Mark, Expected, sequence, opened, mark_at, more, marked, noted, tally, counts, expression_counts, program_counts}
-use Rattle.tree.specs.CountPlaces.{BelowMark, Below, below_apart, marked-below, more-below, at-below, mark-rest, kept}
+use Rattle.tree.specs.CountPlaces.{BelowMark, Below, below_apart, marked-below, at-below, mark-rest, kept}
 use Rattle.tree.specs.CountedTrees.{item_count, Items, CountedTree, CountedTrees, MadeCounted, made_counted}
 
 -- a kind is a sequence, or none

@@ -1,5 +1,5 @@
 -- The places at which numbers are still to be noted while a table is walked, and that a number which is noted stays.
-use Rattle.std.specs.Prelude.{ℕ, suc, ◌+◌, ◌≤◌, ◌<◌, ◌≡◌, refl, Bool, true, false, cond, List, [], ◌∷◌, ◌++◌, get_or, set}
+use Rattle.std.specs.Prelude.{ℕ, suc, ◌≤◌, ◌<◌, ◌≡◌, refl, Bool, true, false, cond, List, [], ◌∷◌, ◌++◌, get_or}
 use Rattle.std.proofs.Common.{arith, ◌∙◌, get_or-set_other}
 use Rattle.std.proofs.Math.Option.{Option, none, some}
 use Rattle.tree.specs.Kind.{Kind, Turn, fits, misfit, turn}

@@ -3,7 +3,7 @@
 -- that follow, as the words do; what it says of a tree is, by computation, what it says of the fields.
 use Rattle.std.specs.Prelude.{ℕ, suc, ◌-◌, ◌≡◌, List, [], ◌∷◌, length, get_or}
 use Rattle.std.proofs.Math.Option.{Option, none, some}
-use Rattle.tree.specs.Ast.{Span, Variable, CallArgument}
+use Rattle.tree.specs.Ast.{Span, CallArgument}
 use Rattle.tree.specs.Ast.{FunctionDefinition, Function, Axiom, PParameter, Procedure, Program}
 use Rattle.tree.specs.Ast.{Expr, BLiteral, ILiteral, CustomLiteral, IdExpr, OperatorExpr, FunctionCallExpr, LabeledExpr, LetExpr, QuantifierExpr, ClosureExpr}
 use Rattle.tree.specs.Ast.{Exprs, no_exprs, ◌then◌, Patterns, no_patterns, pattern}
@@ -11,7 +11,7 @@ use Rattle.tree.specs.Ast.{ClosureBindings, no_closure_bindings, closure_binding
 use Rattle.tree.specs.Ast.{Stmt, VarDecl, Assign, Reinit, Block, Call, Check, Assume, Reach, Assert, AForall, Choose, If, IfCase, Loop, LabeledStmt, Exit, Return, Probe}
 use Rattle.tree.specs.Ast.{Stmts, no_stmts, stmts, Cases, no_cases, case, AExpr, a_expr, AAssertion, AExprs, no_a_exprs, a_exprs}
 use Rattle.tree.specs.Words.{option_words, seq_words, name_words, binding_words, expr_words, exprs_words, patterns_words, closure_bindings_words, closure_properties_words}
-use Rattle.tree.specs.Words.{call_argument_words, stmt_words, stmts_words, cases_words, a_expr_words, a_exprs_words}
+use Rattle.tree.specs.Words.{call_argument_words, stmt_words, stmts_words, cases_words, a_exprs_words}
 use Rattle.tree.specs.Words.{tagger_words, f_parameter_words, function_definition_words, function_words, axiom_words, p_parameter_words, procedure_words}
 
 -- ---- how many items a sequence has

@@ -10,7 +10,7 @@ use mathlib.Core.List.{List, [], ◌∷◌, ◌++◌}
 use Rattle.std.proofs.Math.ListN.{length, drop}
 use Rattle.tree.specs.Kind.{Kind, Turn, fits, misfit, turn}
 use Rattle.tree.specs.KindNumbers.{kind_number}
-use Rattle.tree.specs.Trees.{Names, Tree, Trees, words, all_words, apply, Form}
+use Rattle.tree.specs.Trees.{Names, Tree, Trees, all_words, apply, Form}
 use Rattle.tree.specs.Forms.{form}
 use Rattle.tree.specs.FormLaws.{Agrees, agree}
 use Rattle.tree.specs.Opened.{Opened, opened, some_word, join, join-words}

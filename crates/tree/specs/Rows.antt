@@ -1,5 +1,5 @@
 -- The numbers that the check's code has for lists of kinds. Only contracts of private functions cite this file.
-use Rattle.std.specs.Prelude.{ℕ, zero, suc, ◌+◌, ◌/◌, ◌%◌, ◌^◌, ◌<◌, ◌≤◌, ◌≡◌, cond, List, [], ◌∷◌, ◌++◌, length, drop, get_or, set, eqb}
+use Rattle.std.specs.Prelude.{ℕ, zero, suc, ◌+◌, ◌/◌, ◌%◌, ◌^◌, ◌<◌, ◌≤◌, ◌≡◌, cond, List, [], ◌∷◌, ◌++◌, length, drop, set, eqb}
 use Rattle.std.proofs.Math.Option.{Option, none, some}
 use Rattle.tree.specs.Kind.{Kind}
 use Rattle.tree.specs.Kind.{expr_rows, stmt_rows, aexpr_rows, Turn, fits, misfit}

@@ -1,5 +1,5 @@
 -- Closed examples, by computation: the numbers of items after the walk over a table. Places of no sequence keep what stood there.
-use Rattle.std.specs.Prelude.{◌≡◌, refl, List, [], ◌∷◌, replicate}
+use Rattle.std.specs.Prelude.{◌≡◌, refl, [], ◌∷◌, replicate}
 use Rattle.tree.specs.Tally.{tally, expression_counts, program_counts}
 
 -- P11, `a + 1`: two operands, noted at the place of their sequence

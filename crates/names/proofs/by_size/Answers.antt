@@ -1,6 +1,5 @@
 -- `by_size` meets its contract: the arrays of each size are large enough.
 use native.Mathlib.Omega.{arith}
-use borrow.Author.Rules.{rules}
 use Rattle.names.specs.RoomLaws.{counted, prepared-in}
 use Rattle.names.proofs.by_size.Goals as goal
 

@@ -1,6 +1,5 @@
 -- `number_in` meets its contract: keys, first equal spans, ranks, and a copy of them.
 use native.Mathlib.Omega.{arith}
-use borrow.Author.Rules.{rules}
 use Rattle.names.specs.RoomLaws.{room_in}
 use Rattle.names.specs.RankLaws.{numbered}
 use Rattle.names.proofs.number_in.Goals as goal

@@ -1,6 +1,5 @@
 -- `number_spans` meets its contract: a longer text has the names of what is read of it.
 use native.Mathlib.Omega.{arith}
-use borrow.Author.Rules.{rules}
 use Rattle.names.specs.Names.{most_bytes}
 use Rattle.names.specs.RoomLaws.{cut-length, cut-few}
 use Rattle.names.specs.RankLaws.{numbered-cut}

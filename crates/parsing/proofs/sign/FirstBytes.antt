@@ -8,7 +8,7 @@ use lib.ListN.{drop, get_or, take}
 use lib.Seq.{get_or-drop}
 use native.Mathlib.Omega.{arith}
 use borrow.Author.Tests.{eqb-true}
-use Rattle.lexing.specs.Answer.{Answer, pick}
+use Rattle.lexing.specs.Answer.{Answer}
 use Rattle.lexing.specs.Bytes.{starts_with, same_bytes}
 use Rattle.lexing.specs.Tokens.{identifier_length, keyword, sign, sign_not_prefix}
 use Rattle.tree.specs.Clash.{impossible}

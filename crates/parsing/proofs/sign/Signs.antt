@@ -7,7 +7,7 @@ use mathlib.Core.List.{List, [], ◌∷◌}
 use mathlib.Core.Logic.{inl, inr}
 use types.Run.{OneOf}
 use denote.Enum.Declared.{tag_of}
-use Rattle.lexing.specs.Answer.{Answer, ok, refused}
+use Rattle.lexing.specs.Answer.{Answer, ok}
 use Rattle.lexing.specs.declared.token.Lexed.{Lexed}
 use Rattle.lexing.specs.declared.token.Lexed.TheVariants.{Ok as LexedOk, None as LexedNone, Refused as LexedRefused}
 use Rattle.grammar.specs.Steps.{mapped, ◌or◌}

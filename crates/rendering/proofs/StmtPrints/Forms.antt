@@ -1,10 +1,10 @@
 -- A statement, a block's statements and an assertion by their words, and a list by its number of statements.
-use Prim.Native.Nat.{ℕ, ◌-◌}
+use Prim.Native.Nat.{ℕ}
 use mathlib.Core.Path.{◌≡◌, refl, sym, ap, ◌∙◌}
 use mathlib.Core.Bool.{Bool, false}
-use mathlib.Core.List.{List, ◌∷◌}
+use mathlib.Core.List.{List}
 use lib.ListN.{length, drop, get_or}
-use Rattle.tree.specs.Ast.{Expr, Stmt, VarDecl, Block, AForall, Choose, If, IfCase, Loop, LabeledStmt, AExpr, a_expr, AAssertion}
+use Rattle.tree.specs.Ast.{Expr, VarDecl, Block, AForall, Choose, If, IfCase, Loop, LabeledStmt, AExpr, a_expr, AAssertion}
 use Rattle.tree.specs.Words.{a_expr_words, stmts_words}
 use Rattle.tree.specs.Kind.{stmt, aexpr as an_aexpr}
 use Rattle.tree.specs.Trees.{names_in}
@@ -13,7 +13,7 @@ use Rattle.rendering.specs.declared.parts.Advance.{Advance}
 use Rattle.layout.specs.Text.{◌▸◌}
 use Rattle.layout.specs.Statements.{inline, shown, aexpr}
 use Rattle.rendering.specs.Tables.{name_in}
-use Rattle.rendering.specs.Parts.{Part, Prints, Next}
+use Rattle.rendering.specs.Parts.{Prints, Next}
 use Rattle.rendering.specs.StmtParts.{Simple, N, a_stmt, simple_part, a_variable, a_braces, a_forall, a_choose, an_if, an_if_case, a_loop, a_labelled, an_inner, statement_list, last_statements, an_a_expr}
 use Rattle.rendering.proofs.PartPrints.Joins.{word_at}
 use Rattle.rendering.proofs.Sequences.{made}

@@ -10,7 +10,7 @@ use borrow.Author.Tests.{ne_eqb}
 use Rattle.lexing.specs.Answer.{pick}
 use Rattle.lexing.specs.Bytes.{bytes}
 use Rattle.tree.specs.Clash.{impossible}
-use Rattle.tree.specs.Ast.{Expr, Stmt, VarDecl, Assign, Reinit, Block, Call, Check, Assume, Reach, Assert, AForall, Choose, If, IfCase, Loop, LabeledStmt, Exit, Return, Probe, Stmts, no_stmts, stmts, Cases, no_cases, case, AExpr, a_expr, AExprs, no_a_exprs, a_exprs}
+use Rattle.tree.specs.Ast.{Expr, Stmt, VarDecl, Assign, Reinit, Block, Call, Check, Assume, Reach, Assert, AForall, Choose, If, IfCase, Loop, LabeledStmt, Exit, Return, Probe, Stmts, no_stmts, stmts, Cases, no_cases, case, AExpr, AExprs, no_a_exprs, a_exprs}
 use Rattle.tree.specs.Words.{stmt_words, stmts_words, cases_words, a_expr_words, a_exprs_words, expr_words}
 use Rattle.tree.specs.Counted.{stmt_count}
 use Rattle.tree.specs.Walk.{head_at}

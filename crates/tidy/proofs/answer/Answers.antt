@@ -1,5 +1,4 @@
 -- `answer` meets its contract, by those of `print` and `refusal` (Answers).
-use borrow.Author.Rules.{rules}
 use Rattle.tidy.proofs.Answers.{words-taken, words-printable, words-answered, refusal-limited, refusal-answered}
 use Rattle.tidy.proofs.answer.Goals as goal
 

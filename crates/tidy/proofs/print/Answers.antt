@@ -1,5 +1,4 @@
 -- `print` meets its contract, by that of `print_program` (Answers).
-use borrow.Author.Rules.{rules}
 use Rattle.tidy.proofs.Answers.{print-refused, print-written, print-answers}
 use Rattle.tidy.proofs.print.Goals as goal
 

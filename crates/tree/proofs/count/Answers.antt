@@ -14,7 +14,6 @@ use Rattle.tree.specs.Notes.{kind_notes}
 use Rattle.tree.specs.Tally.{marked, tally, counts}
 use Rattle.tree.specs.declared.Checked.{Checked}
 use Rattle.tree.specs.declared.Checked.TheVariants.{Tree, TooLong}
-use borrow.Author.Rules.{rules}
 use Rattle.tree.proofs.count.Goals as goal
 
 -- a table that is walked

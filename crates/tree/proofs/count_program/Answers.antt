@@ -4,7 +4,6 @@ use Rattle.tree.specs.Check.{check_program, program_refusal, refusal}
 use Rattle.tree.specs.Tally.{program_counts}
 use Rattle.tree.specs.KindNumbers.{kind_of}
 use Rattle.tree.specs.Rows.{digits, kinds_of}
-use borrow.Author.Rules.{rules}
 use Rattle.tree.proofs.count_program.Goals as goal
 
 pub returns : goal.returns

@@ -1,5 +1,4 @@
 -- `get` meets its contract: past the end the word is the default of `get_or`.
-use borrow.Author.Rules.{rules}
 use mathlib.Core.Path.{sym}
 use lib.ListN.{get_or-eq_default}
 use Rattle.tree.proofs.get.Goals as goal

@@ -1,5 +1,4 @@
 -- `name` meets its contract: a start past the text, a name that passes its end, and one inside.
-use borrow.Author.Rules.{rules}
 use Prim.Native.Nat.{ℕ, ◌+◌, ◌-◌}
 use mathlib.Core.Path.{◌≡◌, sym, ◌∙◌, ap}
 use mathlib.Core.List.{[]}

@@ -1,5 +1,4 @@
 -- `natural` meets its contract: past the end both words are 0.
-use borrow.Author.Rules.{rules}
 use Prim.Native.Nat.{◌+◌}
 use mathlib.Core.Path.{◌≡◌}
 use native.Mathlib.Omega.{arith}

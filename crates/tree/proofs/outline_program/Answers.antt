@@ -1,5 +1,4 @@
 -- `outline_program` meets its contract: of an accepted table the kinds and ends are copied, of a refused one nothing is.
-use borrow.Author.Rules.{rules}
 use native.Mathlib.Omega.{arith}
 use mathlib.Core.Path.{refl, sym, ap, ◌∙◌}
 use Rattle.tree.specs.Check.{check_program, refusal, program_refusal}

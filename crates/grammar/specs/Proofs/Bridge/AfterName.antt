@@ -21,7 +21,7 @@ use Rattle.grammar.specs.Tokens.{Token, name, illegal, lparen, rparen, token_at,
 use Rattle.grammar.specs.Grammar.{Tree}
 use Rattle.grammar.specs.Parser as parser
 use Rattle.grammar.specs.Parser.{parsed, failed, Parser, see, is_mark, is_word, parse_named, parse_bracketed}
-use Rattle.grammar.specs.Steps.{Reader, after, sign_at, spanned, parse_name}
+use Rattle.grammar.specs.Steps.{Reader, after, spanned, parse_name}
 use Rattle.grammar.specs.Rules as rules
 use Rattle.grammar.specs.Proofs.Laws.Cut.{tokens-drop, tokens-illegal}
 use Rattle.grammar.specs.Proofs.Bridge.Relation as relation

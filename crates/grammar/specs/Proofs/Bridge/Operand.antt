@@ -11,7 +11,7 @@ use Rattle.lexing.specs.Tokens as lexing
 use Rattle.lexing.specs.Tokens.{closed, lexeme, identifier_length, decimal, most_natural}
 use Rattle.lexing.specs.TokenLaws.{starts_with-true}
 use Rattle.tree.specs.Ast.{Span, Expr, ILiteral}
-use Rattle.grammar.specs.Tokens.{Token, name, nat, sign, illegal, lparen}
+use Rattle.grammar.specs.Tokens.{Token, nat, illegal, lparen}
 use Rattle.grammar.specs.Grammar.{unary, role, single}
 use Rattle.grammar.specs.Parser.{failed, Parser, see, is_nat, is_word, is_mark, parse_bracketed, parse_operand, parse_unary}
 use Rattle.grammar.specs.Steps.{Reader, after, mapped, Sym, sign_at, parse_nat}

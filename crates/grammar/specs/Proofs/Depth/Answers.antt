@@ -1,7 +1,7 @@
 -- Whether a rule keeps a token, as a test on the text: the laws of tokens and of the combinators.
 use Prim.Native.Nat.{ℕ, zero, suc}
 use Rattle.std.proofs.Common.{arith, lt-ltb}
-use Rattle.std.specs.Prelude.{◌≡◌, refl, ◌↔◌, Bool, ◌&&◌, ◌||◌, not, List, [], ◌∷◌, drop, take, length, ltb, leb}
+use Rattle.std.specs.Prelude.{◌≡◌, refl, ◌↔◌, Bool, ◌&&◌, ◌||◌, not, List, ◌∷◌, drop, take, length, ltb, leb}
 use Rattle.std.proofs.Math.Bool.{true, false}
 use Rattle.lexing.specs.Answer.{Answer, ok, refused, moved, large_natural, pick}
 use Rattle.lexing.specs.Bytes.{is_digit, run, starts_with, same_bytes}

@@ -9,7 +9,7 @@ use Rattle.lexing.specs.Answer.{Answer, ok, refused, moved, pick}
 use Rattle.lexing.specs.Bytes.{starts_with, same_bytes, bytes}
 use Rattle.lexing.specs.BlankLaws.{W-closed}
 use Rattle.lexing.specs.Tokens.{lexeme, unless_empty, identifier_length, parse_id, keyword, sign}
-use Rattle.grammar.specs.Steps.{Reader, after, ◌or◌, keyword_at, sign_at, parse_name}
+use Rattle.grammar.specs.Steps.{after, ◌or◌, keyword_at, sign_at, parse_name}
 use Rattle.grammar.specs.Rules.{opens_expr, parse_expr}
 use Rattle.grammar.specs.Statements as rules
 use Rattle.grammar.specs.ClaimTerms.{Unopened, nothing, too-deep, GalleryUnopened}

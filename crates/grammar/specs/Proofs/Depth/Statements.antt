@@ -9,7 +9,7 @@ use mathlib.Core.List.{List, [], ◌∷◌}
 use Rattle.lexing.specs.Answer.{Answer, ok, refused}
 use Rattle.lexing.specs.Bytes.{bytes}
 use Rattle.tree.specs.Ast.{Span}
-use Rattle.grammar.specs.Steps.{Reader, after, ◌or◌, mapped, T, Sym, parse_name}
+use Rattle.grammar.specs.Steps.{Reader, after, mapped, T, Sym, parse_name}
 use Rattle.grammar.specs.Rules as expressions
 use Rattle.grammar.specs.Rules.{opens_expr}
 use Rattle.grammar.specs.Statements as rules

@@ -1,8 +1,8 @@
 -- The refusals of read expression and read program (Reading.antt), by number and place.
-use Rattle.std.specs.Prelude.{ℕ, suc, ◌-◌, ◌≤◌, ◌≡◌, refl, Bool, true, false, ◌&&◌, List, [], ◌++◌, length, replicate, leb}
+use Rattle.std.specs.Prelude.{ℕ, suc, ◌-◌, ◌≤◌, ◌≡◌, refl, Bool, true, false, ◌&&◌, List, ◌++◌, length, replicate, leb}
 use Rattle.std.proofs.Common.{zero-le, arith, subst, leb-true, leb-false}
 use Rattle.lexing.specs.RunLaws.{both_true}
-use Rattle.lexing.specs.Answer.{Answer, ok, refused, pick}
+use Rattle.lexing.specs.Answer.{Answer, refused, pick}
 use Rattle.tree.specs.Limits.{most_text, most_words}
 use Rattle.tree.specs.Clash.{impossible}
 use Rattle.tree.specs.Resolve.{map_program}

@@ -18,7 +18,7 @@ use Rattle.grammar.specs.Reading.{leading, to_end, whole_text, outcome_by, parse
 use Rattle.grammar.specs.Tables.{short}
 use Rattle.grammar.specs.Proofs.Bridge.Limits.{stored-fits}
 use Rattle.grammar.specs.Proofs.Refusals.Entries.{program-rules-refused}
-use Rattle.grammar.specs.Proofs.Size.Sizes.{program_size, expr-sized, program-sized}
+use Rattle.grammar.specs.Proofs.Size.Sizes.{expr-sized, program-sized}
 use Rattle.grammar.specs.Proofs.Size.Answers.{FewAt, few, nothing, refuses, FewWords}
 use Rattle.grammar.specs.Proofs.Size.Expressions.{parse_expr-few}
 use Rattle.grammar.specs.Proofs.Size.Statements.{gallery-few}

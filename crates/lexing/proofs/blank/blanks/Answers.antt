@@ -1,10 +1,7 @@
 -- `blank::blanks` meets its contract. The loop's invariant is `Reached` (Returns), with a law for each way of a turn; the measure is what is left of the
 -- text, and a turn that goes on passes at least one byte.
-use Prim.Native.Nat.{◌-◌}
 use native.Mathlib.Omega.{arith}
-use lib.ListN.{length}
-use borrow.Author.Rules.{rules}
-use Rattle.lexing.proofs.Returns.{Reached, reached-start, reached-end, reached-inside, reached-more, reached-open}
+use Rattle.lexing.proofs.Returns.{reached-start, reached-end, reached-inside, reached-more, reached-open}
 use Rattle.lexing.proofs.blank.blanks.Goals as goal
 
 pub loop-n-init : goal.loop-n-init

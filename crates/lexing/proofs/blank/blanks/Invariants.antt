@@ -1,8 +1,6 @@
 use Prim.Native.Nat.{◌-◌}
-use native.Mathlib.Omega.{arith}
 use lib.ListN.{length}
-use borrow.Author.Rules.{rules}
-use Rattle.lexing.proofs.Returns.{Reached, reached-start, reached-end, reached-inside, reached-more, reached-open}
+use Rattle.lexing.proofs.Returns.{Reached}
 use Rattle.lexing.proofs.blank.blanks.Given as goal
 
 abbrev pub invariant-loop-n : goal.invariant-loop-n

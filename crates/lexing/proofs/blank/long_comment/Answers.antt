@@ -1,10 +1,8 @@
 -- `blank::long_comment` meets its contract. The loop's invariant is `Open` (Loops), with a law for each way of a turn; the measure is what is left of
 -- the text. The depth is at most i, so it does not overflow.
-use Prim.Native.Nat.{◌-◌}
 use native.Mathlib.Omega.{arith}
-use lib.ListN.{length}
 use borrow.Author.Rules.{rules}
-use Rattle.lexing.proofs.Loops.{Open, open-start, open-close, open-inner, open_more, open-on, open-never}
+use Rattle.lexing.proofs.Loops.{open-start, open-close, open-inner, open_more, open-on, open-never}
 use Rattle.lexing.proofs.blank.long_comment.Goals as goal
 
 pub loop-i-init : goal.loop-i-init

@@ -1,5 +1,4 @@
 -- `bytes::belongs` meets its contract, class by class, by the contract of the class's test.
-use borrow.Author.Rules.{rules}
 use Rattle.lexing.specs.Bytes.{not_newline}
 use Rattle.lexing.proofs.bytes.belongs.Goals as goal
 

@@ -1,6 +1,5 @@
 -- `bytes::can_start_identifier_char` meets its contract, by those of its two calls of `in_range`.
 use mathlib.Core.Path.{sym, ◌∙◌}
-use borrow.Author.Rules.{rules}
 use Rattle.lexing.specs.Bytes.{can_start_identifier_char}
 use Rattle.lexing.proofs.bytes.can_start_identifier_char.Goals as goal
 

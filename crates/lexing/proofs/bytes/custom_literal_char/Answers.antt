@@ -1,6 +1,5 @@
 -- `bytes::custom_literal_char` meets its contract, by those of `identifier_char` and `one_of`.
 use mathlib.Core.Path.{sym, ◌∙◌}
-use borrow.Author.Rules.{rules}
 use Rattle.lexing.specs.Bytes.{custom_literal_char}
 use Rattle.lexing.proofs.bytes.custom_literal_char.Goals as goal
 

@@ -1,6 +1,5 @@
 -- `bytes::identifier_char` meets its contract, by those of the three tests that it calls.
 use mathlib.Core.Path.{sym, ◌∙◌}
-use borrow.Author.Rules.{rules}
 use Rattle.lexing.specs.Bytes.{identifier_char}
 use Rattle.lexing.proofs.bytes.identifier_char.Goals as goal
 

@@ -1,5 +1,4 @@
 -- `bytes::is_digit` meets its contract, by that of `in_range`.
-use borrow.Author.Rules.{rules}
 use Rattle.lexing.specs.Bytes.{is_digit}
 use Rattle.lexing.proofs.bytes.is_digit.Goals as goal
 

@@ -1,5 +1,4 @@
 -- `bytes::is_space` meets its contract, by that of `one_of` on the four bytes.
-use borrow.Author.Rules.{rules}
 use Rattle.lexing.specs.Bytes.{is_space}
 use Rattle.lexing.proofs.bytes.is_space.Goals as goal
 

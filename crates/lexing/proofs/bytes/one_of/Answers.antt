@@ -1,9 +1,7 @@
 -- `bytes::one_of` meets its contract. The loop's invariant is `Sought` (Loops), with a law for each way of a turn; the measure is what is left of the set.
-use Prim.Native.Nat.{◌-◌}
 use native.Mathlib.Omega.{arith}
-use lib.ListN.{length}
 use borrow.Author.Rules.{rules}
-use Rattle.lexing.proofs.Loops.{Sought, sought-start, sought-here, sought-next, sought-end}
+use Rattle.lexing.proofs.Loops.{sought-start, sought-here, sought-next, sought-end}
 use Rattle.lexing.proofs.bytes.one_of.Goals as goal
 
 pub loop-i-init : goal.loop-i-init

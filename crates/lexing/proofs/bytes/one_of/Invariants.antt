@@ -1,8 +1,6 @@
 use Prim.Native.Nat.{◌-◌}
-use native.Mathlib.Omega.{arith}
 use lib.ListN.{length}
-use borrow.Author.Rules.{rules}
-use Rattle.lexing.proofs.Loops.{Sought, sought-start, sought-here, sought-next, sought-end}
+use Rattle.lexing.proofs.Loops.{Sought}
 use Rattle.lexing.proofs.bytes.one_of.Given as goal
 
 abbrev pub invariant-loop-i : goal.invariant-loop-i

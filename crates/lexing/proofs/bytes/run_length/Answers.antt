@@ -1,13 +1,9 @@
 -- `bytes::run_length` meets its contract. The loop's invariant is `Ran` (Loops), with a law for each way of a turn; the measure is what is left of the
 -- text.
 use mathlib.Core.Path.{sym, ◌∙◌}
-use Prim.Native.Nat.{◌-◌}
 use native.Mathlib.Omega.{arith}
-use lib.ListN.{length}
 use borrow.Author.Rules.{rules}
-use borrow.Author.Tests.{not-true, not-false}
-use Rattle.lexing.specs.CodeAnswers.{class_of}
-use Rattle.lexing.proofs.Loops.{Ran, ran-start, ran-next, ran-stop, ran-end}
+use Rattle.lexing.proofs.Loops.{ran-start, ran-next, ran-stop, ran-end}
 use Rattle.lexing.proofs.bytes.run_length.Goals as goal
 
 pub loop-i-init : goal.loop-i-init

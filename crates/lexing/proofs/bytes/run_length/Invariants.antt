@@ -1,11 +1,7 @@
-use mathlib.Core.Path.{sym, ◌∙◌}
 use Prim.Native.Nat.{◌-◌}
-use native.Mathlib.Omega.{arith}
 use lib.ListN.{length}
-use borrow.Author.Rules.{rules}
-use borrow.Author.Tests.{not-true, not-false}
 use Rattle.lexing.specs.CodeAnswers.{class_of}
-use Rattle.lexing.proofs.Loops.{Ran, ran-start, ran-next, ran-stop, ran-end}
+use Rattle.lexing.proofs.Loops.{Ran}
 use Rattle.lexing.proofs.bytes.run_length.Given as goal
 
 abbrev pub invariant-loop-i : goal.invariant-loop-i

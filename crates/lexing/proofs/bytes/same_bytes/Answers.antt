@@ -1,6 +1,5 @@
 -- `bytes::same_bytes` meets its contract: of one length, to start with is to be the same (Loops: `same_bytes-starts`, `same_bytes-lengths`).
 use mathlib.Core.Path.{sym, ◌∙◌}
-use borrow.Author.Rules.{rules}
 use Rattle.lexing.proofs.Loops.{same_bytes-starts, same_bytes-lengths}
 use Rattle.lexing.proofs.bytes.same_bytes.Goals as goal
 

@@ -1,11 +1,9 @@
 -- `bytes::starts_with` meets its contract. The loop's invariant is `Matched` (Loops), with a law for each way of a turn; the measure is what is left
 -- of w.
 use mathlib.Core.Path.{sym}
-use Prim.Native.Nat.{◌-◌}
 use native.Mathlib.Omega.{arith}
-use lib.ListN.{length}
 use borrow.Author.Rules.{rules}
-use Rattle.lexing.proofs.Loops.{Matched, matched-start, matched-next, matched-differs, matched-end, starts_with-long}
+use Rattle.lexing.proofs.Loops.{matched-start, matched-next, matched-differs, matched-end, starts_with-long}
 use Rattle.lexing.proofs.bytes.starts_with.Goals as goal
 
 pub returns-then-text-w : goal.returns-then-text-w

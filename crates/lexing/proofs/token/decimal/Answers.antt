@@ -1,10 +1,8 @@
 -- `token::decimal` meets its contract. The loop's invariant is `Summed` (Loops), with a law for each way of a turn; the measure is what is left of the
 -- digits.
-use Prim.Native.Nat.{◌-◌}
 use native.Mathlib.Omega.{arith}
-use lib.ListN.{length}
 use borrow.Author.Rules.{rules}
-use Rattle.lexing.proofs.Loops.{Summed, summed-start, summed-exceeds, summed-more, summed-end}
+use Rattle.lexing.proofs.Loops.{summed-start, summed-exceeds, summed-more, summed-end}
 use Rattle.lexing.proofs.token.decimal.Goals as goal
 
 pub loop-i-init : goal.loop-i-init

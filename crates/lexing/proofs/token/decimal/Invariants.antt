@@ -1,8 +1,6 @@
 use Prim.Native.Nat.{◌-◌}
-use native.Mathlib.Omega.{arith}
 use lib.ListN.{length}
-use borrow.Author.Rules.{rules}
-use Rattle.lexing.proofs.Loops.{Summed, summed-start, summed-exceeds, summed-more, summed-end}
+use Rattle.lexing.proofs.Loops.{Summed}
 use Rattle.lexing.proofs.token.decimal.Given as goal
 
 abbrev pub invariant-loop-i : goal.invariant-loop-i

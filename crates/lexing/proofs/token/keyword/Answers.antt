@@ -2,7 +2,6 @@
 use mathlib.Core.Path.{sym, ◌∙◌}
 use native.Mathlib.Omega.{arith}
 use lib.Seq.{length-take-le}
-use borrow.Author.Rules.{rules}
 use Rattle.lexing.specs.TokenLaws.{identifier-inside}
 use Rattle.lexing.proofs.Returns.{keyword-found, keyword-missing}
 use Rattle.lexing.proofs.token.keyword.Goals as goal

@@ -2,7 +2,6 @@
 use mathlib.Core.Path.{sym, ◌∙◌}
 use native.Mathlib.Omega.{arith}
 use lib.Seq.{length-take-le}
-use borrow.Author.Rules.{rules}
 use Rattle.lexing.specs.RunLaws.{run_inside}
 use Rattle.lexing.specs.Bytes.{is_digit}
 use Rattle.lexing.proofs.Returns.{natural-none, natural-value, natural-large}

@@ -1,6 +1,5 @@
 -- `token::parse_custom_literal` meets its contract, by that of `run_length`.
 use mathlib.Core.Path.{sym, ◌∙◌}
-use borrow.Author.Rules.{rules}
 use Rattle.lexing.specs.TokenLaws.{unless_empty-none, unless_empty-some}
 use Rattle.lexing.specs.Tokens.{parse_custom_literal}
 use Rattle.lexing.proofs.token.parse_custom_literal.Goals as goal

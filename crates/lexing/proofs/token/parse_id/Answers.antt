@@ -1,6 +1,5 @@
 -- `token::parse_id` meets its contract, by those of `identifier_length` and `lexeme`.
 use mathlib.Core.Path.{sym, ◌∙◌}
-use borrow.Author.Rules.{rules}
 use Rattle.lexing.specs.TokenLaws.{unless_empty-none, unless_empty-some}
 use Rattle.lexing.specs.Tokens.{parse_id}
 use Rattle.lexing.proofs.token.parse_id.Goals as goal

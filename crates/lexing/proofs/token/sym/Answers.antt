@@ -1,6 +1,5 @@
 -- `token::sym` meets its contract, by those of `starts_with` and `lexeme`.
 use mathlib.Core.Path.{sym, ◌∙◌}
-use borrow.Author.Rules.{rules}
 use Rattle.lexing.specs.Tokens.{sign}
 use Rattle.lexing.proofs.token.sym.Goals as goal
 

@@ -1,6 +1,5 @@
 -- `token::sym_not_prefix` meets its contract, by those of `starts_with` and `sym`.
 use mathlib.Core.Path.{sym, ◌∙◌}
-use borrow.Author.Rules.{rules}
 use Rattle.lexing.specs.Tokens.{sign_not_prefix}
 use Rattle.lexing.proofs.token.sym_not_prefix.Goals as goal
 

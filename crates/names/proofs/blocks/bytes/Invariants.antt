@@ -1,9 +1,6 @@
-use native.Mathlib.Omega.{arith}
-use borrow.Author.Rules.{rules}
-use Prim.Native.Nat.{ℕ, ◌+◌, ◌-◌, ◌≤◌}
+use Prim.Native.Nat.{◌-◌, ◌≤◌}
 use lib.ListN.{length, get_or}
 use Rattle.names.specs.Spans.{Written}
-use Rattle.names.specs.WriteLaws.{written_none, written_next, written-to}
 use Rattle.names.proofs.blocks.bytes.Given as goal
 
 abbrev pub invariant-loop-i : goal.invariant-loop-i

@@ -1,6 +1,5 @@
 -- `blocks::widen` meets its contract: no span is so long, or the classes are of twice the width.
 use native.Mathlib.Omega.{arith}
-use borrow.Author.Rules.{rules}
 use Rattle.names.specs.BlockLaws.{double-pairs, blocks-double}
 use Rattle.names.proofs.blocks.widen.Goals as goal
 

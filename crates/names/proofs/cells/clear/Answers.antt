@@ -1,5 +1,4 @@
 -- `cells::clear` meets its contract: nothing is left behind all numbers.
-use borrow.Author.Rules.{rules}
 use mathlib.Core.Path.{ap, ◌∙◌}
 use mathlib.Core.List.{append-nil, ◌++◌, List}
 use Prim.Native.Nat.{ℕ}

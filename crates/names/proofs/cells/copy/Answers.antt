@@ -1,10 +1,6 @@
 -- `cells::copy` meets its contract: the first i numbers are written.
 use native.Mathlib.Omega.{arith}
-use borrow.Author.Rules.{rules}
-use Prim.Native.Nat.{ℕ, ◌+◌, ◌-◌, ◌≤◌}
-use lib.ListN.{length, get_or}
-use mathlib.Core.Path.{◌≡◌}
-use Rattle.names.specs.Spans.{Written}
+use lib.ListN.{get_or}
 use Rattle.names.specs.WriteLaws.{written_none, written_next, written-to}
 use Rattle.names.proofs.cells.copy.Goals as goal
 

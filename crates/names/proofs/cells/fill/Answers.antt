@@ -1,9 +1,9 @@
 -- `cells::fill` meets its contract: before each turn the first i numbers have the value, and the others are as they were.
-use Prim.Native.Nat.{ℕ, ◌≤◌, ◌-◌}
+use Prim.Native.Nat.{ℕ}
 use mathlib.Core.Path.{◌≡◌, refl, ap, ◌∙◌}
 use mathlib.Core.List.{List, ◌++◌}
 use native.Mathlib.Omega.{arith}
-use lib.ListN.{length, drop, replicate, set, length-set}
+use lib.ListN.{drop, replicate, set, length-set}
 use borrow.Author.Fill.{fill_more}
 use Rattle.names.proofs.cells.fill.Goals as goal
 

@@ -1,5 +1,4 @@
 -- `cells::get` meets its contract: past the end the number is the default of `get_or`.
-use borrow.Author.Rules.{rules}
 use mathlib.Core.Path.{sym}
 use lib.ListN.{get_or-eq_default}
 use Rattle.names.proofs.cells.get.Goals as goal

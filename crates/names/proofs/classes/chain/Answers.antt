@@ -1,8 +1,7 @@
 -- `classes::chain` meets its contract: `Chaining` is the loop's invariant.
-use Prim.Native.Nat.{◌<◌, ◌-◌}
+use Prim.Native.Nat.{◌-◌}
 use native.Mathlib.Omega.{arith}
-use lib.ListN.{length, get_or}
-use Rattle.names.proofs.Chaining.{Chaining, chain-starts, key_below, chain-goes, chain-ends}
+use Rattle.names.proofs.Chaining.{chain-starts, key_below, chain-goes, chain-ends}
 use Rattle.names.proofs.classes.chain.Goals as goal
 
 pub overflow_cast-n : goal.overflow_cast-n

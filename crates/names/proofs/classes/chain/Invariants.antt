@@ -1,7 +1,4 @@
-use Prim.Native.Nat.{◌<◌, ◌-◌}
-use native.Mathlib.Omega.{arith}
-use lib.ListN.{length, get_or}
-use Rattle.names.proofs.Chaining.{Chaining, chain-starts, key_below, chain-goes, chain-ends}
+use Rattle.names.proofs.Chaining.{Chaining}
 use Rattle.names.proofs.classes.chain.Given as goal
 
 abbrev pub invariant-loop-i : goal.invariant-loop-i

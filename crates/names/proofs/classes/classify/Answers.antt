@@ -1,7 +1,6 @@
 -- `classes::classify` meets its contract: `Classifying` is the loop's invariant.
-use Prim.Native.Nat.{◌-◌}
 use native.Mathlib.Omega.{arith}
-use Rattle.names.proofs.Classifying.{Classifying, chain-ready, classify-starts, follow-ready, classify-goes, classify-ends}
+use Rattle.names.proofs.Classifying.{chain-ready, classify-starts, follow-ready, classify-goes, classify-ends}
 use Rattle.names.proofs.classes.classify.Goals as goal
 
 pub chain-requires : goal.chain-requires

@@ -1,6 +1,5 @@
 use Prim.Native.Nat.{◌-◌}
-use native.Mathlib.Omega.{arith}
-use Rattle.names.proofs.Classifying.{Classifying, chain-ready, classify-starts, follow-ready, classify-goes, classify-ends}
+use Rattle.names.proofs.Classifying.{Classifying}
 use Rattle.names.proofs.classes.classify.Given as goal
 
 abbrev pub invariant-loop-v : goal.invariant-loop-v

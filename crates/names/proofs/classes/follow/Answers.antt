@@ -1,8 +1,7 @@
 -- `classes::follow` meets its contract: `Following` is the loop's invariant.
-use Prim.Native.Nat.{◌-◌}
 use native.Mathlib.Omega.{arith}
 use lib.ListN.{get_or}
-use Rattle.names.proofs.Following.{Following, follow-starts, key-there, out-there, next-later, class-ready, follow-goes, follow-ends}
+use Rattle.names.proofs.Following.{follow-starts, key-there, out-there, next-later, class-ready, follow-goes, follow-ends}
 use Rattle.names.proofs.classes.follow.Goals as goal
 
 pub offset_bounds-heads-v : goal.offset_bounds-heads-v

@@ -1,7 +1,5 @@
 use Prim.Native.Nat.{◌-◌}
-use native.Mathlib.Omega.{arith}
-use lib.ListN.{get_or}
-use Rattle.names.proofs.Following.{Following, follow-starts, key-there, out-there, next-later, class-ready, follow-goes, follow-ends}
+use Rattle.names.proofs.Following.{Following}
 use Rattle.names.proofs.classes.follow.Given as goal
 
 abbrev pub invariant-loop-at : goal.invariant-loop-at

@@ -1,6 +1,5 @@
 -- `pairs::classes_in` meets its contract: the classes of the keys and of the keys from the place w on, copied.
 use native.Mathlib.Omega.{arith}
-use borrow.Author.Rules.{rules}
 use Rattle.names.specs.PairLaws.{pairs-ready, pairs-classed}
 use Rattle.names.proofs.pairs.classes_in.Goals as goal
 

@@ -1,5 +1,4 @@
 -- `ranks::count_with` meets its contract.
-use borrow.Author.Rules.{rules}
 use borrow.Author.Tests.{eq-eqb, ne_eqb}
 use Rattle.names.proofs.ranks.count_with.Goals as goal
 

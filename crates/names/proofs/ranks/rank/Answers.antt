@@ -1,8 +1,6 @@
 -- `ranks::rank` meets its contract: the first i spans have their numbers.
 use native.Mathlib.Omega.{arith}
-use borrow.Author.Rules.{rules}
-use Prim.Native.Nat.{ℕ, ◌+◌, ◌-◌, ◌≤◌}
-use Rattle.names.specs.RankLaws.{Ranking, ranking-none, ranking-next, ranking-end}
+use Rattle.names.specs.RankLaws.{ranking-none, ranking-next, ranking-end}
 use Rattle.names.proofs.ranks.rank.Goals as goal
 
 pub loop-i-init : goal.loop-i-init

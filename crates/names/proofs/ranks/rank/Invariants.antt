@@ -1,7 +1,5 @@
-use native.Mathlib.Omega.{arith}
-use borrow.Author.Rules.{rules}
-use Prim.Native.Nat.{ℕ, ◌+◌, ◌-◌, ◌≤◌}
-use Rattle.names.specs.RankLaws.{Ranking, ranking-none, ranking-next, ranking-end}
+use Prim.Native.Nat.{◌-◌, ◌≤◌}
+use Rattle.names.specs.RankLaws.{Ranking}
 use Rattle.names.proofs.ranks.rank.Given as goal
 
 abbrev pub invariant-loop-i : goal.invariant-loop-i

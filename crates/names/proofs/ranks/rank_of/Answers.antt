@@ -1,5 +1,4 @@
 -- `ranks::rank_of` meets its contract.
-use borrow.Author.Rules.{rules}
 use borrow.Author.Tests.{eq-eqb, ne_eqb}
 use Rattle.names.proofs.ranks.rank_of.Goals as goal
 

@@ -1,6 +1,5 @@
 -- `spans::first_equal` meets its contract: the classes by the keys, and then by those classes and the lengths.
 use native.Mathlib.Omega.{arith}
-use borrow.Author.Rules.{rules}
 use mathlib.Core.Path.{◌∙◌}
 use Rattle.names.specs.EqualLaws.{keys-pairs, lengths-pairs, first-equal}
 use Rattle.names.proofs.spans.first_equal.Goals as goal

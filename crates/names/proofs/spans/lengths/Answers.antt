@@ -1,8 +1,5 @@
 -- `spans::lengths` meets its contract: the first i lengths are written.
 use native.Mathlib.Omega.{arith}
-use borrow.Author.Rules.{rules}
-use Prim.Native.Nat.{ℕ, ◌+◌, ◌-◌, ◌≤◌}
-use Rattle.names.specs.Spans.{Lengths}
 use Rattle.names.specs.EqualLaws.{lengths_none, lengths-next, lengths-to}
 use Rattle.names.proofs.spans.lengths.Goals as goal
 

@@ -1,8 +1,5 @@
-use native.Mathlib.Omega.{arith}
-use borrow.Author.Rules.{rules}
-use Prim.Native.Nat.{ℕ, ◌+◌, ◌-◌, ◌≤◌}
+use Prim.Native.Nat.{◌-◌, ◌≤◌}
 use Rattle.names.specs.Spans.{Lengths}
-use Rattle.names.specs.EqualLaws.{lengths_none, lengths-next, lengths-to}
 use Rattle.names.proofs.spans.lengths.Given as goal
 
 abbrev pub invariant-loop-i : goal.invariant-loop-i

@@ -1,8 +1,5 @@
 -- `spans::longest` meets its contract: no length of the first i spans is greater.
 use native.Mathlib.Omega.{arith}
-use borrow.Author.Rules.{rules}
-use Prim.Native.Nat.{ℕ, ◌+◌, ◌-◌, ◌≤◌}
-use Rattle.names.specs.Spans.{Longest}
 use Rattle.names.specs.SpanLaws.{longest-none, longest-next, longest-to}
 use Rattle.names.proofs.spans.longest.Goals as goal
 

@@ -1,8 +1,5 @@
-use native.Mathlib.Omega.{arith}
-use borrow.Author.Rules.{rules}
-use Prim.Native.Nat.{ℕ, ◌+◌, ◌-◌, ◌≤◌}
+use Prim.Native.Nat.{◌-◌, ◌≤◌}
 use Rattle.names.specs.Spans.{Longest}
-use Rattle.names.specs.SpanLaws.{longest-none, longest-next, longest-to}
 use Rattle.names.proofs.spans.longest.Given as goal
 
 abbrev pub invariant-loop-i : goal.invariant-loop-i

@@ -1,11 +1,7 @@
 -- `spans::span_keys` meets its contract: at a width w the spans shorter than w have keys.
 use native.Mathlib.Omega.{arith}
-use borrow.Author.Rules.{rules}
 use mathlib.Core.Path.{refl}
-use mathlib.Core.Path.{◌≡◌, ◌∙◌}
-use Prim.Native.Nat.{◌+◌, ◌-◌}
-use lib.ListN.{length}
-use Rattle.names.specs.Spans.{Reached}
+use mathlib.Core.Path.{◌∙◌}
 use Rattle.names.specs.BlockLaws.{blocks-one}
 use Rattle.names.specs.SpanLaws.{keyed-none, keyed-next, keyed-all}
 use Rattle.names.proofs.spans.span_keys.Goals as goal

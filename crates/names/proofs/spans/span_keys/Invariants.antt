@@ -1,12 +1,7 @@
-use native.Mathlib.Omega.{arith}
-use borrow.Author.Rules.{rules}
-use mathlib.Core.Path.{refl}
-use mathlib.Core.Path.{◌≡◌, ◌∙◌}
+use mathlib.Core.Path.{◌≡◌}
 use Prim.Native.Nat.{◌+◌, ◌-◌}
 use lib.ListN.{length}
 use Rattle.names.specs.Spans.{Reached}
-use Rattle.names.specs.BlockLaws.{blocks-one}
-use Rattle.names.specs.SpanLaws.{keyed-none, keyed-next, keyed-all}
 use Rattle.names.proofs.spans.span_keys.Given as goal
 
 abbrev pub invariant-loop-w : goal.invariant-loop-w

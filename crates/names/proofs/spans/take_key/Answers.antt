@@ -1,6 +1,5 @@
 -- `spans::take_key` meets its contract: a span that is too short or too long for the width, and one of the width.
 use native.Mathlib.Omega.{arith}
-use borrow.Author.Rules.{rules}
 use lib.ListN.{length-set}
 use Rattle.names.specs.SpanLaws.{key-short, key-long, key-taken}
 use Rattle.names.proofs.spans.take_key.Goals as goal

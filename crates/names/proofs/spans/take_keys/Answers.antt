@@ -1,8 +1,5 @@
 -- `spans::take_keys` meets its contract: the keys of the first i spans are taken.
 use native.Mathlib.Omega.{arith}
-use borrow.Author.Rules.{rules}
-use Prim.Native.Nat.{ℕ, ◌+◌, ◌-◌, ◌≤◌}
-use Rattle.names.specs.Spans.{KeysTaken}
 use Rattle.names.specs.SpanLaws.{keys_none, keys-next, keys-to}
 use Rattle.names.proofs.spans.take_keys.Goals as goal
 

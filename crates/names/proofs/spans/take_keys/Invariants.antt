@@ -1,8 +1,5 @@
-use native.Mathlib.Omega.{arith}
-use borrow.Author.Rules.{rules}
-use Prim.Native.Nat.{ℕ, ◌+◌, ◌-◌, ◌≤◌}
+use Prim.Native.Nat.{◌-◌, ◌≤◌}
 use Rattle.names.specs.Spans.{KeysTaken}
-use Rattle.names.specs.SpanLaws.{keys_none, keys-next, keys-to}
 use Rattle.names.proofs.spans.take_keys.Given as goal
 
 abbrev pub invariant-loop-i : goal.invariant-loop-i

@@ -1,7 +1,6 @@
 -- `arena::node` meets its contract: its four writes are `noted` (Nodes).
 use native.Mathlib.Omega.{arith}
 use lib.ListN.{length-set}
-use borrow.Author.Rules.{rules}
 use Rattle.parsing.proofs.arena.Nodes.{noted}
 use Rattle.parsing.proofs.arena.node.Goals as goal
 

@@ -1,6 +1,5 @@
 -- `build::choice` meets its contract, by those of five calls of `node` (Nodes: `choice-noted`).
 use mathlib.Core.Path.{refl}
-use borrow.Author.Rules.{rules}
 use Rattle.parsing.proofs.arena.Nodes.{choice-noted}
 use Rattle.parsing.proofs.build.choice.Goals as goal
 

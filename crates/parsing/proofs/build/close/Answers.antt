@@ -2,7 +2,6 @@
 use Prim.Native.Nat.{ℕ, ◌+◌}
 use mathlib.Core.Path.{◌≡◌, refl}
 use mathlib.Core.List.{List}
-use borrow.Author.Rules.{rules}
 use Rattle.parsing.specs.Arena.{Noted}
 use Rattle.parsing.specs.Code.{Closes}
 use Rattle.parsing.specs.declared.arena.Built.{Built}

@@ -1,5 +1,4 @@
 -- `build::combine` meets its contract, by that of `node`.
-use borrow.Author.Rules.{rules}
 use Rattle.parsing.proofs.build.combine.Goals as goal
 
 pub returns-then-swap : goal.returns-then-swap

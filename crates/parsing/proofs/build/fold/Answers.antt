@@ -1,6 +1,6 @@
 -- `build::fold` meets its contract. The loop's invariant is `Folding` (Folds), with a law for each way of a turn; the measure is the link.
 use native.Mathlib.Omega.{arith}
-use Rattle.parsing.proofs.Folds.{Folding, folding-start, turn, folding-next, folding-end}
+use Rattle.parsing.proofs.Folds.{folding-start, turn, folding-next, folding-end}
 use Rattle.parsing.proofs.build.fold.Goals as goal
 
 pub loop-link-init : goal.loop-link-init

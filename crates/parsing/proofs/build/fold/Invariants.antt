@@ -1,5 +1,4 @@
-use native.Mathlib.Omega.{arith}
-use Rattle.parsing.proofs.Folds.{Folding, folding-start, turn, folding-next, folding-end}
+use Rattle.parsing.proofs.Folds.{Folding}
 use Rattle.parsing.proofs.build.fold.Given as goal
 
 abbrev pub invariant-loop-link : goal.invariant-loop-link

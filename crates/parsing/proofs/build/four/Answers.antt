@@ -1,6 +1,5 @@
 -- `build::four` meets its contract, by those of three calls of `node` (Nodes: `four-noted`).
 use mathlib.Core.Path.{refl}
-use borrow.Author.Rules.{rules}
 use Rattle.parsing.proofs.arena.Nodes.{four-noted}
 use Rattle.parsing.proofs.build.four.Goals as goal
 

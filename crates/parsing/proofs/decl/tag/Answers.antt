@@ -1,7 +1,6 @@
 -- `decl::tag` meets its contract, by those of `keyword` and `typed`, and by the node of the word 0 (Laws).
 use native.Mathlib.Omega.{arith}
 use mathlib.Core.Path.{refl}
-use borrow.Author.Rules.{rules}
 use Rattle.grammar.specs.Declarations.{parse_tag}
 use Rattle.parsing.specs.Arena.{Holds}
 use Rattle.parsing.proofs.Laws.{kept_refl, took, after-refused, builds-node, builds-from, builds-after, builds-else}

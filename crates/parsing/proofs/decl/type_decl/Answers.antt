@@ -1,5 +1,4 @@
 -- `decl::type_decl` meets its contract, by that of `identifier`.
-use borrow.Author.Rules.{rules}
 use Rattle.grammar.specs.Declarations.{after_type}
 use Rattle.parsing.proofs.Mapping.{builds-must}
 use Rattle.parsing.proofs.decl.type_decl.Goals as goal

@@ -1,6 +1,5 @@
 -- `decl::undefined` meets its contract, case by case.
 use mathlib.Core.Path.{refl}
-use borrow.Author.Rules.{rules}
 use Rattle.parsing.proofs.decl.undefined.Goals as goal
 
 pub returns-in-Ok-when : goal.returns-in-Ok-when

@@ -1,5 +1,4 @@
 -- `entry::ended` meets its contract, by what was built.
-use borrow.Author.Rules.{rules}
 use borrow.Author.Tests.{eq-eqb, ne_eqb}
 use Rattle.parsing.proofs.entry.ended.Goals as goal
 

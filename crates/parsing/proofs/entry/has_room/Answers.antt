@@ -1,5 +1,4 @@
 -- `entry::has_room` meets its contract: its tests are the definition's.
-use borrow.Author.Rules.{rules}
 use borrow.Author.Tests.{le-leb, lt-leb}
 use Rattle.parsing.proofs.entry.has_room.Goals as goal
 

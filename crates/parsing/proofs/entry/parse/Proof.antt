@@ -3,7 +3,6 @@ use native.Mathlib.Omega.{arith}
 use mathlib.Core.Path.{refl, sym, ◌∙◌}
 use lib.ListN.{length}
 use borrow.Author.Rules.{rules}
-use borrow.Author.Tests.{not-true, not-false}
 use Rattle.parsing.proofs.entry.Answers.{no_room, unclosed-refused, Led, led, rule-room, built-gives}
 use Rattle.parsing.proofs.entry.parse.Statement.{statement}
 use Rattle.parsing.proofs.entry.parse.Tie as tie

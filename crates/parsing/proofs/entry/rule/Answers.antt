@@ -1,7 +1,6 @@
 -- `entry::rule` meets its contract, by those of `expr` and `program`.
 use native.Mathlib.Omega.{arith}
 use mathlib.Core.Path.{refl}
-use borrow.Author.Rules.{rules}
 use Rattle.tree.specs.Words.{program_words}
 use Rattle.grammar.specs.Reading.{tree_words}
 use Rattle.parsing.specs.Code.{same}

@@ -2,7 +2,6 @@
 use native.Mathlib.Omega.{arith}
 use Prim.Native.Nat.{◌+◌, ◌-◌}
 use mathlib.Core.Path.{◌≡◌, ap, ◌∙◌}
-use borrow.Author.Rules.{rules}
 use lib.ListN.{take, drop}
 use Rattle.parsing.specs.Leads.{lead_of}
 use Rattle.parsing.proofs.lead.lead_at.Goals as goal

@@ -1,10 +1,7 @@
 -- `lead::lead_of` meets its contract: only the words of the bytes' length can be theirs (WordTables).
 use Prim.Native.Nat.{ℕ}
 use mathlib.Core.Path.{◌≡◌, refl, sym, subst}
-use mathlib.Core.Bool.{false}
 use mathlib.Core.List.{List, []}
-use lib.Dec.{eqb}
-use borrow.Author.Rules.{rules}
 use borrow.Author.Tests.{ne_eqb}
 use Rattle.parsing.specs.Leads.{of_length, leads, lead_of}
 use Rattle.parsing.specs.declared.lead.Lead.TheVariants.{Name}

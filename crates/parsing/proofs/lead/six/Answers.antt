@@ -1,5 +1,4 @@
 -- `lead::six` meets its contract, word before word from the last of the table on (WordTables).
-use borrow.Author.Rules.{rules}
 use Rattle.parsing.specs.Leads.{of_length, leads}
 use Rattle.parsing.proofs.WordTables.{none_told, one_more, all_told}
 use Rattle.parsing.proofs.lead.six.Goals as goal

@@ -1,7 +1,6 @@
 -- `leaf::by_name` meets its contract, by that of `named` (Mapping) and the words that stand (Branches).
 use native.Mathlib.Omega.{arith}
 use mathlib.Core.Path.{refl}
-use borrow.Author.Rules.{rules}
 use Rattle.parsing.proofs.Laws.{kept_refl, took, after_none, after-refused, builds-from, builds-after}
 use Rattle.parsing.proofs.Rooms.{room-on}
 use Rattle.parsing.proofs.Branches.{needed-keeps, branch-refused, builds-branch, builds-skip}

@@ -2,7 +2,6 @@
 use native.Mathlib.Omega.{arith}
 use mathlib.Core.Bool.{true, false}
 use mathlib.Core.Path.{refl}
-use borrow.Author.Rules.{rules}
 use mathlib.Core.Logic.{inr}
 use Rattle.grammar.specs.Declarations.{formal, parse_function_formal}
 use Rattle.parsing.proofs.Laws.{kept_refl, took, after-refused, builds-from, builds-after, builds-else}

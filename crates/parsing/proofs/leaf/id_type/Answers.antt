@@ -1,7 +1,6 @@
 -- `leaf::id_type` meets its contract, by that of `between`.
 use mathlib.Core.Path.{refl}
 use mathlib.Core.Logic.{inl}
-use borrow.Author.Rules.{rules}
 use Rattle.parsing.proofs.Mapping.{builds-as, binding-words}
 use Rattle.parsing.proofs.leaf.id_type.Goals as goal
 

@@ -1,7 +1,6 @@
 -- `leaf::identifier` meets its contract, by those of `name` and `over` (Laws).
 use native.Mathlib.Omega.{arith}
 use mathlib.Core.Path.{sym}
-use borrow.Author.Rules.{rules}
 use Rattle.parsing.specs.Arena.{Holds}
 use Rattle.grammar.specs.Steps.{parse_name}
 use Rattle.lexing.specs.Answer.{ok}

@@ -1,7 +1,6 @@
 -- `leaf::literal` meets its contract, by those of `number` and `custom` (Branches).
 use native.Mathlib.Nat.{le_refl}
 use native.Mathlib.Omega.{arith}
-use borrow.Author.Rules.{rules}
 use Rattle.parsing.proofs.Laws.{kept_trans, builds-from, builds-else}
 use Rattle.parsing.proofs.Branches.{builds-first}
 use Rattle.parsing.proofs.Rooms.{room-on}

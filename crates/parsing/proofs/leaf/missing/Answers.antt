@@ -1,6 +1,5 @@
 -- `leaf::missing` meets its contract, by the answer's three cases.
 use mathlib.Core.Path.{ap, sym}
-use borrow.Author.Rules.{rules}
 use Rattle.parsing.specs.Code.{missing_at}
 use Rattle.parsing.proofs.leaf.missing.Goals as goal
 

@@ -1,7 +1,6 @@
 -- `leaf::moded` meets its contract, by that of `between` (Mapping) and the words that stand (Branches).
 use native.Mathlib.Omega.{arith}
 use mathlib.Core.Path.{refl}
-use borrow.Author.Rules.{rules}
 use mathlib.Core.Logic.{inr}
 use Rattle.tree.specs.Ast.{In, InOut, Out}
 use Rattle.grammar.specs.Declarations.{moded, parse_moded}

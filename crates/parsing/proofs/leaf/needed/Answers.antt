@@ -1,6 +1,5 @@
 -- `leaf::needed` meets its contract, by the answer's three cases.
 use mathlib.Core.Path.{ap, sym}
-use borrow.Author.Rules.{rules}
 use Rattle.parsing.specs.Arena.{needed_at}
 use Rattle.parsing.proofs.leaf.needed.Goals as goal
 

@@ -1,5 +1,4 @@
 -- `leaf::needed_if` meets its contract, by the mark's three cases.
-use borrow.Author.Rules.{rules}
 use Rattle.parsing.proofs.leaf.needed_if.Goals as goal
 
 pub returns-in-Ok : goal.returns-in-Ok

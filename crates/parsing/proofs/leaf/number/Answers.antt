@@ -1,6 +1,5 @@
 -- `leaf::number` meets its contract, by that of `lexing::natural` on the rest of the text and that of `over` (Identifiers, Laws).
 use native.Mathlib.Omega.{arith}
-use borrow.Author.Rules.{rules}
 use Rattle.parsing.specs.Arena.{Holds}
 use Rattle.parsing.proofs.Laws.{kept_refl, after_none, after-refused, builds-node, builds-after}
 use Rattle.parsing.proofs.Identifiers.{natural-read, natural-inside}

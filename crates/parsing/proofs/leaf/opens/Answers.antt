@@ -1,5 +1,4 @@
 -- `leaf::opens` meets its contract, by those of `lexing::identifier_length`, `peek` and `opens_at` (Identifiers).
-use borrow.Author.Rules.{rules}
 use Rattle.parsing.proofs.Identifiers.{opens-word, opens-byte}
 use Rattle.parsing.proofs.leaf.opens.Goals as goal
 

@@ -1,7 +1,6 @@
 -- `leaf::optional_type` meets its contract, by those of `sym_not_prefix` and `typed`, and by the node of the word 0 (Laws).
 use native.Mathlib.Omega.{arith}
 use mathlib.Core.Path.{refl}
-use borrow.Author.Rules.{rules}
 use Rattle.parsing.specs.Arena.{Holds}
 use Rattle.grammar.specs.Rules.{parse_optional_type}
 use Rattle.parsing.proofs.Laws.{kept_refl, took, after-refused, builds-node, builds-from, builds-after, builds-else}

@@ -1,5 +1,4 @@
 -- `leaf::too_deep` meets its contract, by that of `opens` on the rest of the text (Identifiers).
-use borrow.Author.Rules.{rules}
 use Rattle.parsing.proofs.Identifiers.{deep_opens, deep-stops}
 use Rattle.parsing.proofs.leaf.too_deep.Goals as goal
 

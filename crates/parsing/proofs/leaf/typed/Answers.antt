@@ -1,6 +1,5 @@
 -- `leaf::typed` meets its contract, by those of `name` and `over` (Laws).
 use native.Mathlib.Omega.{arith}
-use borrow.Author.Rules.{rules}
 use Rattle.parsing.specs.Arena.{Holds}
 use Rattle.parsing.proofs.Laws.{kept_refl, took, builds-node, builds-after, token-missing}
 use Rattle.parsing.proofs.Laws.{lexed-not_ok}

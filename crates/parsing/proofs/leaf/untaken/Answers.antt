@@ -1,6 +1,5 @@
 -- `leaf::untaken` meets its contract, by the answer's three cases.
 use mathlib.Core.Path.{ap, sym}
-use borrow.Author.Rules.{rules}
 use Rattle.parsing.specs.Code.{untaken_at}
 use Rattle.parsing.proofs.leaf.untaken.Goals as goal
 

@@ -1,6 +1,5 @@
 -- `program::begin` meets its contract, by the kind that the word tells (DeclarationWords).
 use native.Mathlib.Omega.{arith}
-use borrow.Author.Rules.{rules}
 use Rattle.parsing.proofs.DeclarationWords.{no-head, head-long, head-leads}
 use Rattle.parsing.proofs.program.begin.Goals as goal
 

@@ -1,6 +1,5 @@
 -- `program::begun` meets its contract, case by case.
 use mathlib.Core.Path.{refl}
-use borrow.Author.Rules.{rules}
 use Rattle.parsing.proofs.program.begun.Goals as goal
 
 pub returns-in-Ok : goal.returns-in-Ok

@@ -1,6 +1,5 @@
 -- `program::decl` meets its contract, by those of the declarations.
 use native.Mathlib.Omega.{arith}
-use borrow.Author.Rules.{rules}
 use Rattle.parsing.proofs.Laws.{kept_refl, builds-from}
 use Rattle.parsing.proofs.Rooms.{room-on}
 use Rattle.parsing.proofs.program.decl.Goals as goal

@@ -1,5 +1,4 @@
 -- `program::head_of` meets its contract, word before word from the last of the table on (WordTables).
-use borrow.Author.Rules.{rules}
 use Rattle.parsing.specs.Declarations.{heads, head_of}
 use Rattle.parsing.proofs.WordTables.{none_told, one_more, all_told}
 use Rattle.parsing.proofs.program.head_of.Goals as goal

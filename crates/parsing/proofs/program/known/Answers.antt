@@ -1,6 +1,5 @@
 -- `program::known` meets its contract, by the test.
 use mathlib.Core.Path.{refl, sym, ◌∙◌}
-use borrow.Author.Rules.{rules}
 use Rattle.parsing.proofs.program.known.Goals as goal
 
 pub returns-then-same_bytes : goal.returns-then-same_bytes

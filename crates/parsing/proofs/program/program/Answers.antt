@@ -1,10 +1,7 @@
 -- `program::program` meets its contract, turn after turn (Programs).
 use native.Mathlib.Omega.{arith}
-use Prim.Native.Nat.{◌-◌}
 use mathlib.Core.Path.{◌∙◌}
-use borrow.Author.Rules.{rules}
-use lib.ListN.{length}
-use Rattle.parsing.proofs.Programs.{Declaring, none-declared, decl-room, decl-length, decl-read, declared, end-room, program-ends, program-refused, program-needed}
+use Rattle.parsing.proofs.Programs.{none-declared, decl-room, decl-length, decl-read, declared, end-room, program-ends, program-refused, program-needed}
 use Rattle.parsing.proofs.Laws.{built-not_ok}
 use Rattle.parsing.proofs.program.program.Goals as goal
 

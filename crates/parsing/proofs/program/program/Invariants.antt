@@ -1,9 +1,6 @@
-use native.Mathlib.Omega.{arith}
 use Prim.Native.Nat.{◌-◌}
-use mathlib.Core.Path.{◌∙◌}
-use borrow.Author.Rules.{rules}
 use lib.ListN.{length}
-use Rattle.parsing.proofs.Programs.{Declaring, none-declared, decl-room, decl-length, decl-read, declared, end-room, program-ends, program-refused, program-needed}
+use Rattle.parsing.proofs.Programs.{Declaring}
 use Rattle.parsing.proofs.program.program.Given as goal
 
 abbrev pub invariant-loop-kind : goal.invariant-loop-kind

@@ -1,6 +1,5 @@
 -- `program::with_last` meets its contract, kind by kind.
 use mathlib.Core.Path.{refl}
-use borrow.Author.Rules.{rules}
 use Rattle.parsing.proofs.program.with_last.Goals as goal
 
 pub returns-in-Types : goal.returns-in-Types

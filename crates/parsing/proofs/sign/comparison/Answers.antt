@@ -1,5 +1,4 @@
 -- `sign::comparison` meets its contract, by three branches (Signs).
-use borrow.Author.Rules.{rules}
 use Rattle.grammar.specs.Rules.{parse_comparison_operator}
 use Rattle.parsing.proofs.sign.Signs.{sign-first, sign-next}
 use Rattle.parsing.proofs.sign.Signs.{sign-not_none}

@@ -1,6 +1,5 @@
 -- `sign::factor` meets its contract, by three branches (Signs).
 use native.Mathlib.Omega.{arith}
-use borrow.Author.Rules.{rules}
 use Rattle.grammar.specs.Rules.{factor_operator}
 use Rattle.parsing.proofs.sign.Signs.{sign_read, sign-first, sign-next}
 use Rattle.parsing.proofs.sign.Signs.{sign-not_none}

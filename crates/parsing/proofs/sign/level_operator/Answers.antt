@@ -1,6 +1,5 @@
 -- `sign::level_operator` meets its contract, by the level (Signs: `sign_read`).
 use native.Mathlib.Omega.{arith}
-use borrow.Author.Rules.{rules}
 use Rattle.grammar.specs.Rules.{and_operator, or_operator, implies_operator, explies_operator, equiv_operator}
 use Rattle.parsing.proofs.sign.Signs.{sign_read}
 use Rattle.parsing.proofs.sign.level_operator.Goals as goal

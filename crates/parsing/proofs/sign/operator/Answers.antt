@@ -1,6 +1,5 @@
 -- `sign::operator` meets its contract: a byte that begins no operator (FirstBytes), or the level's own.
 use mathlib.Core.Path.{sym, ap, ◌∙◌}
-use borrow.Author.Rules.{rules}
 use Rattle.parsing.specs.Code.{begins_operator, class_of}
 use Rattle.parsing.proofs.sign.FirstBytes.{begins-none}
 use Rattle.parsing.proofs.sign.operator.Goals as goal

@@ -1,6 +1,5 @@
 -- `sign::unary_operator` meets its contract, by two branches (Signs).
 use native.Mathlib.Omega.{arith}
-use borrow.Author.Rules.{rules}
 use Rattle.grammar.specs.Rules.{unary_operator}
 use Rattle.parsing.proofs.sign.Signs.{sign_read, sign-first, sign-next}
 use Rattle.parsing.proofs.sign.Signs.{sign-not_none}

@@ -1,6 +1,5 @@
 -- `sign::where_read` meets its contract, by the answer's three cases.
 use mathlib.Core.Path.{ap, sym}
-use borrow.Author.Rules.{rules}
 use Rattle.parsing.specs.Code.{where_read}
 use Rattle.parsing.proofs.sign.where_read.Goals as goal
 

@@ -1,6 +1,5 @@
 -- `simple::deep` meets its contract, by the cases of the token.
 use mathlib.Core.Path.{ap, sym}
-use borrow.Author.Rules.{rules}
 use Rattle.parsing.specs.Statements.{deep_at}
 use Rattle.parsing.proofs.simple.deep.Goals as goal
 

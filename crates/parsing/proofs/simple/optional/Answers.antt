@@ -2,7 +2,6 @@
 use native.Mathlib.Omega.{arith}
 use mathlib.Core.Path.{refl}
 use mathlib.Core.Option.{some}
-use borrow.Author.Rules.{rules}
 use Rattle.parsing.specs.Arena.{Holds}
 use Rattle.parsing.proofs.Laws.{kept_refl, builds-node, builds-from}
 use Rattle.parsing.proofs.Rooms.{room-on}

@@ -1,6 +1,5 @@
 -- `simple::too_deep` meets its contract, by the word that stands (SimpleStatements).
 use mathlib.Core.Path.{◌∙◌}
-use borrow.Author.Rules.{rules}
 use Rattle.parsing.proofs.Identifiers.{passed-word}
 use Rattle.parsing.proofs.SimpleStatements.{deep-stopped, deep-wordless, deep-lead, deep-named, deep-refused}
 use Rattle.parsing.proofs.simple.too_deep.Goals as goal

@@ -1,6 +1,5 @@
 -- `step::after_word` meets its contract, by that of `lexing::lexeme` on the rest of the text (Tokens).
 use native.Mathlib.Omega.{arith}
-use borrow.Author.Rules.{rules}
 use Rattle.parsing.proofs.step.Tokens.{word-placed, word-passes}
 use Rattle.parsing.proofs.step.after_word.Goals as goal
 

@@ -1,6 +1,5 @@
 -- `step::is_word` meets its contract, by that of `lexing::same_bytes` on a part of the text (Identifiers).
 use mathlib.Core.Path.{refl}
-use borrow.Author.Rules.{rules}
 use Rattle.parsing.proofs.Identifiers.{part_same}
 use Rattle.parsing.proofs.step.is_word.Goals as goal
 

@@ -1,6 +1,5 @@
 -- `step::keyword` meets its contract, by that of `lexing::keyword` on the rest of the text (Tokens).
 use native.Mathlib.Omega.{arith}
-use borrow.Author.Rules.{rules}
 use Rattle.parsing.proofs.step.Tokens.{token-placed, token-tells, keyword-reads}
 use Rattle.parsing.proofs.step.keyword.Goals as goal
 

@@ -1,6 +1,5 @@
 -- `step::literal_text` meets its contract, by that of `lexing::parse_custom_literal` on the rest of the text (Tokens).
 use native.Mathlib.Omega.{arith}
-use borrow.Author.Rules.{rules}
 use Rattle.parsing.proofs.step.Tokens.{token-placed, token-spans, parse_custom_literal-reads}
 use Rattle.parsing.proofs.step.literal_text.Goals as goal
 

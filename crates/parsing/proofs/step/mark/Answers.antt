@@ -1,6 +1,5 @@
 -- `step::mark` meets its contract, sign after sign (SimpleStatements).
 use native.Mathlib.Omega.{arith}
-use borrow.Author.Rules.{rules}
 use Rattle.grammar.specs.Statements.{mark}
 use Rattle.parsing.proofs.SimpleStatements.{tells_first, tells-next}
 use Rattle.parsing.proofs.Laws.{lexed-not_none}

@@ -1,7 +1,6 @@
 -- `step::moved` meets its contract, by the answer's three cases.
 use mathlib.Core.Path.{ap, sym, subst}
 use native.Mathlib.Omega.{arith}
-use borrow.Author.Rules.{rules}
 use Rattle.parsing.specs.Code.{moved_of, placed}
 use Rattle.parsing.proofs.step.moved.Goals as goal
 

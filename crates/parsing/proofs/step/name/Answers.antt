@@ -1,6 +1,5 @@
 -- `step::name` meets its contract, by that of `lexing::parse_id` on the rest of the text (Tokens).
 use native.Mathlib.Omega.{arith}
-use borrow.Author.Rules.{rules}
 use Rattle.parsing.proofs.step.Tokens.{token-placed, token-spans, parse_id-reads}
 use Rattle.parsing.proofs.step.name.Goals as goal
 

@@ -1,6 +1,5 @@
 -- `step::sym` meets its contract, by that of `lexing::sym` on the rest of the text (Tokens).
 use native.Mathlib.Omega.{arith}
-use borrow.Author.Rules.{rules}
 use Rattle.parsing.proofs.step.Tokens.{token-placed, token-tells, sign_reads}
 use Rattle.parsing.proofs.step.sym.Goals as goal
 

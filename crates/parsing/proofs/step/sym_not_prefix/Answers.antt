@@ -1,6 +1,5 @@
 -- `step::sym_not_prefix` meets its contract, by that of `lexing::sym_not_prefix` on the rest of the text (Tokens).
 use native.Mathlib.Omega.{arith}
-use borrow.Author.Rules.{rules}
 use Rattle.parsing.proofs.step.Tokens.{token-placed, token-tells, sign_not_prefix-reads}
 use Rattle.parsing.proofs.step.sym_not_prefix.Goals as goal
 

@@ -1,5 +1,4 @@
 -- `step::word_length` meets its contract, by that of `lexing::identifier_length` on the rest of the text (Tokens).
-use borrow.Author.Rules.{rules}
 use Rattle.parsing.proofs.step.Tokens.{word-spelt}
 use Rattle.parsing.proofs.step.word_length.Goals as goal
 

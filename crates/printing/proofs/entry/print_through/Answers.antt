@@ -1,6 +1,5 @@
 -- What `render` made in the buffer, handed over.
 use Rattle.printing.proofs.EntryAnswers.{there, handed, refused-too}
-use borrow.Author.Rules.{rules}
 use Rattle.printing.proofs.entry.print_through.Goals as goal
 
 pub deliver-requires : goal.deliver-requires

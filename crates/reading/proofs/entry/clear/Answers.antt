@@ -1,9 +1,7 @@
 -- `entry::clear` meets its contract: its loop has put zeros in the places that it has passed (Clearing).
-use Prim.Native.Nat.{◌-◌}
 use native.Mathlib.Omega.{arith}
-use lib.ListN.{length, length-set}
-use borrow.Author.Rules.{rules}
-use Rattle.reading.proofs.entry.Clearing.{Cleared, cleared-start, cleared_more, cleared-end}
+use lib.ListN.{length-set}
+use Rattle.reading.proofs.entry.Clearing.{cleared-start, cleared_more, cleared-end}
 use Rattle.reading.proofs.entry.clear.Goals as goal
 
 pub loop-i-init : goal.loop-i-init

@@ -1,8 +1,6 @@
 use Prim.Native.Nat.{◌-◌}
-use native.Mathlib.Omega.{arith}
-use lib.ListN.{length, length-set}
-use borrow.Author.Rules.{rules}
-use Rattle.reading.proofs.entry.Clearing.{Cleared, cleared-start, cleared_more, cleared-end}
+use lib.ListN.{length}
+use Rattle.reading.proofs.entry.Clearing.{Cleared}
 use Rattle.reading.proofs.entry.clear.Given as goal
 
 abbrev pub invariant-loop-i : goal.invariant-loop-i

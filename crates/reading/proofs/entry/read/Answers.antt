@@ -1,6 +1,5 @@
 -- `entry::read` meets its contract, by those of `clear` and of the readers of texts up to some length (Clearing, Outcomes).
 use native.Mathlib.Omega.{arith}
-use borrow.Author.Rules.{rules}
 use Rattle.reading.proofs.entry.Clearing.{cleared-again}
 use Rattle.reading.proofs.entry.Outcomes.{answered, answered-long}
 use Rattle.reading.proofs.entry.read.Goals as goal

@@ -1,5 +1,4 @@
 -- `entry::read_in` meets its contract, by those of `parse` and `store` (Outcomes).
-use borrow.Author.Rules.{rules}
 use Rattle.reading.proofs.entry.Outcomes.{parse-refused, parse-rooted, parse-stored}
 use Rattle.reading.proofs.entry.read_in.Goals as goal
 

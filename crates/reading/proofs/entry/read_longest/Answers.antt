@@ -1,7 +1,6 @@
 -- `entry::read_longest` meets its contract, by that of `read_in` over `buffers` (Outcomes).
 use lib.Dec.{lit≤}
 use Rattle.tree.specs.Limits.{most_text}
-use borrow.Author.Rules.{rules}
 use Rattle.reading.proofs.entry.Outcomes.{buffers}
 use Rattle.reading.proofs.entry.read_longest.Goals as goal
 

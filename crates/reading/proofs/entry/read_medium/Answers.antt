@@ -1,6 +1,5 @@
 -- `entry::read_medium` meets its contract, by that of `read_in` over `buffers` (Outcomes).
 use lib.Dec.{lit≤}
-use borrow.Author.Rules.{rules}
 use Rattle.reading.proofs.entry.Outcomes.{buffers}
 use Rattle.reading.proofs.entry.read_medium.Goals as goal
 

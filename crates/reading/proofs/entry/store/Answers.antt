@@ -1,5 +1,4 @@
 -- `entry::store` meets its contract, by those of `flatten` and `clear` (Outcomes).
-use borrow.Author.Rules.{rules}
 use Rattle.reading.proofs.entry.Outcomes.{store_words, store-refused}
 use Rattle.reading.proofs.entry.store.Goals as goal
 

@@ -1,5 +1,4 @@
 -- `flat::emit` meets its contract: one word more, in the table or past its end (Words).
-use borrow.Author.Rules.{rules}
 use Rattle.reading.proofs.flat.Words.{emit-inside, emit-past}
 use Rattle.reading.proofs.flat.emit.Goals as goal
 

@@ -1,9 +1,6 @@
 -- `flat::flatten` meets its contract: its loop's invariant is `Walks`, and the stack's weight falls (Walk, Frames).
 use native.Mathlib.Omega.{arith}
-use lib.ListN.{drop}
-use borrow.Author.Rules.{rules}
-use Rattle.reading.proofs.flat.Frames.{weight}
-use Rattle.reading.proofs.flat.Walk.{Walks, rooted-stack, rooted-small, walks-start, walks-stack, walks-inside, walks-fits, walks_less, walks_next, walks-end}
+use Rattle.reading.proofs.flat.Walk.{rooted-stack, rooted-small, walks-start, walks-stack, walks-inside, walks-fits, walks_less, walks_next, walks-end}
 use Rattle.reading.proofs.flat.flatten.Goals as goal
 
 pub overflow_sub-sp : goal.overflow_sub-sp

@@ -1,8 +1,6 @@
-use native.Mathlib.Omega.{arith}
 use lib.ListN.{drop}
-use borrow.Author.Rules.{rules}
 use Rattle.reading.proofs.flat.Frames.{weight}
-use Rattle.reading.proofs.flat.Walk.{Walks, rooted-stack, rooted-small, walks-start, walks-stack, walks-inside, walks-fits, walks_less, walks_next, walks-end}
+use Rattle.reading.proofs.flat.Walk.{Walks}
 use Rattle.reading.proofs.flat.flatten.Given as goal
 
 abbrev pub invariant-loop-sp : goal.invariant-loop-sp

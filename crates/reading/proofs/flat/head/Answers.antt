@@ -1,5 +1,4 @@
 -- `flat::head` meets its contract, by the frame's kind and those of `emit` and `node_head`.
-use borrow.Author.Rules.{rules}
 use borrow.Author.Tests.{ne_eqb, eq-eqb}
 use Rattle.reading.specs.Flat.{head_of}
 use Rattle.reading.proofs.flat.head.Goals as goal

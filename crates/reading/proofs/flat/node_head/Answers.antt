@@ -1,5 +1,4 @@
 -- `flat::node_head` meets its contract, by the node's tag and those of `emit` and `operator` (Words).
-use borrow.Author.Rules.{rules}
 use borrow.Author.Tests.{ne_eqb}
 use Rattle.reading.specs.Flat.{node_head}
 use Rattle.reading.proofs.flat.Words.{writes_more}

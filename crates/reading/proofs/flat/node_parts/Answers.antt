@@ -1,6 +1,5 @@
 -- `flat::node_parts` meets its contract, by the node's tag and those of `over` and `one` (Frames).
 use native.Mathlib.Omega.{arith}
-use borrow.Author.Rules.{rules}
 use borrow.Author.Tests.{ne_eqb}
 use Rattle.reading.specs.Flat.{node_parts}
 use Rattle.reading.proofs.flat.Frames.{replaced-none}

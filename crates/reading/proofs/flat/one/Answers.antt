@@ -1,5 +1,4 @@
 -- `flat::one` meets its contract: a frame in the place of another (Frames).
-use borrow.Author.Rules.{rules}
 use Rattle.reading.proofs.flat.Frames.{replaced-one}
 use Rattle.reading.proofs.flat.one.Goals as goal
 

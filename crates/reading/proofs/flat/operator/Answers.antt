@@ -1,5 +1,4 @@
 -- `flat::operator` meets its contract, by that of `emit`, three times (Words).
-use borrow.Author.Rules.{rules}
 use Rattle.reading.proofs.flat.Words.{writes_more}
 use Rattle.reading.proofs.flat.operator.Goals as goal
 

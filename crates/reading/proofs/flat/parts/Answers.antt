@@ -1,6 +1,5 @@
 -- `flat::parts` meets its contract, by the frame's kind and those of `one`, `two` and `node_parts` (Frames).
 use native.Mathlib.Omega.{arith}
-use borrow.Author.Rules.{rules}
 use borrow.Author.Tests.{ne_eqb, eq-eqb}
 use Rattle.reading.specs.Flat.{parts_of}
 use Rattle.reading.proofs.flat.Frames.{replaced-none}

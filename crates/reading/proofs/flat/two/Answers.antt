@@ -1,7 +1,6 @@
 -- `flat::two` meets its contract: two frames in the place of one (Frames).
 use native.Mathlib.Omega.{arith}
 use lib.ListN.{length-set}
-use borrow.Author.Rules.{rules}
 use Rattle.reading.proofs.flat.Frames.{replaced-two}
 use Rattle.reading.proofs.flat.two.Goals as goal
 

@@ -1,6 +1,5 @@
 -- The indent and the brace.
 use Rattle.rendering.proofs.Writing.Bytes.{then}
-use borrow.Author.Rules.{rules}
 use Rattle.rendering.proofs.around.close_own.Goals as goal
 
 pub returns : goal.returns

@@ -1,5 +1,4 @@
 -- The indent, or one step deeper.
-use borrow.Author.Rules.{rules}
 use Rattle.rendering.proofs.around.indent_inside.Goals as goal
 
 pub returns-then-followed : goal.returns-then-followed

@@ -1,7 +1,6 @@
 -- Words 32 and 33.
 use mathlib.Core.Path.{sym, ◌∙◌}
 use Rattle.rendering.proofs.StmtPrints.Tests.{tells-if, tells-case}
-use borrow.Author.Rules.{rules}
 use Rattle.rendering.proofs.around.is_conditional.Goals as goal
 
 pub returns-then-get-eq-IF : goal.returns-then-get-eq-IF

@@ -1,6 +1,5 @@
 -- Word 24, and the word after it.
 use Rattle.rendering.proofs.StmtPrints.Tests.{tells-empty, tells-other}
-use borrow.Author.Rules.{rules}
 use Rattle.rendering.proofs.around.is_empty_block.Goals as goal
 
 pub returns-then-get-eq-BLOCK : goal.returns-then-get-eq-BLOCK

@@ -1,6 +1,5 @@
 -- Word 34.
 use Rattle.rendering.proofs.StmtPrints.Tests.{tells-loop}
-use borrow.Author.Rules.{rules}
 use Rattle.rendering.proofs.around.is_loop.Goals as goal
 
 pub returns : goal.returns

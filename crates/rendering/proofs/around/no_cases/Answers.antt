@@ -1,6 +1,5 @@
 -- Two indents and two texts.
 use Rattle.rendering.proofs.Writing.Bytes.{then}
-use borrow.Author.Rules.{rules}
 use Rattle.rendering.proofs.around.no_cases.Goals as goal
 
 pub returns : goal.returns

@@ -1,6 +1,5 @@
 -- The brace and the indent.
 use Rattle.rendering.proofs.Writing.Bytes.{then}
-use borrow.Author.Rules.{rules}
 use Rattle.rendering.proofs.around.open_own.Goals as goal
 
 pub returns : goal.returns

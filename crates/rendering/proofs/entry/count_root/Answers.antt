@@ -1,6 +1,5 @@
 -- The check of the root's trees.
 use Rattle.rendering.proofs.EntryAnswers.{checked-by}
-use borrow.Author.Rules.{rules}
 use Rattle.rendering.proofs.entry.count_root.Goals as goal
 
 pub returns-in-AnExpression : goal.returns-in-AnExpression

@@ -1,6 +1,5 @@
 -- The print of the root's trees.
 use Rattle.rendering.proofs.EntryAnswers.{printed-by}
-use borrow.Author.Rules.{rules}
 use Rattle.rendering.proofs.entry.print_root.Goals as goal
 
 pub returns-in-AnExpression : goal.returns-in-AnExpression

@@ -1,7 +1,6 @@
 -- A text that is too long, and a start indent that is too large, are refused by 6; else the table is checked.
 use Rattle.rendering.proofs.EntryAnswers.{over-text, over-indent}
 use native.Mathlib.Omega.{arith}
-use borrow.Author.Rules.{rules}
 use Rattle.rendering.proofs.entry.render.Goals as goal
 
 pub returns-then-text-gt-MOST_TEXT : goal.returns-then-text-gt-MOST_TEXT

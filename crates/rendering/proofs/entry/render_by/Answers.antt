@@ -1,7 +1,6 @@
 -- What the printer wrote into the buffer is the print, where its place is inside the buffer.
 use Rattle.rendering.proofs.EntryAnswers.{fits, passes}
 use native.Mathlib.Omega.{arith}
-use borrow.Author.Rules.{rules}
 use Rattle.rendering.proofs.entry.render_by.Goals as goal
 
 pub returns-then-buffer-s : goal.returns-then-buffer-s

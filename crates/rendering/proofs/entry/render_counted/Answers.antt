@@ -2,7 +2,6 @@
 use mathlib.Core.Path.{sym, ap, ◌∙◌}
 use Rattle.tree.specs.Check.{refusal as check_refusal}
 use Rattle.rendering.proofs.EntryAnswers.{numbered, refused-table, accepted}
-use borrow.Author.Rules.{rules}
 use Rattle.rendering.proofs.entry.render_counted.Goals as goal
 
 pub render_by-requires : goal.render_by-requires

@@ -1,6 +1,5 @@
 -- The format after `else` by whether a conditional follows.
 use Rattle.rendering.proofs.Operators.Surroundings.{else-format-is}
-use borrow.Author.Rules.{rules}
 use Rattle.rendering.proofs.forms.else_format.Goals as goal
 
 pub returns : goal.returns

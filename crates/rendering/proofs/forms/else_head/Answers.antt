@@ -1,6 +1,5 @@
 -- `else` between the format's space and that before what follows.
 use Rattle.rendering.proofs.Operators.Surroundings.{else-head-is}
-use borrow.Author.Rules.{rules}
 use Rattle.rendering.proofs.forms.else_head.Goals as goal
 
 pub returns : goal.returns

@@ -4,7 +4,6 @@ use mathlib.Core.Bool.{Bool}
 use Rattle.lexing.specs.Answer.{pick}
 use Rattle.layout.specs.declared.format.ExprFormatOption.TheVariants.{SingleLine}
 use Rattle.rendering.proofs.Operators.Surroundings.{format-by}
-use borrow.Author.Rules.{rules}
 use Rattle.rendering.proofs.forms.format_after.Goals as goal
 
 pub returns-then-breaks_line : goal.returns-then-breaks_line

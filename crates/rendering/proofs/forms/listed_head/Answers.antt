@@ -1,6 +1,5 @@
 -- The operator's spelling and a bracket.
 use Rattle.rendering.proofs.Operators.Surroundings.{listed-wrote}
-use borrow.Author.Rules.{rules}
 use Rattle.rendering.proofs.forms.listed_head.Goals as goal
 
 pub returns : goal.returns

@@ -1,6 +1,5 @@
 -- The context of an operand by the operator's strength.
 use Rattle.rendering.proofs.Operators.Surroundings.{power-by}
-use borrow.Author.Rules.{rules}
 use Rattle.rendering.proofs.forms.operand_power.Goals as goal
 
 pub returns : goal.returns

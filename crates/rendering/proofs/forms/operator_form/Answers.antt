@@ -1,6 +1,5 @@
 -- The number of operands where it is the operator's own, else 0.
 use Rattle.rendering.proofs.Operators.Surroundings.{form-full, form-listed}
-use borrow.Author.Rules.{rules}
 use Rattle.rendering.proofs.forms.operator_form.Goals as goal
 
 pub returns-then-n-argument_count : goal.returns-then-n-argument_count

@@ -1,6 +1,5 @@
 -- The format's space and the word `pattern`.
 use Rattle.rendering.proofs.Writing.Bytes.{then}
-use borrow.Author.Rules.{rules}
 use Rattle.rendering.proofs.forms.pattern_head.Goals as goal
 
 pub returns : goal.returns

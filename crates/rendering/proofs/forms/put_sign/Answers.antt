@@ -1,6 +1,5 @@
 -- A space, the operator's spelling, and the format's space.
 use Rattle.rendering.proofs.Operators.Surroundings.{sign-wrote}
-use borrow.Author.Rules.{rules}
 use Rattle.rendering.proofs.forms.put_sign.Goals as goal
 
 pub returns : goal.returns

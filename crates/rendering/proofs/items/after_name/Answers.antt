@@ -1,6 +1,5 @@
 -- Past two words.
 use Rattle.rendering.proofs.StmtPrints.Pieces.{after_two}
-use borrow.Author.Rules.{rules}
 use Rattle.rendering.proofs.items.after_name.Goals as goal
 
 pub returns : goal.returns

@@ -1,6 +1,5 @@
 -- An expression on one line.
 use Rattle.rendering.proofs.StmtPrints.Room.{one_line_lem}
-use borrow.Author.Rules.{rules}
 use Rattle.rendering.proofs.items.inline.Goals as goal
 
 pub returns : goal.returns

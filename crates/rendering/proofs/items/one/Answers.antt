@@ -4,7 +4,6 @@ use Rattle.rendering.specs.Parts.{a_name}
 use Rattle.rendering.specs.StmtParts.{formal_part, an_item}
 use Rattle.rendering.proofs.StmtPrints.Pieces.{of-kind}
 use Rattle.rendering.proofs.StmtPrints.Room.{asks-more}
-use borrow.Author.Rules.{rules}
 use Rattle.rendering.proofs.items.one.Goals as goal
 
 pub returns-in-Name : goal.returns-in-Name

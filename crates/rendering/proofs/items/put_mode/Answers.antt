@@ -2,7 +2,6 @@
 use mathlib.Core.Path.{sym, ◌∙◌}
 use Rattle.rendering.proofs.Writing.Bytes.{none}
 use borrow.Author.Tests.{ne_eqb}
-use borrow.Author.Rules.{rules}
 use Rattle.rendering.proofs.items.put_mode.Goals as goal
 
 pub returns-in-2 : goal.returns-in-2

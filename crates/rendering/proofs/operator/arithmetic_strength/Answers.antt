@@ -2,7 +2,6 @@
 use mathlib.Core.Path.{◌∙◌}
 use native.Mathlib.Omega.{arith}
 use Rattle.rendering.proofs.Operators.Tables.{unary-strength}
-use borrow.Author.Rules.{rules}
 use Rattle.rendering.proofs.operator.arithmetic_strength.Goals as goal
 
 pub returns-in-10 : goal.returns-in-10

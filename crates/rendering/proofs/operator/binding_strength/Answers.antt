@@ -1,7 +1,6 @@
 -- The strength by the range of the operator's word.
 use mathlib.Core.Path.{◌∙◌}
 use Rattle.rendering.proofs.Operators.Tables.{comparison-strength}
-use borrow.Author.Rules.{rules}
 use Rattle.rendering.proofs.operator.binding_strength.Goals as goal
 
 pub returns-then-op-lt-PLUS : goal.returns-then-op-lt-PLUS

@@ -3,7 +3,6 @@ use mathlib.Core.Path.{◌≡◌, refl}
 use native.Mathlib.Omega.{arith}
 use Rattle.layout.specs.PrintUtil.{EndlessOperator, BindingStrength}
 use Rattle.rendering.proofs.Operators.Tables.{first-operator}
-use borrow.Author.Rules.{rules}
 use Rattle.rendering.proofs.operator.logical_strength.Goals as goal
 
 pub returns-in-2 : goal.returns-in-2

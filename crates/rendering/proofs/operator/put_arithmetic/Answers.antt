@@ -1,7 +1,6 @@
 -- The spellings of Plus to UnaryMinus, one case each.
 use native.Mathlib.Omega.{arith}
 use Rattle.rendering.proofs.Operators.Tables.{spelt-last}
-use borrow.Author.Rules.{rules}
 use Rattle.rendering.proofs.operator.put_arithmetic.Goals as goal
 
 pub returns-in-10 : goal.returns-in-10

@@ -1,7 +1,6 @@
 -- The spellings of Eq to AtMost, one case each.
 use mathlib.Core.Path.{◌≡◌}
 use native.Mathlib.Omega.{arith}
-use borrow.Author.Rules.{rules}
 use Rattle.rendering.proofs.operator.put_comparison.Goals as goal
 
 pub returns-in-6 : goal.returns-in-6

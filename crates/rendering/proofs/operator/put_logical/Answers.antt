@@ -1,7 +1,6 @@
 -- The spellings of IfThenElse to LogicalOr, one case each.
 use native.Mathlib.Omega.{arith}
 use Rattle.rendering.proofs.Operators.Tables.{spelt-first}
-use borrow.Author.Rules.{rules}
 use Rattle.rendering.proofs.operator.put_logical.Goals as goal
 
 pub returns-in-2 : goal.returns-in-2

@@ -1,6 +1,5 @@
 -- The place after a word of the table; a place past it stays.
 use Rattle.rendering.proofs.PartPrints.Joins.{next-inside, next_past}
-use borrow.Author.Rules.{rules}
 use Rattle.rendering.proofs.parts.after.Goals as goal
 
 pub returns-then-at-words : goal.returns-then-at-words

@@ -1,6 +1,5 @@
 -- A call's name and its bracket.
 use Rattle.rendering.proofs.PartPrints.HeadPrints.{call-head}
-use borrow.Author.Rules.{rules}
 use Rattle.rendering.proofs.parts.call_head.Goals as goal
 
 pub returns : goal.returns

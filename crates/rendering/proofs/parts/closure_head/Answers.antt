@@ -2,7 +2,6 @@
 use Rattle.lexing.specs.Bytes.{bytes}
 use Rattle.layout.specs.Text.{unless}
 use Rattle.rendering.proofs.PartPrints.HeadPrints.{closure-head}
-use borrow.Author.Rules.{rules}
 use Rattle.rendering.proofs.parts.closure_head.Goals as goal
 
 pub returns : goal.returns

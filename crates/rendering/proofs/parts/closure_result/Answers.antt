@@ -1,6 +1,5 @@
 -- A closure's result variable and type between their words.
 use Rattle.rendering.proofs.PartPrints.HeadPrints.{result-prints}
-use borrow.Author.Rules.{rules}
 use Rattle.rendering.proofs.parts.closure_result.Goals as goal
 
 pub returns : goal.returns

@@ -1,6 +1,5 @@
 -- A custom literal's text and type between bars.
 use Rattle.rendering.proofs.PartPrints.HeadPrints.{custom-prints}
-use borrow.Author.Rules.{rules}
 use Rattle.rendering.proofs.parts.custom_literal.Goals as goal
 
 pub returns : goal.returns

@@ -1,6 +1,5 @@
 -- `old ` by the word after the name, then the name.
 use Rattle.rendering.proofs.PartPrints.LeafPrints.{identifier-prints}
-use borrow.Author.Rules.{rules}
 use Rattle.rendering.proofs.parts.id_expr.Goals as goal
 
 pub returns : goal.returns

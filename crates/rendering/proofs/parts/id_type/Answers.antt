@@ -1,6 +1,5 @@
 -- A name alone, or with its type, by the option's word.
 use Rattle.rendering.proofs.PartPrints.NamePrints.{untyped, is-typed}
-use borrow.Author.Rules.{rules}
 use Rattle.rendering.proofs.parts.id_type.Goals as goal
 
 pub returns-then-get-eq-NO_MORE : goal.returns-then-get-eq-NO_MORE

@@ -1,6 +1,5 @@
 -- An IfThenElse has the words 5 and 1.
 use Rattle.rendering.proofs.PartPrints.LeafPrints.{is-if-by, is-no-if}
-use borrow.Author.Rules.{rules}
 use Rattle.rendering.proofs.parts.is_if.Goals as goal
 
 pub returns-then-get-eq-OPERATOR_EXPR : goal.returns-then-get-eq-OPERATOR_EXPR

@@ -1,6 +1,5 @@
 -- The bracket that a label needs, its name, the colon.
 use Rattle.rendering.proofs.PartPrints.HeadPrints.{label-head}
-use borrow.Author.Rules.{rules}
 use Rattle.rendering.proofs.parts.label_head.Goals as goal
 
 pub returns : goal.returns

@@ -1,6 +1,5 @@
 -- Each of the words 1 to 4 by the function of its kind.
 use Rattle.rendering.proofs.PartPrints.LeafPrints.{leaf-bool, leaf-natural, leaf-custom, leaf-identifier, no-leaf}
-use borrow.Author.Rules.{rules}
 use Rattle.rendering.proofs.parts.leaf.Goals as goal
 
 pub returns-in-1 : goal.returns-in-1

@@ -1,6 +1,5 @@
 -- The bracket that a `val` needs, its name and type, the sign.
 use Rattle.rendering.proofs.PartPrints.HeadPrints.{let-head}
-use borrow.Author.Rules.{rules}
 use Rattle.rendering.proofs.parts.let_head.Goals as goal
 
 pub returns : goal.returns

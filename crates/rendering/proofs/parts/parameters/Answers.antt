@@ -1,6 +1,5 @@
 -- No parameters print nothing; others stand in brackets.
 use Rattle.rendering.proofs.PartPrints.NamePrints.{no-parameters, some-parameters}
-use borrow.Author.Rules.{rules}
 use Rattle.rendering.proofs.parts.parameters.Goals as goal
 
 pub returns-then-get-eq-NO_MORE : goal.returns-then-get-eq-NO_MORE

@@ -1,7 +1,6 @@
 -- `true` or `false` by the word.
 use mathlib.Core.Bool.{true, false}
 use Rattle.rendering.proofs.PartPrints.LeafPrints.{bool-prints}
-use borrow.Author.Rules.{rules}
 use Rattle.rendering.proofs.parts.put_bool.Goals as goal
 
 pub returns-then-get-eq-FALSE : goal.returns-then-get-eq-FALSE

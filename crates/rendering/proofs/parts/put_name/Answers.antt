@@ -1,6 +1,5 @@
 -- A name's two words give its part of the text.
 use Rattle.rendering.proofs.PartPrints.NamePrints.{name-prints}
-use borrow.Author.Rules.{rules}
 use Rattle.rendering.proofs.parts.put_name.Goals as goal
 
 pub returns : goal.returns

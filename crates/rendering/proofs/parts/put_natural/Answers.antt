@@ -1,6 +1,5 @@
 -- A natural's two words give its value.
 use Rattle.rendering.proofs.PartPrints.LeafPrints.{natural-prints}
-use borrow.Author.Rules.{rules}
 use Rattle.rendering.proofs.parts.put_natural.Goals as goal
 
 pub returns : goal.returns

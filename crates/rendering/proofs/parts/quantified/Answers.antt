@@ -1,7 +1,6 @@
 -- `forall ` or `exists ` by the Bool's word, before the first binding.
 use mathlib.Core.Bool.{true, false}
 use Rattle.rendering.proofs.PartPrints.NamePrints.{quantified-prints}
-use borrow.Author.Rules.{rules}
 use Rattle.rendering.proofs.parts.quantified.Goals as goal
 
 pub returns-then-get-eq-FALSE : goal.returns-then-get-eq-FALSE

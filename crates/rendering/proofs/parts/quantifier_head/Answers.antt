@@ -1,6 +1,5 @@
 -- The bracket that a quantifier needs, its word and bindings.
 use Rattle.rendering.proofs.PartPrints.HeadPrints.{quantifier-head}
-use borrow.Author.Rules.{rules}
 use Rattle.rendering.proofs.parts.quantifier_head.Goals as goal
 
 pub returns : goal.returns

@@ -1,6 +1,5 @@
 -- A name, a colon and its type.
 use Rattle.rendering.proofs.PartPrints.NamePrints.{typed-prints}
-use borrow.Author.Rules.{rules}
 use Rattle.rendering.proofs.parts.typed.Goals as goal
 
 pub returns : goal.returns

@@ -3,7 +3,6 @@ use Rattle.rendering.specs.declared.program.DeclKind.TheVariants.{Types, Taggers
 use Rattle.rendering.specs.DeclParts.{a_type_decl, a_tagger_decl, a_decl}
 use Rattle.rendering.proofs.DeclPrints.{of-kind}
 use Rattle.rendering.proofs.StmtPrints.Room.{asks-more}
-use borrow.Author.Rules.{rules}
 use Rattle.rendering.proofs.program.declaration.Goals as goal
 
 pub returns-in-Types : goal.returns-in-Types

@@ -1,7 +1,6 @@
 -- A keyword by its word.
 use mathlib.Core.Path.{sym, ◌∙◌}
 use borrow.Author.Tests.{ne_eqb}
-use borrow.Author.Rules.{rules}
 use Rattle.rendering.proofs.simple.put_keyword.Goals as goal
 
 pub returns-in-26 : goal.returns-in-26

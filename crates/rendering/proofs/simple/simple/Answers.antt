@@ -1,6 +1,5 @@
 -- A statement without statements in it, by its word.
 use Rattle.rendering.proofs.StmtPrints.Arms.{is-assign, is-reinit, is_call, is-exit, is-return, is-expression}
-use borrow.Author.Rules.{rules}
 use Rattle.rendering.proofs.simple.simple.Goals as goal
 
 pub returns-in-22 : goal.returns-in-22

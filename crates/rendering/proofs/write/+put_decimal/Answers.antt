@@ -1,5 +1,4 @@
 -- The digits before the last by the call, whose value is smaller, then the last one.
-use native.Mathlib.Omega.{arith}
 use Rattle.rendering.proofs.Writing.Decimal.{wrote-digit, wrote-digits}
 use Rattle.rendering.proofs.write.+put_decimal.Goals as goal
 

@@ -1,6 +1,5 @@
 -- No bracket where the operator wins, else that of the side.
 use Rattle.rendering.proofs.Operators.Strengths.{parenthesis-none, parenthesis-put}
-use borrow.Author.Rules.{rules}
 use Rattle.rendering.proofs.write.parenthesis.Goals as goal
 
 pub returns-then-wins_over : goal.returns-then-wins_over

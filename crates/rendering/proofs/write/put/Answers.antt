@@ -1,7 +1,6 @@
 -- Bytes that fit are stored; bytes that do not leave the buffer as it was.
 use native.Mathlib.Omega.{arith}
 use Rattle.rendering.proofs.Writing.Bytes.{over, stored}
-use borrow.Author.Rules.{rules}
 use Rattle.rendering.proofs.write.put.Goals as goal
 
 pub returns-then-out-pos : goal.returns-then-out-pos

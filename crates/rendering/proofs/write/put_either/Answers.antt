@@ -1,5 +1,4 @@
 -- The one text or the other.
-use borrow.Author.Rules.{rules}
 use Rattle.rendering.proofs.write.put_either.Goals as goal
 
 pub returns-then-test : goal.returns-then-test

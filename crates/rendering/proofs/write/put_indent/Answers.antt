@@ -1,8 +1,6 @@
 -- The loop stores spaces, one a turn.
-use Prim.Native.Nat.{◌-◌}
 use native.Mathlib.Omega.{arith}
-use lib.ListN.{replicate}
-use Rattle.rendering.proofs.Writing.Bytes.{Storing, storing-none, spaces, spaces-more, spaces-all, spaces-over, spaces-fit}
+use Rattle.rendering.proofs.Writing.Bytes.{storing-none, spaces, spaces-more, spaces-all, spaces-over, spaces-fit}
 use Rattle.rendering.proofs.write.put_indent.Goals as goal
 
 pub overflow_add-result : goal.overflow_add-result

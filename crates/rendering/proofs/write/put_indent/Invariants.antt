@@ -1,7 +1,6 @@
 use Prim.Native.Nat.{◌-◌}
-use native.Mathlib.Omega.{arith}
 use lib.ListN.{replicate}
-use Rattle.rendering.proofs.Writing.Bytes.{Storing, storing-none, spaces, spaces-more, spaces-all, spaces-over, spaces-fit}
+use Rattle.rendering.proofs.Writing.Bytes.{Storing}
 use Rattle.rendering.proofs.write.put_indent.Given as goal
 
 abbrev pub invariant-loop-i : goal.invariant-loop-i

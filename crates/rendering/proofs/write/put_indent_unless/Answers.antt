@@ -1,6 +1,5 @@
 -- Nothing is written where `skip`, else the indent.
 use Rattle.rendering.proofs.Writing.Bytes.{none}
-use borrow.Author.Rules.{rules}
 use Rattle.rendering.proofs.write.put_indent_unless.Goals as goal
 
 pub returns-then-skip : goal.returns-then-skip

@@ -1,7 +1,6 @@
 -- A space, or a line end and the indent.
 use Rattle.rendering.proofs.Writing.Bytes.{then}
 use Rattle.rendering.proofs.Operators.Strengths.{space-line, space-lines}
-use borrow.Author.Rules.{rules}
 use Rattle.rendering.proofs.write.space.Goals as goal
 
 pub returns-in-SingleLine : goal.returns-in-SingleLine

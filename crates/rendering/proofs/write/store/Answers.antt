@@ -1,9 +1,7 @@
 -- The loop stores the bytes, one a turn.
-use Prim.Native.Nat.{◌-◌}
 use native.Mathlib.Omega.{arith}
-use lib.ListN.{length}
 use mathlib.Core.Path.{refl}
-use Rattle.rendering.proofs.Writing.Bytes.{Storing, storing-none, storing-more, storing-all}
+use Rattle.rendering.proofs.Writing.Bytes.{storing-none, storing-more, storing-all}
 use Rattle.rendering.proofs.write.store.Goals as goal
 
 pub loop-i-init : goal.loop-i-init

@@ -1,8 +1,6 @@
 use Prim.Native.Nat.{◌-◌}
-use native.Mathlib.Omega.{arith}
 use lib.ListN.{length}
-use mathlib.Core.Path.{refl}
-use Rattle.rendering.proofs.Writing.Bytes.{Storing, storing-none, storing-more, storing-all}
+use Rattle.rendering.proofs.Writing.Bytes.{Storing}
 use Rattle.rendering.proofs.write.store.Given as goal
 
 abbrev pub invariant-loop-i : goal.invariant-loop-i

@@ -1,7 +1,6 @@
 -- `frames::frame_of` meets its contract.
 use Rattle.tree.proofs.Marks.{frame-plain, frame-marked}
 use native.Mathlib.Omega.{arith}
-use borrow.Author.Rules.{rules}
 use Rattle.tree.proofs.frames.frame_of.Goals as goal
 
 pub returns-then-mark-eq0 : goal.returns-then-mark-eq0

@@ -1,6 +1,5 @@
 -- `frames::mark_at` meets its contract.
 use Rattle.tree.proofs.Marks.{mark-sequence, mark-none}
-use borrow.Author.Rules.{rules}
 use Rattle.tree.proofs.frames.mark_at.Goals as goal
 
 pub returns-then-is_sequence : goal.returns-then-is_sequence

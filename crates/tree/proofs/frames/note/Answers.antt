@@ -1,7 +1,6 @@
 -- `frames::note` meets its contract.
 use Rattle.tree.proofs.Marks.{noted-open, noted-unmarked, noted-end, noted-past}
 use native.Mathlib.Omega.{arith}
-use borrow.Author.Rules.{rules}
 use Rattle.tree.proofs.frames.note.Goals as goal
 
 pub returns-then-at-counts : goal.returns-then-at-counts

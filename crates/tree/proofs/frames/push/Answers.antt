@@ -1,6 +1,5 @@
 -- `frames::push` meets its contract.
 use mathlib.Core.Path.{refl, sym, ◌∙◌}
-use borrow.Author.Rules.{rules}
 use Rattle.tree.proofs.frames.push.Goals as goal
 
 pub returns-then-row_of-eq0 : goal.returns-then-row_of-eq0

@@ -1,7 +1,6 @@
 -- `frames::sequence_mark` meets its contract.
 use Rattle.tree.proofs.Marks.{opens-behind, opens-first, opens-rest}
 use native.Mathlib.Omega.{arith}
-use borrow.Author.Rules.{rules}
 use Rattle.tree.proofs.frames.sequence_mark.Goals as goal
 
 pub returns-then-after-gt0 : goal.returns-then-after-gt0

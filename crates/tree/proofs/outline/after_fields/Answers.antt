@@ -1,10 +1,6 @@
 -- `outline::after_fields` meets its contract: what is left of the row leads to the same place.
-use Prim.Native.Nat.{◌<◌, ◌^◌}
-use mathlib.Core.Path.{◌≡◌, refl, sym, ◌∙◌}
+use mathlib.Core.Path.{refl, sym, ◌∙◌}
 use native.Mathlib.Omega.{arith}
-use lib.ListN.{length}
-use Rattle.tree.specs.Rows.{kinds_of}
-use Rattle.tree.specs.Notes.{fields_end}
 use Rattle.tree.proofs.Outlines.{field-passed, fields-passed}
 use Rattle.tree.proofs.outline.after_fields.Goals as goal
 

@@ -1,10 +1,8 @@
 use Prim.Native.Nat.{◌<◌, ◌^◌}
-use mathlib.Core.Path.{◌≡◌, refl, sym, ◌∙◌}
-use native.Mathlib.Omega.{arith}
+use mathlib.Core.Path.{◌≡◌}
 use lib.ListN.{length}
 use Rattle.tree.specs.Rows.{kinds_of}
 use Rattle.tree.specs.Notes.{fields_end}
-use Rattle.tree.proofs.Outlines.{field-passed, fields-passed}
 use Rattle.tree.proofs.outline.after_fields.Given as goal
 
 abbrev pub invariant-loop-left : goal.invariant-loop-left

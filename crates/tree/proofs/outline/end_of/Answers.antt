@@ -1,5 +1,4 @@
 -- `outline::end_of` meets its contract: a second word, a first of two, or a row's fields.
-use borrow.Author.Rules.{rules}
 use mathlib.Core.Path.{refl, sym, ◌∙◌, ap}
 use mathlib.Core.Bool.{true}
 use native.Mathlib.Omega.{arith}

@@ -1,7 +1,6 @@
 -- `outline::fill` meets its contract: `Filling` is the loop's invariant.
-use Prim.Native.Nat.{◌-◌}
 use native.Mathlib.Omega.{arith}
-use Rattle.tree.proofs.Outlines.{Filling, filling-starts, filling-more, filling-length, filling-ends}
+use Rattle.tree.proofs.Outlines.{filling-starts, filling-more, filling-length, filling-ends}
 use Rattle.tree.proofs.outline.fill.Goals as goal
 
 pub loop-i-init : goal.loop-i-init

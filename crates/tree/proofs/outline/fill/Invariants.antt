@@ -1,6 +1,5 @@
 use Prim.Native.Nat.{◌-◌}
-use native.Mathlib.Omega.{arith}
-use Rattle.tree.proofs.Outlines.{Filling, filling-starts, filling-more, filling-length, filling-ends}
+use Rattle.tree.proofs.Outlines.{Filling}
 use Rattle.tree.proofs.outline.fill.Given as goal
 
 abbrev pub invariant-loop-i : goal.invariant-loop-i

@@ -1,6 +1,6 @@
 -- `outline::find_ends` meets its contract: `Ending` is the loop's invariant.
 use native.Mathlib.Omega.{arith}
-use Rattle.tree.proofs.Outlines.{Ending, ending-starts, ending-more, ending-ends}
+use Rattle.tree.proofs.Outlines.{ending-starts, ending-more, ending-ends}
 use Rattle.tree.proofs.outline.find_ends.Goals as goal
 
 pub loop-i-init : goal.loop-i-init

@@ -1,5 +1,4 @@
-use native.Mathlib.Omega.{arith}
-use Rattle.tree.proofs.Outlines.{Ending, ending-starts, ending-more, ending-ends}
+use Rattle.tree.proofs.Outlines.{Ending}
 use Rattle.tree.proofs.outline.find_ends.Given as goal
 
 abbrev pub invariant-loop-i : goal.invariant-loop-i

@@ -1,5 +1,4 @@
 -- `outline::note_at` meets its contract: past the end the number is the default of `get_or`.
-use borrow.Author.Rules.{rules}
 use mathlib.Core.Path.{sym}
 use lib.ListN.{get_or-eq_default}
 use Rattle.tree.proofs.outline.note_at.Goals as goal

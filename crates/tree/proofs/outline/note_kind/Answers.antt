@@ -1,5 +1,4 @@
 -- `outline::note_kind` meets its contract: the table of numbers has each kind's, and a second word has 0.
-use borrow.Author.Rules.{rules}
 use native.Mathlib.Omega.{arith}
 use Rattle.tree.proofs.Outlines.{noted-number, noted_one, noted-two}
 use Rattle.tree.proofs.outline.note_kind.Goals as goal

@@ -1,5 +1,4 @@
 -- `outline::put` meets its contract: past the end nothing is set.
-use borrow.Author.Rules.{rules}
 use mathlib.Core.Path.{sym}
 use native.Mathlib.Omega.{arith}
 use lib.Seq.{set_out}

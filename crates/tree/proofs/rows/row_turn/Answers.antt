@@ -5,7 +5,6 @@ use lib.ListN.{take, drop, length-take}
 use Rattle.tree.specs.Rows.{constructor_rows}
 use Rattle.tree.proofs.Digits.{tagged-low, tagged-high, tagged_in}
 use Rattle.tree.proofs.Numbers.{constructor_numbers, constructors}
-use borrow.Author.Rules.{rules}
 use Rattle.tree.proofs.rows.row_turn.Goals as goal
 
 pub returns-then-word-first : goal.returns-then-word-first

@@ -3,7 +3,6 @@ use Prim.Native.Nat.{ℕ, ◌<◌}
 use mathlib.Core.Path.{◌≡◌, sym, ◌∙◌, ap}
 use mathlib.Core.Bool.{Bool}
 use native.Mathlib.Omega.{arith}
-use borrow.Author.Rules.{rules}
 use Rattle.tree.specs.Kind.{Kind, Turn, turn}
 use Rattle.tree.specs.KindNumbers.{kind_of}
 use Rattle.tree.proofs.Numbers.{kind-bool}

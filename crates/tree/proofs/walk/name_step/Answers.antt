@@ -1,5 +1,4 @@
 -- `walk::name_step` meets its contract: the length is missing, the name passes the text's end, or it fits.
-use borrow.Author.Rules.{rules}
 use Prim.Native.Nat.{◌+◌}
 use mathlib.Core.Path.{◌≡◌, refl}
 use native.Mathlib.Omega.{arith}

@@ -1,5 +1,4 @@
 -- `walk::natural_step` meets its contract: the low word is missing, or both fit.
-use borrow.Author.Rules.{rules}
 use mathlib.Core.Path.{refl}
 use native.Mathlib.Omega.{arith}
 use Rattle.tree.specs.Kind.{natural, low}

@@ -1,5 +1,4 @@
 -- `walk::next_step` meets its contract: no word is left, or a name, a natural, or one word stands there.
-use borrow.Author.Rules.{rules}
 use Prim.Native.Nat.{◌+◌}
 use mathlib.Core.Path.{sym, ◌∙◌, ap}
 use native.Mathlib.Omega.{arith}

@@ -1,9 +1,8 @@
 -- `walk::walk` meets its contract: `Walking` is the loop's invariant, and each turn's end and each answer a law of it.
-use Prim.Native.Nat.{◌+◌, ◌-◌, ◌*◌}
 use mathlib.Core.Path.{refl, sym, ◌∙◌}
 use native.Mathlib.Omega.{arith}
-use lib.ListN.{length, length-set}
-use Rattle.tree.proofs.Stack.{Walking, started, went, stopped, mark-bounded, on-top, after-pop, after-step, at-stop, at-surplus, at-whole}
+use lib.ListN.{length-set}
+use Rattle.tree.proofs.Stack.{started, went, stopped, mark-bounded, on-top, after-pop, after-step, at-stop, at-surplus, at-whole}
 use Rattle.tree.proofs.walk.walk.Goals as goal
 
 pub bounds-stack-0 : goal.bounds-stack-0

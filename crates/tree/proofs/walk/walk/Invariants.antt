@@ -1,8 +1,6 @@
 use Prim.Native.Nat.{◌+◌, ◌-◌, ◌*◌}
-use mathlib.Core.Path.{refl, sym, ◌∙◌}
-use native.Mathlib.Omega.{arith}
-use lib.ListN.{length, length-set}
-use Rattle.tree.proofs.Stack.{Walking, started, went, stopped, mark-bounded, on-top, after-pop, after-step, at-stop, at-surplus, at-whole}
+use lib.ListN.{length}
+use Rattle.tree.proofs.Stack.{Walking}
 use Rattle.tree.proofs.walk.walk.Given as goal
 
 abbrev pub invariant-loop-top : goal.invariant-loop-top

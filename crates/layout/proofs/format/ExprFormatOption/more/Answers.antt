@@ -2,7 +2,6 @@
 use mathlib.Core.Path.{sym, ap}
 use Rattle.layout.specs.PrintUtil.{Deeper}
 use Rattle.layout.proofs.Strengths.{more-lines}
-use borrow.Author.Rules.{rules}
 use Rattle.layout.proofs.format.ExprFormatOption.more.Goals as goal
 
 pub returns-in-SingleLine : goal.returns-in-SingleLine

@@ -2,7 +2,6 @@
 use mathlib.Core.Path.{sym, ap}
 use mathlib.Core.Bool.{Bool}
 use Rattle.layout.specs.PrintUtil.{adjusted}
-use borrow.Author.Rules.{rules}
 use Rattle.layout.proofs.power.BindingPower.if_not_bracketed.Goals as goal
 
 pub returns : goal.returns

@@ -1,6 +1,5 @@
 -- The context of the operand at each side.
 use Rattle.layout.proofs.Strengths.{side-power}
-use borrow.Author.Rules.{rules}
 use Rattle.layout.proofs.power.BindingPower.subexpression_power.Goals as goal
 
 pub returns-in-Left : goal.returns-in-Left

@@ -1,6 +1,5 @@
 -- The operator wins by its left and its right side.
 use Rattle.layout.proofs.Strengths.{wins-left, loses-left}
-use borrow.Author.Rules.{rules}
 use Rattle.layout.proofs.power.BindingPower.wins_over.Goals as goal
 
 pub returns-then-pulls_more : goal.returns-then-pulls_more

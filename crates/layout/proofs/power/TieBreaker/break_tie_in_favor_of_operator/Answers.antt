@@ -2,7 +2,6 @@
 use mathlib.Core.Path.{sym, ap, ◌∙◌}
 use Rattle.layout.specs.PrintUtil.{BreakTieInFavorOfOperator}
 use Rattle.layout.specs.declared.power.TieBreaker.{TieBreaker}
-use borrow.Author.Rules.{rules}
 use Rattle.layout.proofs.power.TieBreaker.break_tie_in_favor_of_operator.Goals as goal
 
 pub returns-in-SameFamilyWins : goal.returns-in-SameFamilyWins

@@ -1,7 +1,6 @@
 -- `items` meets its contract.
 use Prim.Native.Nat.{ℕ}
 use native.Mathlib.Omega.{arith}
-use mathlib.Core.Path.{◌≡◌, refl}
 use borrow.Author.Rules.{rules}
 use borrow.Fn.Kinds.{In, Out}
 use Prim.Native.Nat.{◌-◌}

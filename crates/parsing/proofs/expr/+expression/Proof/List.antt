@@ -1,12 +1,10 @@
 -- `list` meets its contract.
 use Prim.Native.Nat.{ℕ}
 use native.Mathlib.Omega.{arith}
-use mathlib.Core.Path.{◌≡◌, refl}
 use borrow.Author.Rules.{rules}
 use borrow.Fn.Kinds.{In, Out}
-use mathlib.Core.Path.{◌∙◌}
 use Rattle.parsing.specs.Code.{sequence_of}
-use Rattle.parsing.proofs.Laws.{found, kept_trans}
+use Rattle.parsing.proofs.Laws.{found}
 use Rattle.parsing.proofs.Rooms.{based-kept}
 use Rattle.parsing.proofs.Sequences.{listed-some, listed-none, listed-refused, nil-holds, shut-builds}
 use Rattle.parsing.proofs as fn

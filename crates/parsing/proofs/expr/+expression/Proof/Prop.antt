@@ -14,7 +14,7 @@ use Rattle.grammar.specs.Rules.{PropertyItem, parse_marked, parse_closure_proper
 use Rattle.parsing.specs.Code.{inner, turns}
 use Rattle.parsing.proofs.Laws.{found}
 use Rattle.parsing.proofs.Properties.{property-stopped, property-done}
-use Rattle.parsing.proofs.Reached.{Reached, begin, built, room_for, length-here, length-after, failed}
+use Rattle.parsing.proofs.Reached.{Reached, begin, built, room_for, length-after, failed}
 use Rattle.parsing.proofs as fn
 use fn.expr.+expression as cycle
 use cycle.Lts-seq-prop as lts

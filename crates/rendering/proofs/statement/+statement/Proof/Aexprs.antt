@@ -12,7 +12,7 @@ use Rattle.rendering.specs.StmtParts.{a_expr_list}
 use Rattle.tree.proofs.get.Reads as get
 use Rattle.rendering.proofs as fn
 use fn.PartPrints.Joins.{inside}
-use fn.Places.{Place, begin, seen, item, text, text_of, part, done, ready}
+use fn.Places.{Place, begin, seen, item, text, part, done, ready}
 use fn.Sequences.{made, at_none, at_some}
 use fn.StmtPrints.Equations.{aexprs-print}
 use fn.StmtPrints.Marks.{aexprs_of, some-aexprs}

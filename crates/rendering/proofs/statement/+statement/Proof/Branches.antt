@@ -12,7 +12,7 @@ use Rattle.rendering.specs.StmtParts.{branch_list}
 use Rattle.tree.proofs.get.Reads as get
 use Rattle.rendering.proofs as fn
 use fn.PartPrints.Joins.{inside}
-use fn.Places.{Place, begin, seen, item, text, text_of, part, done, ready, ready-deeper}
+use fn.Places.{Place, begin, seen, item, text_of, part, done, ready, ready-deeper}
 use fn.Sequences.{made, at_none, at_some}
 use fn.StmtPrints.Equations.{choices-print}
 use fn.StmtPrints.Pieces.{same_bytes_lem}

@@ -3,11 +3,10 @@ use Prim.Native.Nat.{ℕ}
 use native.Mathlib.Omega.{arith}
 use borrow.Author.Rules.{rules}
 use borrow.Fn.Kinds.{In, Out}
-use mathlib.Core.Path.{refl, sym, ◌∙◌}
+use mathlib.Core.Path.{refl, ◌∙◌}
 use lib.ListN.{length}
 use Prim.Native.Nat.{◌<◌}
-use Rattle.tree.specs.Ast.{Block}
-use Rattle.rendering.specs.StmtParts.{an_inner, statement_list}
+use Rattle.rendering.specs.StmtParts.{an_inner}
 use mathlib.Core.Path.{◌≡◌}
 use Rattle.tree.proofs.get.Reads as get
 use Rattle.rendering.proofs as fn

@@ -4,9 +4,8 @@ use native.Mathlib.Omega.{arith}
 use borrow.Author.Rules.{rules}
 use borrow.Fn.Kinds.{In, Out}
 use Prim.Native.Nat.{suc, ◌<◌}
-use mathlib.Core.Path.{◌≡◌, sym, ◌∙◌}
+use mathlib.Core.Path.{◌≡◌, ◌∙◌}
 use lib.ListN.{length}
-use Rattle.rendering.specs.StmtParts.{Simple}
 use Rattle.tree.proofs.get.Reads as get
 use Rattle.rendering.proofs as fn
 use fn.PartPrints.Joins.{inside}

@@ -14,7 +14,7 @@ use mathlib.Core.Path.{◌∙◌}
 use Rattle.tree.proofs.get.Reads as get
 use Rattle.rendering.proofs as fn
 use fn.PartPrints.Joins.{inside}
-use fn.Places.{Place, begin, seen, item, text, text_of, part, done, ready}
+use fn.Places.{Place, begin, seen, item, text, part, done, ready}
 use fn.Sequences.{made, at_none, at_some}
 use fn.StmtPrints.Equations.{statements-print}
 use fn.StmtPrints.Marks.{stmts_of, some-statements, last-is, others-left}
