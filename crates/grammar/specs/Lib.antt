@@ -12,10 +12,7 @@ pub mod Statements
 pub mod Declarations
 pub mod Reading
 pub mod TreeRead
-pub mod Tables
 pub mod ClaimTerms
-pub mod Proofs
-pub mod Claims
 pub mod Examples
 pub mod ReadingExamples
 pub mod ProgramExamples

@@ -11,7 +11,7 @@ use Rattle.tree.specs.Ast.{Expr, Span}
 use Rattle.grammar.specs.Steps.{Reader, after, need, ◌or◌}
 use Rattle.grammar.specs.Rules.{after_bar, after_old, after_call, after_colon, after_label, after_name}
 use Rattle.parsing.specs.Arena.{Run, Agrees, Builds}
-use Rattle.grammar.specs.Proofs.Bridge.Relation.{Ends, refuses, reads, ends-after}
+use Rattle.grammar.proofs.Bridge.Relation.{Ends, refuses, reads, ends-after}
 use Rattle.parsing.specs.declared.arena.Built.{Built}
 use Rattle.parsing.specs.declared.arena.Built.TheVariants.{Ok, None, Refused}
 use Rattle.parsing.specs.contracts.arena.Built.{the_type as built-type}

@@ -24,7 +24,7 @@ use Rattle.parsing.specs.Code.{Took, Worded, Alone, span, inner, turns, custom_e
 use Rattle.parsing.specs.Leads.{Spelt, Passes}
 use Rattle.grammar.specs.Reading.{tree_words}
 use Rattle.tree.specs.Clash.{impossible}
-use Rattle.grammar.specs.Proofs.Bridge.Tests.{Stands, word, digits, other, nowhere, stands}
+use Rattle.grammar.proofs.Bridge.Tests.{Stands, word, digits, other, nowhere, stands}
 use Rattle.parsing.specs.declared.step.Word.{Word}
 use Rattle.parsing.specs.declared.arena.Built.{Built}
 use Rattle.parsing.proofs.Laws.{Absent, absent-ok, after_none, after-refused, builds-node}

@@ -13,7 +13,7 @@ use Rattle.grammar.specs.Grammar.{Tree}
 use Rattle.grammar.specs.OperatorTrees.{OperatorTree, DerivesWithin}
 use Rattle.grammar.specs.Reading.{Outcome, words, refusal, tree_words, outcome, read_tree, read_expression}
 use Rattle.reading.specs.TreeRead.{Answered, Leaves}
-use Rattle.grammar.specs.Proofs.Bridge.Limits.{read-derives, derives-gives, stored-inv, stored-fits}
+use Rattle.grammar.proofs.Bridge.Limits.{read-derives, derives-gives, stored-inv, stored-fits}
 use Rattle.reading.specs.declared.entry.Reading.{Reading}
 use Rattle.reading.specs.declared.entry.Reading.TheVariants.{Words, Refused}
 

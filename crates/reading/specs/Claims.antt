@@ -4,8 +4,8 @@ use Rattle.std.proofs.Math.Option.{none}
 use Rattle.std.proofs.Common.{sym}
 use Rattle.grammar.specs.Grammar.{Tree}
 use Rattle.grammar.specs.OperatorTrees.{OperatorTree, DerivesWithin}
-use Rattle.grammar.specs.Proofs.Bridge.Limits.{derives-operators}
-use Rattle.grammar.specs.Claims as grammar
+use Rattle.grammar.proofs.Bridge.Limits.{derives-operators}
+use Rattle.grammar.proofs.Claims as grammar
 use Rattle.tree.specs.Check.{expression_refusal, program_refusal}
 use Rattle.reading.specs.TreeRead.{Answered, ProgramAnswered, Leaves}
 use Rattle.reading.specs.Answered.{leaves-derives, derives-leaves}

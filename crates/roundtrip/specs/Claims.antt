@@ -7,7 +7,7 @@ use Rattle.tree.specs.Check.{NameIn}
 use Rattle.grammar.specs.Grammar.{Tree, Derives}
 use Rattle.grammar.specs.OperatorTrees.{OperatorTree, Faithful, DerivesWithin, most_depth}
 use Rattle.grammar.specs.Reading.{read_program, words}
-use Rattle.grammar.specs.Claims as Grammar
+use Rattle.grammar.proofs.Claims as Grammar
 use Rattle.reading.specs.TreeRead.{Answered, Leaves}
 use Rattle.reading.specs.Claims as Reader
 use Rattle.reading.specs.declared.entry.Reading.{Reading}

@@ -11,8 +11,8 @@ use Rattle.grammar.specs.Words.{is_identifier}
 use Rattle.grammar.specs.Tokens.{Token, name, nat, mark, sign, illegal, cut}
 use Rattle.grammar.specs.Tokens.{'!', '-', '*', '+', '==', '!=', '<', '<=', '&&', '||', '==>', '<==>'}
 use Rattle.tree.specs.Clash.{impossible}
-use Rattle.grammar.specs.Proofs.Laws.Cut.{cut-space}
-use Rattle.grammar.specs.Proofs.Laws.Pieces.{Ends, lengthens, cut-name, cut-nat, cut-sign}
+use Rattle.grammar.proofs.Laws.Cut.{cut-space}
+use Rattle.grammar.proofs.Laws.Pieces.{Ends, lengthens, cut-name, cut-nat, cut-sign}
 use Rattle.layout.specs.declared.format.ExprFormatOption.{ExprFormatOption}
 use Rattle.layout.specs.declared.format.ExprFormatOption.TheVariants.{SingleLine, MultipleLines}
 use Rattle.layout.specs.Text.{◌▹◌, ◌▸◌, decimal}

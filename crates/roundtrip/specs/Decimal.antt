@@ -3,7 +3,7 @@ use Rattle.std.specs.Prelude.{ℕ, zero, suc, ◌+◌, ◌*◌, ◌-◌, ◌/◌
 use Rattle.std.proofs.Common.{sym, ◌∙◌, append_assoc, arith, length-append, ltb-true, ltb-false, le-leb}
 use Rattle.lexing.specs.Bytes.{is_digit, run}
 use Rattle.lexing.specs.Tokens.{decimal}
-use Rattle.grammar.specs.Proofs.Laws.Pieces.{run-append}
+use Rattle.grammar.proofs.Laws.Pieces.{run-append}
 use Rattle.layout.specs.Text.{digits}
 
 decimal-append : (v : ℕ) (w u : List ℕ) → decimal v (w ++ u) ≡ decimal (decimal v w) u

@@ -9,8 +9,8 @@ use Rattle.tree.specs.Ast.{ILiteral, IdExpr}
 use Rattle.grammar.specs.Words.{is_identifier}
 use Rattle.grammar.specs.Tokens.{Token, name, nat, mark, lparen, rparen, cut}
 use Rattle.grammar.specs.Grammar.{Tree, Rule, word, Operand, natural, old_variable, bracketed, Whole}
-use Rattle.grammar.specs.Proofs.Laws.Cut.{cut-space}
-use Rattle.grammar.specs.Proofs.Laws.Pieces.{Ends, lengthens, cut-name, cut-mark}
+use Rattle.grammar.proofs.Laws.Cut.{cut-space}
+use Rattle.grammar.proofs.Laws.Pieces.{Ends, lengthens, cut-name, cut-mark}
 use Rattle.layout.specs.declared.power.Side.TheVariants.{Left, Right}
 use Rattle.layout.specs.declared.format.ExprFormatOption.{ExprFormatOption}
 use Rattle.layout.specs.Text.{◌▹◌, ◌▸◌, decimal}

@@ -6,8 +6,8 @@ use Rattle.tree.specs.Ast.{FunctionCallExpr, Exprs, no_exprs, ◌then◌}
 use Rattle.grammar.specs.Words.{is_name, is_identifier}
 use Rattle.grammar.specs.Tokens.{Token, name, mark, lparen, rparen, comma, cut}
 use Rattle.grammar.specs.Grammar.{Tree, Series, last, also, Items, empty, series, call, Whole}
-use Rattle.grammar.specs.Proofs.Laws.Cut.{cut-space}
-use Rattle.grammar.specs.Proofs.Laws.Pieces.{Ends, cut-name, cut-mark}
+use Rattle.grammar.proofs.Laws.Cut.{cut-space}
+use Rattle.grammar.proofs.Laws.Pieces.{Ends, cut-name, cut-mark}
 use Rattle.layout.specs.declared.format.ExprFormatOption.TheVariants.{SingleLine}
 use Rattle.layout.specs.Text.{◌▹◌, ◌▸◌}
 use Rattle.layout.specs.PrintUtil.{Init}

@@ -5,8 +5,8 @@ use Rattle.lexing.specs.Bytes.{is_space, identifier_char}
 use Rattle.tree.specs.Ast.{Operator, OperatorExpr, no_exprs, ◌then◌, ArgumentCount}
 use Rattle.grammar.specs.Tokens.{Token, cut}
 use Rattle.grammar.specs.Grammar.{Tree, single}
-use Rattle.grammar.specs.Proofs.Laws.Cut.{cut-space}
-use Rattle.grammar.specs.Proofs.Laws.Pieces.{Ends, lengthens}
+use Rattle.grammar.proofs.Laws.Cut.{cut-space}
+use Rattle.grammar.proofs.Laws.Pieces.{Ends, lengthens}
 use Rattle.layout.specs.declared.power.BindingPower.{BindingPower}
 use Rattle.layout.specs.declared.power.Side.TheVariants.{Left, Right}
 use Rattle.layout.specs.declared.format.ExprFormatOption.{ExprFormatOption}

@@ -13,7 +13,7 @@ use Rattle.tree.specs.Claims.{expression-count}
 use Rattle.grammar.specs.Tokens.{cut}
 use Rattle.grammar.specs.Grammar.{Tree, Derives}
 use Rattle.grammar.specs.OperatorTrees.{Faithful, most_depth, word_count, DerivesWithin}
-use Rattle.grammar.specs.Claims.{derivations-agree}
+use Rattle.grammar.proofs.Claims.{derivations-agree}
 use Rattle.reading.specs.TreeRead.{Answered, Leaves}
 use Rattle.reading.specs.Claims.{read-expression-exact}
 use Rattle.reading.specs.declared.entry.Reading.{Reading}

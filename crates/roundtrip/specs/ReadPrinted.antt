@@ -8,7 +8,7 @@ use Rattle.tree.specs.Clash.{impossible}
 use Rattle.tree.specs.Limits.{most_text}
 use Rattle.tree.specs.Words.{program_words}
 use Rattle.grammar.specs.Reading.{words, unless_long, outcome_by, read_tree_of_program, parse_program, read_program}
-use Rattle.grammar.specs.Claims as Grammar
+use Rattle.grammar.proofs.Claims as Grammar
 use Rattle.printing.specs.declared.Printed.{Printed}
 use Rattle.printing.specs.declared.Printed.TheVariants.{Refused}
 use Rattle.rendering.specs.Tables.{most_indent, Printable, Within, programs}

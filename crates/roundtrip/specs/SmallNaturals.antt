@@ -13,7 +13,7 @@ use Rattle.tree.specs.Walk.{words_append}
 use Rattle.grammar.specs.Tokens.{Token, name, nat, mark, sign, illegal, rparen, comma}
 use Rattle.grammar.specs.Grammar.{Tree, Build, straight, swapped, build, as_unary, as_binary, unary, binary, Whole}
 use Rattle.grammar.specs.OperatorTrees.{small_naturals}
-use Rattle.grammar.specs.Proofs.Laws.Every.{Invariant, whole-kept, WordOrSign, word-or-sign}
+use Rattle.grammar.proofs.Laws.Every.{Invariant, whole-kept, WordOrSign, word-or-sign}
 
 -- each natural of an operator tree is at most 18446744073709551615; other trees are not looked into
 abbrev mutual

@@ -8,8 +8,8 @@ use lib.ListN.{length, take, length-take}
 use Rattle.tree.specs.Limits.{most_text, most_words}
 use Rattle.tree.specs.Check.{program_refusal}
 use Rattle.grammar.specs.Reading.{words, refusal, read_program}
-use Rattle.grammar.specs.Proofs.Refusals.Entries.{Held, program-refused, program-held}
-use Rattle.grammar.specs.Claims.{read-program-accepted, program-table-long}
+use Rattle.grammar.proofs.Refusals.Entries.{Held, program-refused, program-held}
+use Rattle.grammar.proofs.Claims.{read-program-accepted, program-table-long}
 use Rattle.reading.specs.TreeRead.{ProgramAnswered}
 use Rattle.reading.specs.declared.entry.Reading.{Reading}
 use Rattle.reading.specs.declared.entry.Reading.TheVariants.{Words as ReadWords, Refused as ReadRefused}

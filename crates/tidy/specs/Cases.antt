@@ -13,8 +13,8 @@ use Rattle.tree.specs.Check.{NameIn}
 use Rattle.tree.specs.Limits.{most_text, most_words}
 use Rattle.tree.specs.Words.{program_words}
 use Rattle.grammar.specs.Reading.{Outcome, words, refusal, read_program}
-use Rattle.grammar.specs.Claims.{read-program-accepted}
-use Rattle.grammar.specs.Proofs.Refusals.Entries.{Refused, Held, program-refused, program-held}
+use Rattle.grammar.proofs.Claims.{read-program-accepted}
+use Rattle.grammar.proofs.Refusals.Entries.{Refused, Held, program-refused, program-held}
 use Rattle.rendering.specs.Tables.{program_print_of}
 use Rattle.printing.specs.Entries.{most_print, written, refusal as unprinted, stored, Fits}
 use Rattle.tidy.specs.Tidy.{Answered, refusal_number, of_print, of_reading, tidied}

@@ -10,7 +10,7 @@ use Rattle.tree.specs.Refused.{program-unrefused}
 use Rattle.tree.specs.Limits.{most_text, most_words}
 use Rattle.tree.specs.Check.{NameIn, program_refusal}
 use Rattle.grammar.specs.Reading.{Outcome, words, refusal, read_program}
-use Rattle.grammar.specs.Tables.{gist, short, program-gist}
+use Rattle.grammar.proofs.Tables.{gist, short, program-gist}
 use Rattle.rendering.specs.Tables.{programs, program_print_of}
 use Rattle.rendering.specs.TableLaws.{program-laws}
 use Rattle.printing.specs.Entries.{most_print, Outcome as PrintOutcome, written, refusal as unprinted, stored, print_program}

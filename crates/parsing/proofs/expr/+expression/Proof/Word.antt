@@ -5,7 +5,7 @@ use mathlib.Core.Path.{◌∙◌}
 use borrow.Author.Rules.{rules}
 use borrow.Fn.Kinds.{In, Out}
 use Rattle.grammar.specs.Rules.{parse_primary_expr, after_name}
-use Rattle.grammar.specs.Proofs.Bridge.NoOperand.{if-ends, val-ends, quantifier-ends, lift-ends}
+use Rattle.grammar.proofs.Bridge.NoOperand.{if-ends, val-ends, quantifier-ends, lift-ends}
 use Rattle.parsing.proofs.Laws.{took, kept_refl, kept_trans, after-refused, builds-after, builds-else, builds-from}
 use Rattle.parsing.proofs.Rooms.{room-on}
 use Rattle.parsing.proofs.Branches.{builds-branch, builds-skip, builds-first, ends-keeps}
