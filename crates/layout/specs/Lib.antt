@@ -2,7 +2,6 @@
 pub mod Text
 pub mod PrintUtil
 pub mod Indents
-pub mod StrengthLaws
 pub mod Printer
 pub mod Statements
 pub mod Program
@@ -12,4 +11,3 @@ pub mod FormExamples
 pub mod ContextExamples
 pub mod StatementExamples
 pub mod ProgramExamples
-pub mod Claims

@@ -10,8 +10,8 @@ use Rattle.layout.specs.declared.power.BindingPower.{BindingPower}
 use Rattle.layout.specs.declared.format.ExprFormatOption.{ExprFormatOption}
 use Rattle.layout.specs.PrintUtil.{More, start_indent, deeper_by, Deeper, BreakTieInFavorOfOperator, power, Init, EndlessOperator, WinsOver, SubexpressionPower}
 use Rattle.layout.specs.Indents as indents
-use Rattle.layout.specs.StrengthLaws as strengths
-use Rattle.layout.specs.StrengthLaws.{Favored}
+use Rattle.layout.proofs.StrengthLaws as strengths
+use Rattle.layout.proofs.StrengthLaws.{Favored}
 
 -- ---- strengths
 
