@@ -9,6 +9,5 @@ pub mod RunLaws
 pub mod BlankLaws
 pub mod TokenLaws
 pub mod Upstream
-pub mod Claims
 -- Measures of functions that call each other, for the proofs of upper crates:
 pub mod Ranks
