@@ -3,17 +3,18 @@
 
 #![tactic(auto)]
 
-ghost use Rattle.std.specs.Prelude.{◌≡◌, length};
+ghost use Rattle.std.specs.Prelude.{◌≡◌, ◌≤◌, length, IfOk};
 
-use libc::{STDIN_FILENO, STDOUT_FILENO};
+use std::io;
+use std::io::Read;
 use tidy::tidy;
 
-fn main() {
+fn main(rt: HostRuntime) -> io::Result<()> {
     let mut input = input_buffer();
-    let mut out = io::large_buffer();
-    let n = io::read_full(STDIN_FILENO, &mut input);
+    let mut out = output_buffer();
+    let n = read_full(&mut rt.reader(), &mut input)?;
     let answer = tidy(&input[..n], &mut out);
-    show(answer, &out);
+    show(&rt, answer, &out)
 }
 
 // One byte more than is accepted. Callers know its length alone, so no proof computes the array.
@@ -23,22 +24,40 @@ fn input_buffer() -> [u8; 32769]
     [0; 32769]
 }
 
+// As many bytes as a print has at most.
+fn output_buffer() -> [u8; 65536]
+    ensures { 65536 ≡ length result }
+{
+    [0; 65536]
+}
+
+// Reads until the buffer is full or the input ends, and answers how many bytes stand at its start.
+fn read_full(input: &mut impl Read, buffer: &mut [u8]) -> io::Result<usize>
+    ensures { IfOk result (λ n. n ≤ length buffer.new) }
+{
+    let mut done = 0;
+    while done < buffer.len() {
+        let n = input.read(&mut buffer[done..])?;
+        if n == 0 {
+            break;
+        }
+        done += n;
+    }
+    Ok(done)
+}
+
 // The print, or the refusal's line.
-fn show(answer: u64, out: &[u8]) {
+fn show(rt: &impl Print, answer: u64, out: &[u8]) -> io::Result<()> {
     let number = answer / 4294967296;
     let rest = answer % 4294967296;
     if number == 0 {
-        let n = io::count(rest as isize, out);
-        print(&out[..n]);
+        let n = out.len().min(rest as usize);
+        print(rt, &out[..n])
     } else {
-        print(b"refused ");
-        io::print_decimal(STDOUT_FILENO, number);
-        print(b" at ");
-        io::print_decimal(STDOUT_FILENO, rest);
-        print(b"\n");
+        println!(rt; "refused {number} at {rest}")
     }
 }
 
-fn print(text: &[u8]) {
-    io::write_all(STDOUT_FILENO, text);
+fn print(rt: &impl Print, text: &[u8]) -> io::Result<()> {
+    rt.write_all(text)
 }

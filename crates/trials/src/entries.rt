@@ -1,7 +1,7 @@
 // The cases of `reading` and `printing`. Before a case every word of a table that is read into is 4294967295, and every byte of an output is `~`;
 // where a word after the tree's is not 0 in the end, on a refusal any word, the answer ends in `not cleared`, and where a byte after the print is
 // another, on a refusal any byte, in `touched`.
-ghost use Rattle.io.specs.Counts.{IsPrefixLen};
+ghost use Rattle.std.specs.Prelude.{◌≤◌, length};
 
 use crate::lines::{tail, until};
 use crate::numbers::{number, wide};
@@ -11,6 +11,8 @@ use crate::show::{
 };
 use printing::{Printed, print_expression, print_expression_lines, print_program};
 use reading::{Reading, read_expression, read_program};
+use std::io;
+use std::io::Write;
 
 // More bytes than an entry writes.
 const OUTPUT: usize = 65600;
@@ -62,98 +64,116 @@ fn printed(answer: Printed) -> Outcome {
 
 // The answer of the last run.
 fn repeated(run: Run, text: &[u8], table: &mut [u32], out: &mut [u8]) -> Outcome {
-    let mut k = 1;
-    while k < run.times {
+    for _ in 1..run.times {
         once(run, text, table, out);
-        k += 1;
     }
     once(run, text, table, out)
 }
 
 // Prints the answer, and answers how many words or bytes it has.
-fn answered(run: Run, text: &[u8], table: &mut [u32], out: &mut [u8]) -> usize {
+fn answered(
+    to: &mut impl Write,
+    run: Run,
+    text: &[u8],
+    table: &mut [u32],
+    out: &mut [u8],
+) -> io::Result<usize> {
     match repeated(run, text, table, out) {
         Outcome::Words(n) => {
             if run.times == 0 {
-                print_words(table, n);
+                print_words(to, table, n)?;
             } else {
-                print_count(n, b" words");
+                print_count(to, n, b" words")?;
             }
-            n
+            Ok(n)
         }
         Outcome::Bytes(n) => {
             if run.times == 0 {
-                print_bytes(out, n);
+                print_bytes(to, out, n)?;
             } else {
-                print_count(n, b" bytes");
+                print_count(to, n, b" bytes")?;
             }
-            n
+            Ok(n)
         }
         Outcome::Refused(number, place) => {
-            print_refusal(number, place);
-            0
+            print_refusal(to, number, place)?;
+            Ok(0)
         }
     }
 }
 
 // The words of the table, and the text.
-pub(crate) fn read_case(run: Run, rest: &[u8]) {
+pub(crate) fn read_case(to: &mut impl Write, run: Run, rest: &[u8]) -> io::Result<()> {
     let mut text = [0u8; TEXT];
     let mut table = [4294967295u32; WORDS];
     let size = number(rest);
     let n = build(tail(rest, size.digits), &mut text);
     let words = most_words(size.value, &table);
-    read_into(run, &text[..n], &mut table[..words]);
+    read_into(to, run, &text[..n], &mut table[..words])
 }
 
-fn read_into(run: Run, text: &[u8], table: &mut [u32]) {
+fn read_into(to: &mut impl Write, run: Run, text: &[u8], table: &mut [u32]) -> io::Result<()> {
     let mut out = [0u8; 1];
-    let n = answered(run, text, table, &mut out);
+    let n = answered(to, run, text, table, &mut out)?;
     if !cleared(table, n) {
-        print(b" not cleared");
+        print(to, b" not cleared")?;
     }
+    Ok(())
 }
 
 // The bytes of the output, the table, a slash, and the text.
-pub(crate) fn print_case(run: Run, rest: &[u8]) {
+pub(crate) fn print_case(to: &mut impl Write, run: Run, rest: &[u8]) -> io::Result<()> {
     let mut table = [0u32; WORDS];
     let size = number(rest);
     let parts = tail(rest, size.digits);
     let n = until(parts, b'/');
     let words = build_table(&parts[..n], &mut table);
-    print_over(run, size.value, tail(parts, n), &mut table[..words]);
+    print_over(to, run, size.value, tail(parts, n), &mut table[..words])
 }
 
 // A table's print over the text of a line. The text and the output are made when the table is: they take the stack that making it took.
-fn print_over(run: Run, size: u32, line: &[u8], table: &mut [u32]) {
+fn print_over(
+    to: &mut impl Write,
+    run: Run,
+    size: u32,
+    line: &[u8],
+    table: &mut [u32],
+) -> io::Result<()> {
     let mut text = [0u8; TEXT];
     let mut out = [b'~'; OUTPUT];
     let bytes = build(line, &mut text);
     let room = most_bytes(size, &out);
-    print_into(run, &text[..bytes], table, &mut out[..room]);
+    print_into(to, run, &text[..bytes], table, &mut out[..room])
 }
 
-fn print_into(run: Run, text: &[u8], table: &mut [u32], out: &mut [u8]) {
-    let n = answered(run, text, table, out);
+fn print_into(
+    to: &mut impl Write,
+    run: Run,
+    text: &[u8],
+    table: &mut [u32],
+    out: &mut [u8],
+) -> io::Result<()> {
+    let n = answered(to, run, text, table, out)?;
     if !untouched(out, n) {
-        print(b" touched");
+        print(to, b" touched")?;
     }
+    Ok(())
 }
 
 // The start indent, and what `print_case` takes.
-pub(crate) fn print_lines_case(run: Run, rest: &[u8]) {
+pub(crate) fn print_lines_case(to: &mut impl Write, run: Run, rest: &[u8]) -> io::Result<()> {
     let indent = number(rest);
     let lines = Run {
         entry: run.entry,
         times: run.times,
         indent: wide(indent.value),
     };
-    print_case(lines, tail(rest, indent.digits));
+    print_case(to, lines, tail(rest, indent.digits))
 }
 
 // So many words of the table, or all.
 fn most_words(n: u32, table: &[u32]) -> usize
-    ensures { IsPrefixLen result table.now }
+    ensures { result ≤ length table.now }
 {
     let wished = wide(n);
     if wished < table.len() {
@@ -165,7 +185,7 @@ fn most_words(n: u32, table: &[u32]) -> usize
 
 // So many bytes of the output, or all.
 fn most_bytes(n: u32, out: &[u8]) -> usize
-    ensures { IsPrefixLen result out.now }
+    ensures { result ≤ length out.now }
 {
     let wished = wide(n);
     if wished < out.len() {

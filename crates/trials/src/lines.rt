@@ -1,19 +1,16 @@
 // Parts of a line, and the escapes in it.
 ghost use Rattle.std.specs.Prelude.{◌≤◌, ◌<◌, length};
-ghost use Rattle.io.specs.Counts.{IsPrefixLen};
 
 // How many bytes stand before the first `b`, or all.
 pub(crate) fn until(s: &[u8], b: u8) -> usize
-    ensures { IsPrefixLen result s.now }
+    ensures { result ≤ length s.now }
 {
-    let mut i = 0;
-    while i < s.len() {
-        if s[i] == b {
+    for (i, x) in s.iter().enumerate() {
+        if *x == b {
             return i;
         }
-        i += 1;
     }
-    i
+    s.len()
 }
 
 // What stands after the byte at `n`, nothing where the text ends before.
@@ -105,7 +102,7 @@ fn hex_digit(b: u8) -> u8
 
 // Puts the bytes that a line stands for at the start of `out`, as many as fit, and answers how many there are.
 pub(crate) fn decode(line: &[u8], out: &mut [u8]) -> usize
-    ensures { IsPrefixLen result out.new }
+    ensures { result ≤ length out.new }
 {
     let mut n = 0;
     let mut i = 0;

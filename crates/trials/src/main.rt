@@ -32,7 +32,7 @@ mod spans;
 mod tables;
 mod tokens;
 
-ghost use Rattle.std.specs.Prelude.{◌≡◌, length};
+ghost use Rattle.std.specs.Prelude.{◌≡◌, ◌≤◌, length, IfOk};
 
 use entries::{Run, print_case, print_lines_case, read_case};
 use lines::{tail, until};
@@ -40,13 +40,17 @@ use numbers::number;
 use outlines::outline_case;
 use show::print;
 use spans::names_case;
+use std::io;
+use std::io::{BufWriter, Read, Write};
 use tables::{name_case, table_case};
 use tokens::token_case;
 
-fn main() {
+fn main(rt: HostRuntime) -> io::Result<()> {
     let mut input = input_buffer();
-    let n = io::read_full(0, &mut input);
-    cases(&input[..n]);
+    let n = read_full(&mut rt.reader(), &mut input)?;
+    let mut to = BufWriter::new(rt.alloc(), io::writer(&rt))?;
+    cases(&mut to, &input[..n])?;
+    to.flush()
 }
 
 // More bytes than the cases have. Callers know its length alone, so no proof computes the array.
@@ -56,27 +60,43 @@ fn input_buffer() -> [u8; 655360]
     [0; 655360]
 }
 
-fn cases(input: &[u8]) {
+// Reads until the buffer is full or the input ends, and answers how many bytes stand at its start.
+fn read_full(input: &mut impl Read, buffer: &mut [u8]) -> io::Result<usize>
+    ensures { IfOk result (λ n. n ≤ length buffer.new) }
+{
+    let mut done = 0;
+    while done < buffer.len() {
+        let n = input.read(&mut buffer[done..])?;
+        if n == 0 {
+            break;
+        }
+        done += n;
+    }
+    Ok(done)
+}
+
+fn cases(to: &mut impl Write, input: &[u8]) -> io::Result<()> {
     let mut at: usize = 0;
     while at < input.len() {
         let n = until(&input[at..], b'\n');
-        case(&input[at..at + n]);
+        case(to, &input[at..at + n])?;
         at += n + 1;
     }
+    Ok(())
 }
 
 // One line: printed as it stands, and its answer after it.
-fn case(line: &[u8]) {
-    print(line);
+fn case(to: &mut impl Write, line: &[u8]) -> io::Result<()> {
+    print(to, line)?;
     if 0 < line.len() {
-        answer(line[0], &line[1..]);
+        answer(to, line[0], &line[1..])?;
     }
-    print(b"\n");
+    print(to, b"\n")
 }
 
 // `read_case`, `table_case` and `outline_or_names` are each called from two places, so that the compiler doesn't put them, and their buffers with
 // them, into the frame of `main`, which is on the stack at every print.
-fn answer(entry: u8, line: &[u8]) {
+fn answer(to: &mut impl Write, entry: u8, line: &[u8]) -> io::Result<()> {
     let times = number(line);
     let rest = tail(line, times.digits);
     let run = Run {
@@ -85,23 +105,23 @@ fn answer(entry: u8, line: &[u8]) {
         indent: 0,
     };
     match entry {
-        b'r' => read_case(run, rest),
-        b'R' => read_case(run, rest),
-        b'p' | b'P' => print_case(run, rest),
-        b'm' => print_lines_case(run, rest),
-        b'x' => name_case(rest),
-        b'c' | b'C' => table_case(entry, rest),
-        b'w' | b'v' => table_case(entry, rest),
-        b'o' => outline_or_names(run, rest),
-        b'a' => outline_or_names(run, rest),
-        _ => token_case(entry, rest),
+        b'r' => read_case(to, run, rest),
+        b'R' => read_case(to, run, rest),
+        b'p' | b'P' => print_case(to, run, rest),
+        b'm' => print_lines_case(to, run, rest),
+        b'x' => name_case(to, rest),
+        b'c' | b'C' => table_case(to, entry, rest),
+        b'w' | b'v' => table_case(to, entry, rest),
+        b'o' => outline_or_names(to, run, rest),
+        b'a' => outline_or_names(to, run, rest),
+        _ => token_case(to, entry, rest),
     }
 }
 
-fn outline_or_names(run: Run, rest: &[u8]) {
+fn outline_or_names(to: &mut impl Write, run: Run, rest: &[u8]) -> io::Result<()> {
     let entry = run.entry;
     match entry {
-        b'o' => outline_case(run, rest),
-        _ => names_case(run, rest),
+        b'o' => outline_case(to, run, rest),
+        _ => names_case(to, run, rest),
     }
 }

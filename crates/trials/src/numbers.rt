@@ -13,19 +13,16 @@ pub(crate) fn number(s: &[u8]) -> Decimal
     ensures { result.digits ≤ length s.now }
 {
     let mut value: u64 = 0;
-    let mut digits = 0;
-    while digits < s.len() {
-        let b = s[digits];
-        if b < b'0' {
+    for (digits, b) in s.iter().enumerate() {
+        if *b < b'0' {
             return cut(value, digits);
         }
-        if b'9' < b {
+        if b'9' < *b {
             return cut(value, digits);
         }
-        value = digit(value, b);
-        digits += 1;
+        value = digit(value, *b);
     }
-    cut(value, digits)
+    cut(value, s.len())
 }
 
 fn digit(value: u64, b: u8) -> u64

@@ -7,10 +7,12 @@ use crate::pieces::{WORDS, build_table};
 use crate::show::{print, print_count};
 use crate::slices::{most_numbers, print_numbers};
 use crate::tables::print_checked;
+use std::io;
+use std::io::Write;
 use tree::{Checked, outline_program};
 
 // How many kinds and how many ends, the length of the text, and a table.
-pub(crate) fn outline_case(run: Run, rest: &[u8]) {
+pub(crate) fn outline_case(to: &mut impl Write, run: Run, rest: &[u8]) -> io::Result<()> {
     let mut table = [0u32; WORDS];
     let kinds = number(rest);
     let after = tail(rest, kinds.digits);
@@ -19,36 +21,50 @@ pub(crate) fn outline_case(run: Run, rest: &[u8]) {
     let length = number(last);
     let n = build_table(tail(last, length.digits), &mut table);
     outline_into(
+        to,
         run,
         kinds.value,
         ends.value,
         wide(length.value),
         &table[..n],
-    );
+    )
 }
 
 // The kinds and the ends are made when the table is: they take the stack that making it took.
-fn outline_into(run: Run, most_kinds: u32, most_ends: u32, text_len: usize, words: &[u32]) {
+fn outline_into(
+    to: &mut impl Write,
+    run: Run,
+    most_kinds: u32,
+    most_ends: u32,
+    text_len: usize,
+    words: &[u32],
+) -> io::Result<()> {
     let mut kinds = [255u16; WORDS];
     let mut ends = [65535u16; WORDS];
     let k = most_numbers(most_kinds, &kinds);
     let e = most_numbers(most_ends, &ends);
-    outlined(run, words, text_len, &mut kinds[..k], &mut ends[..e]);
+    outlined(to, run, words, text_len, &mut kinds[..k], &mut ends[..e])
 }
 
 // Prints the answer; of repeated runs only how many words the table has.
-fn outlined(run: Run, words: &[u32], text_len: usize, kinds: &mut [u16], ends: &mut [u16]) {
+fn outlined(
+    to: &mut impl Write,
+    run: Run,
+    words: &[u32],
+    text_len: usize,
+    kinds: &mut [u16],
+    ends: &mut [u16],
+) -> io::Result<()> {
     let answer = repeated(run, words, text_len, kinds, ends);
     if 0 < run.times {
-        print_count(words.len(), b" words");
-        return;
+        return print_count(to, words.len(), b" words");
     }
-    print(b" => ");
-    print_checked(answer);
-    print(b" /");
-    print_numbers(kinds, b" kinds, CRC-32 ");
-    print(b" /");
-    print_numbers(ends, b" ends, CRC-32 ");
+    print(to, b" => ")?;
+    print_checked(to, answer)?;
+    print(to, b" /")?;
+    print_numbers(to, kinds, b" kinds, CRC-32 ")?;
+    print(to, b" /")?;
+    print_numbers(to, ends, b" ends, CRC-32 ")
 }
 
 // The answer of the last run.
@@ -59,10 +75,8 @@ fn repeated(
     kinds: &mut [u16],
     ends: &mut [u16],
 ) -> Checked {
-    let mut k = 1;
-    while k < run.times {
+    for _ in 1..run.times {
         outline_program(words, text_len, kinds, ends);
-        k += 1;
     }
     outline_program(words, text_len, kinds, ends)
 }

@@ -2,7 +2,6 @@
 // many times these bytes: `2 (;1 a;2 )` is `((a))`. A table's bytes are its words in decimal with a byte between them: `2 7 0 1 ;1 1 0` is the
 // table 7 0 1 7 0 1 1 0.
 ghost use Rattle.std.specs.Prelude.{◌≤◌, length};
-ghost use Rattle.io.specs.Counts.{IsPrefixLen};
 
 use crate::lines::{decode, tail, until};
 use crate::numbers::number;
@@ -24,7 +23,7 @@ const SPAN_DIGITS: usize = 393240;
 
 // Puts the text of a line of pieces at the start of `text`, as much as fits, and answers how long it is.
 pub(crate) fn build(line: &[u8], text: &mut [u8]) -> usize
-    ensures { IsPrefixLen result text.new }
+    ensures { result ≤ length text.new }
 {
     let mut end = 0;
     let mut at = 0;
@@ -43,18 +42,16 @@ fn repeat(piece: &[u8], text: &mut [u8], at: usize) -> usize
 {
     let count = number(piece);
     let bytes = tail(piece, count.digits);
-    let mut end = at;
-    let mut k = 0;
-    while k < count.value {
-        end += decode(bytes, &mut text[end..]);
-        k += 1;
+    let mut place = at;
+    for _ in 0..count.value {
+        place += decode(bytes, &mut text[place..]);
     }
-    end
+    place
 }
 
 // Puts the table of a line of pieces at the start of `table`, as many words as fit, and answers how many there are.
 pub(crate) fn build_table(line: &[u8], table: &mut [u32]) -> usize
-    ensures { IsPrefixLen result table.new }
+    ensures { result ≤ length table.new }
 {
     let mut digits = [0u8; DIGITS];
     let n = build(line, &mut digits);
@@ -63,7 +60,7 @@ pub(crate) fn build_table(line: &[u8], table: &mut [u32]) -> usize
 
 // The same of the words of spans.
 pub(crate) fn build_spans(line: &[u8], spans: &mut [u32]) -> usize
-    ensures { IsPrefixLen result spans.new }
+    ensures { result ≤ length spans.new }
 {
     let mut digits = [0u8; SPAN_DIGITS];
     let n = build(line, &mut digits);
@@ -71,7 +68,7 @@ pub(crate) fn build_spans(line: &[u8], spans: &mut [u32]) -> usize
 }
 
 fn words(digits: &[u8], table: &mut [u32]) -> usize
-    ensures { IsPrefixLen result table.new }
+    ensures { result ≤ length table.new }
 {
     let mut n = 0;
     let mut at = 0;

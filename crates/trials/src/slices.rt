@@ -1,45 +1,43 @@
 // Prints slices of numbers, each number after a space; one of more than `MOST_NUMBERS` by how many it has and their CRC-32.
-ghost use Rattle.io.specs.Counts.{IsPrefixLen};
+ghost use Rattle.std.specs.Prelude.{◌≤◌, length};
 
 use crate::numbers::wide;
 use crate::show::{crc_byte, print, print_number, print_word};
+use std::io;
+use std::io::Write;
 
 const MOST_NUMBERS: usize = 256;
 
-pub(crate) fn print_numbers(numbers: &[u16], unit: &[u8]) {
+pub(crate) fn print_numbers(to: &mut impl Write, numbers: &[u16], unit: &[u8]) -> io::Result<()> {
     if MOST_NUMBERS < numbers.len() {
-        print_checksum(numbers.len(), unit, crc32_pairs(numbers));
-        return;
+        return print_checksum(to, numbers.len(), unit, crc32_pairs(numbers));
     }
-    print_each_number(numbers);
+    print_each_number(to, numbers)
 }
 
-fn print_each_number(numbers: &[u16]) {
-    let mut i = 0;
-    while i < numbers.len() {
-        print_short(numbers[i]);
-        i += 1;
+fn print_each_number(to: &mut impl Write, numbers: &[u16]) -> io::Result<()> {
+    for number in numbers {
+        print_short(to, *number)?;
     }
+    Ok(())
 }
 
-fn print_short(number: u16) {
-    print_word(number as u32);
+fn print_short(to: &mut impl Write, number: u16) -> io::Result<()> {
+    print_word(to, number as u32)
 }
 
-fn print_checksum(n: usize, unit: &[u8], sum: u32) {
-    print(b" ");
-    print_number(n as u64);
-    print(unit);
-    print_number(sum as u64);
+fn print_checksum(to: &mut impl Write, n: usize, unit: &[u8], sum: u32) -> io::Result<()> {
+    print(to, b" ")?;
+    print_number(to, n as u64)?;
+    print(to, unit)?;
+    print_number(to, sum as u64)
 }
 
 // The checksum of numbers, each as two bytes, the high one first.
 fn crc32_pairs(numbers: &[u16]) -> u32 {
     let mut sum = 4294967295u32;
-    let mut i = 0;
-    while i < numbers.len() {
-        sum = crc_pair(sum, numbers[i]);
-        i += 1;
+    for number in numbers {
+        sum = crc_pair(sum, *number);
     }
     sum ^ 4294967295
 }
@@ -52,7 +50,7 @@ fn crc_pair(sum: u32, number: u16) -> u32 {
 
 // So many numbers of the slice, or all.
 pub(crate) fn most_numbers(n: u32, numbers: &[u16]) -> usize
-    ensures { IsPrefixLen result numbers.now }
+    ensures { result ≤ length numbers.now }
 {
     let wished = wide(n);
     if wished < numbers.len() {

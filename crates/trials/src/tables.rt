@@ -3,43 +3,48 @@ use crate::lines::tail;
 use crate::numbers::{number, wide};
 use crate::pieces::{WORDS, build_table};
 use crate::show::{print, print_number};
+use std::io;
+use std::io::Write;
 use tree::Checked;
 
 // A number, and a table.
-pub(crate) fn table_case(entry: u8, rest: &[u8]) {
+pub(crate) fn table_case(to: &mut impl Write, entry: u8, rest: &[u8]) -> io::Result<()> {
     let mut table = [0u32; WORDS];
     let first = number(rest);
     let n = build_table(tail(rest, first.digits), &mut table);
-    print(b" => ");
-    table_answer(entry, wide(first.value), &table[..n]);
+    print(to, b" => ")?;
+    table_answer(to, entry, wide(first.value), &table[..n])
 }
 
-fn table_answer(entry: u8, n: usize, words: &[u32]) {
+fn table_answer(to: &mut impl Write, entry: u8, n: usize, words: &[u32]) -> io::Result<()> {
     match entry {
-        b'c' => print_checked(tree::check_expression(words, n)),
-        b'C' => print_checked(tree::check_program(words, n)),
-        b'w' => print_number(tree::get(words, n) as u64),
-        _ => print_number(tree::natural(words, n)),
+        b'c' => print_checked(to, tree::check_expression(words, n)),
+        b'C' => print_checked(to, tree::check_program(words, n)),
+        b'w' => print_number(to, tree::get(words, n) as u64),
+        _ => print_number(to, tree::natural(words, n)),
     }
 }
 
-pub(crate) fn print_checked(answer: Checked) {
+pub(crate) fn print_checked(to: &mut impl Write, answer: Checked) -> io::Result<()> {
     match answer {
-        Checked::Tree => print(b"tree"),
+        Checked::Tree => print(to, b"tree"),
         Checked::Misfit(place) => {
-            print(b"misfit ");
-            print_number(place as u64);
+            print(to, b"misfit ")?;
+            print_number(to, place as u64)
         }
-        Checked::TooLong => print(b"too long"),
+        Checked::TooLong => print(to, b"too long"),
     }
 }
 
 // A name's start and length, and the text.
-pub(crate) fn name_case(rest: &[u8]) {
+pub(crate) fn name_case(to: &mut impl Write, rest: &[u8]) -> io::Result<()> {
     let start = number(rest);
     let after = tail(rest, start.digits);
     let length = number(after);
-    print(b" => <");
-    print(tree::name(tail(after, length.digits), start.value, length.value));
-    print(b">");
+    print(to, b" => <")?;
+    print(
+        to,
+        tree::name(tail(after, length.digits), start.value, length.value),
+    )?;
+    print(to, b">")
 }

@@ -1,8 +1,0 @@
--- `entries::most_bytes` answers a count that lies inside the slice.
-use borrow.Author.Rules.{rules}
-use Rattle.io.proofs.Counting.{prefix_len_of_le}
-use Rattle.trials.proofs.entries.most_bytes.Statement.{statement}
-use Rattle.trials.proofs.entries.most_bytes.Tie as tie
-
-pub most-bytes-spec : {M : Type 1} → statement M
-most-bytes-spec = tie.close (tie.spec (λ c κs. search rules) (λ c. prefix_len_of_le _ _ (search rules)) (λ c. prefix_len_of_le _ _ (search rules)))
