@@ -18,7 +18,7 @@ use Rattle.printing.specs.Entries.{ProgramAnswered as ProgramPrinted}
 use Rattle.printing.specs.declared.Printed.{Printed}
 use Rattle.printing.specs.declared.Printed.TheVariants.{Written as PrintWritten, Refused as PrintRefused}
 use Rattle.tidy.specs.Tidy.{Answered, refusal_number, of_print, of_reading, tidied}
-use Rattle.tidy.specs.TidyLaws.{shorter, Limited, print-limited}
+use Rattle.tidy.proofs.TidyLaws.{shorter, Limited, print-limited}
 
 -- ---- `print`
 

@@ -4,7 +4,8 @@ use Rattle.std.specs.Prelude.{ℕ, ◌≤◌, ◌<◌, List}
 use Rattle.std.proofs.Common.{sym, subst}
 use Rattle.printing.specs.Entries.{most_print}
 use Rattle.tidy.specs.Tidy.{Tidied}
-use Rattle.tidy.specs.Cases.{Cases, tidied-cases, below-is-count, Refusal, above-is-refusal}
+use Rattle.tidy.specs.Cases.{Cases, Refusal}
+use Rattle.tidy.proofs.CaseLaws.{tidied-cases, below-is-count, above-is-refusal}
 
 module _ (text out : List ℕ) (r : ℕ) (out' : List ℕ) (a : Tidied text out r out') where
   -- One of three: the print of the program that the text reads as, before the output's old bytes, where it fits; a refusal of reading; refusal
