@@ -1,4 +1,4 @@
--- The reading rules of declarations and programs, in Parser.dfy's order and under its names (REFERENCE, "The reading rules").
+-- The reading rules of declarations and programs, in Parser.dfy's order and under its names in snake case (REFERENCE, "The reading rules").
 use Rattle.std.specs.Prelude.{ℕ, Bool, true, false, List, [], ◌∷◌}
 use Rattle.std.proofs.Math.Option.{Option, none, some}
 use Rattle.lexing.specs.Answer.{Answer, ok, refused, unusable_token}
@@ -67,7 +67,7 @@ module _ (text : List ℕ) where
   parse_function_formal at =
       after (T text "injective" at) (mapped (formal false) (parse_id_type text at)) (λ _ at₁. must at₁ (mapped (formal true) (parse_id_type text at₁)))
 
-  -- `T("tag").e_i(parse_id).Option()`
+  -- `T("tag").e_I(parseId).Option()`
   unfoldable pub parse_tag : Reader (Option Span)
   parse_tag at = after (T text "tag" at) (ok none at) (λ _ at₁. need at₁ (parse_name text at₁) (λ n at₂. ok (some n) at₂))
 
@@ -75,7 +75,7 @@ module _ (text : List ℕ) where
     unfoldable pub parse_when_clause : Reader (Expr Span)
     parse_when_clause at = after (T text "when" at) Answer.none (λ _ at₁. the_expr text m c (λ e. e) at₁)
 
-    -- `parse_function_definition.Option()`
+    -- `parseFunctionDefinition.Option()`
     unfoldable pub parse_function_definition : Reader (Option (FunctionDefinition Span))
     unfolding parse_when_clause rep
     parse_function_definition at =
@@ -96,7 +96,7 @@ module _ (text : List ℕ) where
         (λ g at₆. need at₆ (parse_function_definition at₆)
         (λ d at₇. ok (record { name = n; parameters = ps; result_type = t; tag = g; definition = d }) at₇)))))))
 
-    -- `T("explains").e_i(..).Option()`
+    -- `T("explains").e_I(..).Option()`
     unfoldable pub parse_explains : Reader (List Span)
     parse_explains at =
         after (T text "explains" at) (ok [] at) (λ _ at₁. must at₁ (parse_nonempty_comma_delimited_seq text m names (parse_name text) at₁))
@@ -106,7 +106,7 @@ module _ (text : List ℕ) where
     unfolding parse_explains
     after_axiom at = need at (parse_explains at) (λ ns at₁. the_expr text m c (λ e. record { explains = ns; expr = e }) at₁)
 
-  -- `parse_parameter_mode` and a name with its type, which must follow `inout` and `out`
+  -- `parseParameterMode` and a name with its type, which must follow `inout` and `out`
   unfoldable pub parse_moded : Reader (PParameter Span)
   parse_moded at =
       after (T text "inout" at) Answer.none (λ _ at₁. must at₁ (mapped (moded InOut) (parse_id_type text at₁)))

@@ -47,7 +47,7 @@ properties = record { nil = no_closure_properties; cons = λ p l. closure_proper
 unfoldable pub opens_at : ℕ → ℕ → Bool
 opens_at b next = is_digit b || eqb b 124 || eqb b 40 || eqb b 45 || (eqb b 33 && not (eqb next 61))
 
--- an expression's first token stands at the start: what keeps a token of `parse_equiv_expr` there. It is a word, a digit, `|`, `(`, `-`, or `!`
+-- an expression's first token stands at the start: what keeps a token of `parseEquivExpr` there. It is a word, a digit, `|`, `(`, `-`, or `!`
 -- that no `=` follows (Claims, `depth-kept`)
 unfoldable pub opens_expr : List ℕ → Bool
 unfolding opens_at
@@ -58,7 +58,7 @@ E = Expr Span
 
 -- ---- repetition
 
--- `parser.I_I(operator.e_i(parser).Rep())`, folded to the left: what stands after the operand e
+-- `parser.I_I(operator.e_I(parser).Rep())`, folded to the left: what stands after the operand e
 unfoldable pub left_tail : ℕ → Reader Build → Reader E → E → Reader E
 left_tail zero operator p e at = ok e at
 left_tail (suc k) operator p e at =
@@ -86,7 +86,7 @@ unfoldable pub after_colon : Reader E → Span → Reader E
 after_colon c n at = need at (c at) (λ e at₁. ok (LabeledExpr n e) at₁)
 
 module _ (text : List ℕ) where
-  -- `Sym(",").e_i(item).Rep()`
+  -- `Sym(",").e_I(item).Rep()`
   unfoldable pub comma_tail : {A L : Type 0} → Sequence A L → ℕ → Reader A → Reader L
   comma_tail q zero item at = ok q.nil at
   comma_tail q (suc k) item at =
@@ -121,7 +121,7 @@ module _ (text : List ℕ) where
   unfoldable pub or_operator : Reader Build
   or_operator at = mapped (λ _. straight LogicalOr) (Sym text "||" at)
 
-  -- `parse_comparison_operator`, two signs at a time
+  -- `parseComparisonOperator`, two signs at a time
   unfoldable pub equality_operator : Reader Build
   equality_operator at = mapped (λ _. straight Eq) (SymNotPrefix text "==" "==>" at) or mapped (λ _. straight Neq) (Sym text "!=" at)
 
@@ -163,18 +163,18 @@ module _ (text : List ℕ) where
       after (parse_name text at) Answer.none
       (λ n at₁. need at₁ (Sym text ":" at₁) (λ _ at₂. need at₂ (parse_type text at₂) (λ t at₃. ok (binding n t) at₃)))
 
-  -- the type of `parse_id_optional_type`
+  -- the type of `parseIdOptionalType`
   abbrev pub some_type : Reader (Option Span)
   some_type at = need at (parse_type text at) (λ t at₁. ok (some t) at₁)
 
   unfoldable pub parse_optional_type : Reader (Option Span)
   parse_optional_type at = after (SymNotPrefix text ":" ":=" at) (ok none at) (λ _ at₁. some_type at₁)
 
-  -- `parse_parenthesized(parse_comma_delimited_seq(parse_id_type)).Option()`, none of them where it is missing
+  -- `parseParenthesized(parseCommaDelimitedSeq(parseIdType)).Option()`, none of them where it is missing
   unfoldable pub parse_parameters : ℕ → Reader (List (Binding Span))
   parse_parameters m at = after (Sym text "(" at) (ok [] at) (λ _ at₁. parse_listed m bindings parse_id_type (bytes ")") at₁)
 
-  -- ---- parse_primary_expr
+  -- ---- parsePrimaryExpr
 
   module _ (c : Reader E) where
     unfoldable pub after_if : Reader E
@@ -192,7 +192,7 @@ module _ (text : List ℕ) where
         (λ _ at₃. need at₃ (c at₃) (λ rhs at₄. need at₄ (c at₄) (λ body at₅. ok (LetExpr n t rhs body) at₅)))))
 
   module _ (m : ℕ) (c : Reader E) where
-    -- `parse_pattern(c).Rep()` and `parse_closure_trigger(c).Rep()`, by their word
+    -- `parsePattern(c).Rep()` and `parseClosureTrigger(c).Rep()`, by their word
     unfoldable pub parse_marked : ℕ → List ℕ → Reader (Patterns Span)
     parse_marked zero w at = ok no_patterns at
     parse_marked (suc k) w at =
@@ -215,7 +215,7 @@ module _ (text : List ℕ) where
     unfoldable pub parse_closure_property : Reader PropertyItem
     parse_closure_property at = after (parse_marked m (bytes "trigger") at) Answer.none (λ ts at₁. after_triggers ts at₁ (c at₁))
 
-    -- `parse_closure`
+    -- `parseClosure`
     unfoldable pub after_lift : Reader E
     after_lift at =
         need at (parse_nonempty_comma_delimited_seq m closures parse_closure_binding at)
@@ -227,7 +227,7 @@ module _ (text : List ℕ) where
         (λ _ at₆. need at₆ (Sym text "{" at₆)
         (λ _ at₇. need at₇ (parse_listed m properties parse_closure_property (bytes "}") at₇) (λ ps at₈. ok (ClosureExpr bs n t ps) at₈))))))))
 
-  -- ---- parse_atomic_expr
+  -- ---- parseAtomicExpr
 
   -- after `|`
   unfoldable pub after_bar : Reader E
@@ -315,7 +315,7 @@ module _ (text : List ℕ) where
     unfoldable pub parse_equiv_expr : Reader E
     parse_equiv_expr at = after (parse_imp_exp_expr at) Answer.none (left_tail m equiv_operator parse_imp_exp_expr)
 
-  -- `RecMap(expr_gallery, "expr")` with d levels left: refusal 3 where one more would be opened
+  -- `RecMap(exprGallery, "expr")` with d levels left: refusal 3 where one more would be opened
   unfoldable pub parse_expr : ℕ → ℕ → Reader E
   parse_expr m zero at = pick (opens_expr (drop at text)) (refused level_too_deep at) Answer.none
   parse_expr m (suc d) at = parse_equiv_expr m (parse_expr m d) at

@@ -1,5 +1,5 @@
 -- The reading rules of statements, in Parser.dfy's order and under its names (REFERENCE, "The reading rules"). `c` holds the rules that a
--- rule opens: "expr" of `expr_gallery` and the four of `stmt_gallery`, each with the levels that are left. m bounds the turns of each repetition.
+-- rule opens: "expr" of `exprGallery` and the four of `stmtGallery`, each with the levels that are left. m bounds the turns of each repetition.
 use Prim.Native.Nat.{ℕ, zero, suc}
 use Prim.Native.String.{String}
 use Rattle.std.specs.Prelude.{Bool, true, false, List, [], ◌∷◌, drop}
@@ -70,7 +70,7 @@ statement_words = "var" ∷ "val" ∷ "forall" ∷ "choose" ∷ "if" ∷ "loop" 
 module _ (text : List ℕ) where
   -- ---- a name and its mark
 
-  -- `Atomic(parse_id.I_e(..))`: a name that the step follows; where the step keeps nothing, the name is given back
+  -- `Atomic(parseId.I_e(..))`: a name that the step follows; where the step keeps nothing, the name is given back
   unfoldable pub atomic : Reader ℕ → Reader Span
   atomic mark at = after (parse_name text at) Answer.none (λ n at₁. mapped (λ _. n) (mark at₁))
 
@@ -78,7 +78,7 @@ module _ (text : List ℕ) where
   unfoldable pub mark : Reader ℕ
   mark at = Sym text ":=" at or Sym text ":" at or Sym text "(" at
 
-  -- `Lookahead(parse_id.I_e(..))`: where a name with a mark follows, there is no label
+  -- `Lookahead(parseId.I_e(..))`: where a name with a mark follows, there is no label
   unfoldable pub parse_optional_exit_argument : Reader (Option Span)
   unfolding atomic mark
   parse_optional_exit_argument at =
@@ -94,7 +94,7 @@ module _ (text : List ℕ) where
       abbrev pub the_block : {A : Type 0} → (S → A) → Reader A
       the_block f at = must at (mapped f (c.block at))
 
-      -- `T(w).e_i(expr).Option()`
+      -- `T(w).e_I(expr).Option()`
       unfoldable pub parse_optional_auto_invariant : Reader (Option E)
       parse_optional_auto_invariant at = after (T text "autoinv" at) (ok none at) (λ _ at₁. the_expr some at₁)
 
@@ -107,7 +107,7 @@ module _ (text : List ℕ) where
           by_name : ParameterMode → Reader (CallArgument Span)
           by_name d at = must at (mapped (λ n. record { mode = d; arg = IdExpr n false }) (parse_name text at))
 
-      -- `parse_a_expr`
+      -- `parseAExpr`
       unfoldable pub parse_a_expr : List ℕ → Reader (AExpr Span)
       parse_a_expr w at =
           after (keyword_at text w at) Answer.none
@@ -117,7 +117,7 @@ module _ (text : List ℕ) where
       unfolding parse_a_expr rep
       parse_a_expr_seq w at = rep aexprs m (parse_a_expr w) at
 
-      -- ---- parse_stmt
+      -- ---- parseStmt
 
       unfoldable pub parse_init : Reader (Option E)
       parse_init at = after (Sym text ":=" at) (ok none at) (λ _ at₁. the_expr some at₁)
@@ -136,7 +136,7 @@ module _ (text : List ℕ) where
       unfoldable pub after_forall : Reader S
       after_forall at = need at (parse_id_type text at) (λ b at₁. the_block (over_type b) at₁)
 
-      -- `T("or").e_i(c("block"))`
+      -- `T("or").e_I(c("block"))`
       unfoldable pub parse_or : Reader S
       parse_or at = after (T text "or" at) Answer.none (λ _ at₁. the_block (λ s. s) at₁)
 
@@ -148,7 +148,7 @@ module _ (text : List ℕ) where
       unfoldable pub parse_case : Reader (E × S)
       parse_case at = after (T text "case" at) Answer.none (λ _ at₁. need at₁ (c.expr at₁) (λ e at₂. the_block (λ s. (e, s)) at₂))
 
-      -- `T("else").e_i(..)`, or the empty block
+      -- `T("else").e_I(..)`, or the empty block
       unfoldable pub parse_else : Reader S
       parse_else at =
           after (T text "else" at) (ok (Block no_stmts) at)
@@ -203,7 +203,7 @@ module _ (text : List ℕ) where
           or after (atomic (Sym text ":") at) Answer.none (λ n at₁. after_label n at₁)
           or after (atomic (Sym text "(") at) Answer.none (λ n at₁. after_call n at₁)
 
-      -- "block" of `stmt_gallery`
+      -- "block" of `stmtGallery`
       unfoldable pub parse_block : Reader S
       unfolding parse_stmt rep_till
       parse_block at = after (Sym text "{" at) Answer.none (λ _ at₁. must at₁ (mapped Block (rep_till statements m parse_stmt (Sym text "}") at₁)))

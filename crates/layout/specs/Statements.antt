@@ -19,7 +19,7 @@ Before = List ℕ → List ℕ
 
 -- a statement as the methods see it that print one inside another
 pub record Shown : Type 0 where
-  -- `Statement` with `omit_initial_indent`, by the indent and `followed_by_end_curly`
+  -- `Statement` with `omitInitialIndent`, by the indent and `followedByEndCurly`
   pub print : ℕ → Bool → Before
   -- a Block's statements by `StatementList`, by the indent
   pub list : Option (ℕ → Before)

@@ -18,16 +18,16 @@ abbrev pub unless_empty : ℕ → Answer ℕ → Answer ℕ
 unless_empty zero r = none
 unless_empty (suc n) r = r
 
--- `parse_identifier_raw`: how many bytes the identifier at the start has, 0 where there is none
+-- `parseIdentifierRaw`: how many bytes the identifier at the start has, 0 where there is none
 unfoldable pub identifier_length : List ℕ → ℕ
 identifier_length [] = 0
 identifier_length (a ∷ s) = pick (can_start_identifier_char a) (suc (run identifier_char s)) 0
 
--- `parse_id`: the value is the identifier's length
+-- `parseId`: the value is the identifier's length
 unfoldable pub parse_id : List ℕ → Answer ℕ
 parse_id s = unless_empty (identifier_length s) (lexeme (identifier_length s) (identifier_length s) s)
 
--- `parse_custom_literal`: the value is the length; no blank is taken after it
+-- `parseCustomLiteral`: the value is the length; no blank is taken after it
 unfoldable pub parse_custom_literal : List ℕ → Answer ℕ
 parse_custom_literal s = unless_empty (run custom_literal_char s) (ok (run custom_literal_char s) (run custom_literal_char s))
 

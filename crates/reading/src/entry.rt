@@ -12,7 +12,7 @@ use lexing::refusal::{TEXT_TOO_LONG, TREE_TOO_LARGE};
 use parsing::{Parsed, Whole, parse};
 use tree::{MOST_TEXT, MOST_WORDS};
 
-// What reading answers: `outcomeOf` in specs/TreeRead.antt gives the number and values of each case (REFERENCE, "The entries").
+// What reading answers: `outcome_of` in specs/TreeRead.antt gives the number and values of each case (REFERENCE, "The entries").
 #[derive(Clone, Copy)]
 pub enum Reading {
     // How many words the tree has.

@@ -1,4 +1,4 @@
--- `map_x f` applies f to every name of an X; `resolve` takes spans over a text to the bytes that they cover.
+-- `map_X f` applies f to every name of an X; `resolve` takes spans over a text to the bytes that they cover.
 use Rattle.std.specs.Prelude.{ℕ, List, map, take, drop}
 use Rattle.std.proofs.Math.Option.{Option, none, some}
 use Rattle.tree.specs.Ast.{Span, Binding, binding, Variable, CallArgument}

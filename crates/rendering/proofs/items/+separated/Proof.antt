@@ -13,7 +13,7 @@ use Rattle.tree.proofs.get.Reads as get
 use Rattle.rendering.proofs as fn
 use fn.PartPrints.Joins.{inside, passed as nearer}
 use fn.Places.{Place, begin, item, seen, text, part, done, ready}
-use fn.Sequences.{made, cons, a-list, at_none, at_some, separated-print}
+use fn.Sequences.{Listing, made, cons, a-list, at_none, at_some, separated-print}
 use fn.items.+separated.{statement}
 use fn.items.+separated.Tie.{close}
 use fn.items.+separated.Lts-separated as lts
@@ -51,6 +51,14 @@ module _ (t : ℕ) where
   abbrev list : Of lts.Start → Part
   list c = item_list c.args.text.now c.args.words.now c.args.counts.now c.args.step c.args.at 0 c.args.kind c.args.first.now
 
+  list-law : (c : Of lts.Start) → Listing (list c) cons
+  list-law c =
+      a-list (list c).given
+      (item_words c.args.text.now c.args.words.now c.args.counts.now c.args.step c.args.at 0 c.args.kind)
+      (item_print c.args.text.now c.args.words.now c.args.counts.now c.args.step c.args.at 0 c.args.kind)
+      c.args.first.now
+      (bytes ", ")
+
   abbrev at-start : Of lts.Start → Place
   at-start c =
       seen (begin (made (list c) cons) c.args.words.now c.args.at c.args.out.now c.args.pos) _
@@ -74,7 +82,7 @@ module _ (t : ℕ) where
       part (at_one c.before.before.before.before.before.before) c.separated.ensures (λ x. x.tree.1) _ (λ x. (ready (at_one c.before.before.before.before.before.before) (le_refl 0) x.given.0, x.given.1.1)) _ (λ x. refl) (λ x. refl)
 
   returns : Of lts.Need-returns-then-get-eq-NO_MORE
-  returns c = at_none (list c.before.before.before.before.before.before.before.before) cons (a-list (list c.before.before.before.before.before.before.before.before).given (item_words c.args.text.now c.args.words.now c.args.counts.now c.args.step c.args.at 0 c.args.kind) (item_print c.args.text.now c.args.words.now c.args.counts.now c.args.step c.args.at 0 c.args.kind) c.args.first.now (bytes ", ")) c.get.ensures c.after-inside.ensures c.if-get-eq-NO_MORE.true
+  returns c = at_none (list c.before.before.before.before.before.before.before.before) cons (list-law c.before.before.before.before.before.before.before.before) c.get.ensures c.after-inside.ensures c.if-get-eq-NO_MORE.true
 
   separated-requires : Of lts.Need-separated-requires
   separated-requires c κs = (
@@ -85,7 +93,7 @@ module _ (t : ℕ) where
   )
 
   returns-2 : Of lts.Need-returns
-  returns-2 c = at_some (list c.before.before.before.before.before.before.before.before.before.before.before.before.before.before.before.before.before.before.before.before.before.before) cons (a-list (list c.before.before.before.before.before.before.before.before.before.before.before.before.before.before.before.before.before.before.before.before.before.before).given (item_words c.args.text.now c.args.words.now c.args.counts.now c.args.step c.args.at 0 c.args.kind) (item_print c.args.text.now c.args.words.now c.args.counts.now c.args.step c.args.at 0 c.args.kind) c.args.first.now (bytes ", ")) c.get.ensures
+  returns-2 c = at_some (list c.before.before.before.before.before.before.before.before.before.before.before.before.before.before.before.before.before.before.before.before.before.before) cons (list-law c.before.before.before.before.before.before.before.before.before.before.before.before.before.before.before.before.before.before.before.before.before.before) c.get.ensures
       c.if-get-eq-NO_MORE.false (done (at-end c.before.before) (λ x. refl) (λ x. refl))
 
   pub spec : {M : Type 1} → lts.Closed claims (separated-at t) Post M
