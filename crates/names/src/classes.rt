@@ -7,6 +7,7 @@ ghost use Rattle.names.specs.Classes.{ChainReady, Chained, PlacesReady, Class, F
 use crate::cells::fill;
 
 // The lists of the places with one key: at a key the first place with it, at a place the next with its key, and n where there is none.
+#[tactic(auto, using(crate::proofs::Chaining::key_below))]
 fn chain(keys: &[u16], n: usize, most: usize, heads: &mut [u16], next: &mut [u16])
     requires { ChainReady keys.now n most heads.old next.old }
     ensures { Chained keys.now n most heads.old next.old heads.new next.new }
