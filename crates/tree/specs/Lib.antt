@@ -4,6 +4,7 @@ pub mod Ast
 pub mod Resolve
 pub mod Tags
 pub mod Words
+pub mod Codes
 pub mod Kind
 pub mod Limits
 pub mod Check
