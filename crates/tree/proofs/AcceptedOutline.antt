@@ -1,4 +1,5 @@
 -- Of words that the check accepts, the code notes the kinds and the ends of the outline.
+use Rattle.std.specs.Prelude.{Err}
 use Prim.Native.Nat.{ℕ, zero, suc, ◌+◌, ◌-◌, ◌^◌, ◌≤◌, ◌<◌}
 use native.Mathlib.Omega.{arith}
 use mathlib.Core.Path.{◌≡◌, refl, sym, ap, ◌∙◌}
@@ -13,17 +14,17 @@ use Rattle.tree.specs.Kind.{Kind, bool, operator, mode, natural, low, name, leng
 use Rattle.tree.specs.Kind.{Item, of_name, of_expr, of_binding, of_pattern, of_closure_binding, of_closure_property, of_stmt, of_call_argument, of_case, of_a_expr, of_tagger, of_f_parameter, of_function, of_axiom, of_p_parameter, of_procedure}
 use Rattle.tree.specs.Kind.{Content, a_name, an_expr, a_stmt, a_definition}
 use Rattle.tree.specs.KindNumbers.{kind_number, kind_of}
-use Rattle.tree.specs.Check.{run}
+use Rattle.tree.specs.Check.{Checked, one_tree, run}
 use Rattle.tree.specs.Outline.{extent, kind_numbers, end_places}
 use Rattle.tree.specs.OutlineLaws.{lengths, extent-none, behind, Expects, expects-behind, word_at, not-over, expects-at}
 use Rattle.tree.specs.Notes.{kind_notes, field_count, fields_at, fields_end, end_at, end_notes}
-use Rattle.tree.specs.declared.Checked.TheVariants.{Tree, Misfit}
+use Rattle.tree.specs.declared.CheckError.TheVariants.{Misfit}
 
 -- ---- the kinds
 
 module _ (inside : ℕ → ℕ → Bool) where
   -- the notes of accepted words: those before them, and then the kinds' numbers
-  kinds-noted : (ks : List Kind) (at : ℕ) (ws notes : List ℕ) → run inside ks at ws ≡ Tree → at + length ws ≤ length notes
+  kinds-noted : (ks : List Kind) (at : ℕ) (ws notes : List ℕ) → run inside ks at ws ≡ one_tree → at + length ws ≤ length notes
       → take (at + length ws) (kind_notes inside ks at ws notes) ≡ take at notes ++ kind_numbers inside ks ws
   unfolding run kind_notes kind_numbers
   kinds-noted [] at [] notes e h = let z : at + 0 ≡ at = omega arith in ap (λ (n : ℕ). take n notes) z ∙ sym (append-nil (take at notes))
@@ -31,8 +32,8 @@ module _ (inside : ℕ → ℕ → Bool) where
   kinds-noted (k ∷ ks) at [] notes e h = impossible cc
   kinds-noted (k ∷ ks) at (w ∷ ws) notes e h = by_turn (turn inside k w) e (λ fs. kinds-noted (fs ++ ks) (suc at) ws (set notes at (kind_number k)))
     where
-      by_turn : (u : Turn) → elim u [ fits fs ↦ run inside (fs ++ ks) (suc at) ws | misfit back ↦ Misfit (at - back) ] ≡ Tree
-          → ((fs : List Kind) → run inside (fs ++ ks) (suc at) ws ≡ Tree → suc at + length ws ≤ length (set notes at (kind_number k))
+      by_turn : (u : Turn) → ◌≡◌ {A = Checked} (elim u [ fits fs ↦ run inside (fs ++ ks) (suc at) ws | misfit back ↦ Err (Misfit (at - back)) ]) one_tree
+          → ((fs : List Kind) → run inside (fs ++ ks) (suc at) ws ≡ one_tree → suc at + length ws ≤ length (set notes at (kind_number k))
           → take (suc at + length ws) (kind_notes inside (fs ++ ks) (suc at) ws (set notes at (kind_number k)))
           ≡ take (suc at) (set notes at (kind_number k)) ++ kind_numbers inside (fs ++ ks) ws)
           → take (at + suc (length ws)) (elim u [ fits fs ↦ kind_notes inside (fs ++ ks) (suc at) ws (set notes at (kind_number k)) | misfit back ↦ notes ])
@@ -98,7 +99,7 @@ module _ (inside : ℕ → ℕ → Bool) where
 
 -- ---- the ends
 
-module _ (inside : ℕ → ℕ → Bool) (ks₀ : List Kind) (table kinds : List ℕ) (accepted : run inside ks₀ 0 table ≡ Tree)
+module _ (inside : ℕ → ℕ → Bool) (ks₀ : List Kind) (table kinds : List ℕ) (accepted : run inside ks₀ 0 table ≡ one_tree)
     (numbered : (i : ℕ) → i < length table → get_or kinds i 0 ≡ get_or (kind_numbers inside ks₀ table) i 0) where
   -- the ends from a place on are those of the outline
   abbrev Right : List ℕ → ℕ → Type 0
@@ -168,7 +169,7 @@ module _ (inside : ℕ → ℕ → Bool) (ks₀ : List Kind) (table kinds : List
 
 -- ---- a whole table
 
-module _ (inside : ℕ → ℕ → Bool) (ks₀ : List Kind) (table : List ℕ) (accepted : run inside ks₀ 0 table ≡ Tree) where
+module _ (inside : ℕ → ℕ → Bool) (ks₀ : List Kind) (table : List ℕ) (accepted : run inside ks₀ 0 table ≡ one_tree) where
   -- the code's kinds of a table are those of the outline
   pub kinds-found : (notes : List ℕ) → length table ≤ length notes → take (length table) (kind_notes inside ks₀ 0 table notes) ≡ kind_numbers inside ks₀ table
   kinds-found notes h =

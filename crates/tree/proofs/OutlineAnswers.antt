@@ -1,4 +1,5 @@
 -- What the outline of a program's table answers and leaves, by the check's answer.
+use Rattle.std.specs.Prelude.{Err}
 use Prim.Native.Nat.{ℕ, ◌≤◌}
 use mathlib.Core.Path.{◌≡◌, refl, sym, ap, ◌∙◌}
 use mathlib.Core.Bool.{Bool, true, false, cond}
@@ -10,21 +11,20 @@ use borrow.Author.Tests.{leb-true}
 use Rattle.tree.specs.Clash.{impossible}
 use Rattle.tree.specs.Limits.{most_words}
 use Rattle.tree.specs.Kind.{program_fields}
-use Rattle.tree.specs.Check.{run, within, check_program, Refusal, refusal, program_refusal}
+use Rattle.tree.specs.Check.{one_tree, Checked, run, within, check_program, Refusal, refusal, program_refusal}
 use Rattle.tree.specs.Outline.{kind_numbers, end_places, filled, unless_refused, program_kinds, program_ends}
 use Rattle.tree.specs.Notes.{kind_notes, end_notes}
-use Rattle.tree.specs.declared.Checked.{Checked}
-use Rattle.tree.specs.declared.Checked.TheVariants.{Tree, TooLong}
+use Rattle.tree.specs.declared.CheckError.TheVariants.{TooLong}
 use Rattle.tree.proofs.AcceptedOutline.{kinds-found, kinds-numbered, ends_found}
 
 module _ (words : List ℕ) (len : ℕ) where
   -- a table that the check accepts is not too long, and a run over its words accepts them
-  pub accepted : {r : Checked} → r ≡ Tree → r ≡ check_program words len → (length words ≤ most_words) × (run (within len) program_fields 0 words ≡ Tree)
+  pub accepted : {r : Checked} → r ≡ one_tree → r ≡ check_program words len → (length words ≤ most_words) × (run (within len) program_fields 0 words ≡ one_tree)
   unfolding check_program
   accepted e f = by-test (leb (length words) most_words) refl (sym f ∙ e)
     where
-      by-test : (b : Bool) → leb (length words) most_words ≡ b → cond b (run (within len) program_fields 0 words) TooLong ≡ Tree
-          → (length words ≤ most_words) × (run (within len) program_fields 0 words ≡ Tree)
+      by-test : (b : Bool) → leb (length words) most_words ≡ b → cond b (run (within len) program_fields 0 words) (Err TooLong) ≡ one_tree
+          → (length words ≤ most_words) × (run (within len) program_fields 0 words ≡ one_tree)
       by-test true h g = (leb-true _ _ h, g)
       by-test false h g = impossible cc
 
@@ -42,7 +42,7 @@ module _ (words : List ℕ) (len : ℕ) where
   )
 
   -- of an accepted one the kinds and the ends are copied
-  module _ (e : program_refusal words len ≡ none) (r : run (within len) program_fields 0 words ≡ Tree) (noted : List ℕ) {noted₁ : List ℕ}
+  module _ (e : program_refusal words len ≡ none) (r : run (within len) program_fields 0 words ≡ one_tree) (noted : List ℕ) {noted₁ : List ℕ}
       (room : length words ≤ length noted) (n : noted₁ ≡ kind_notes (within len) program_fields 0 words noted) where
     numbers : take (length words) noted₁ ≡ kind_numbers (within len) program_fields words
     numbers = ap (take (length words)) n ∙ kinds-found (within len) program_fields words r noted room

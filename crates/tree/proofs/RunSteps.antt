@@ -1,4 +1,5 @@
 -- The check over the words from a place on, one step: what stands there, and how `run`, `tally` and `kind_notes` go on.
+use Rattle.std.specs.Prelude.{Err}
 use Prim.Native.Nat.{ℕ, suc, ◌+◌, ◌-◌, ◌≤◌, ◌<◌, ◌^◌}
 use native.Mathlib.Numerals.{add-one}
 use native.Mathlib.Omega.{arith}
@@ -11,13 +12,13 @@ use lib.Dec.{ltb}
 use lib.Seq.{drop-cons}
 use borrow.Author.Tests.{le-leb, lt-leb, lt-ltb, le-ltb}
 use Rattle.tree.specs.Kind.{Kind, name, natural, low, length_from, Turn, fits, misfit, turn}
-use Rattle.tree.specs.Check.{run, within}
+use Rattle.tree.specs.Check.{Checked, run, within}
 use Rattle.tree.specs.Rows.{digits, kinds_of, Went, Stopped}
 use Rattle.tree.specs.KindNumbers.{kind_number, second_word}
 use Rattle.tree.specs.Notes.{note_kind, kind_notes}
 use Rattle.tree.specs.Tally.{Mark, Expected, sequence, opened, mark_at, more, marked, noted, tally}
-use Rattle.tree.specs.declared.Checked.{Checked}
-use Rattle.tree.specs.declared.Checked.TheVariants.{Misfit}
+use Rattle.tree.specs.declared.CheckError.{CheckError}
+use Rattle.tree.specs.declared.CheckError.TheVariants.{Misfit}
 
 -- the words from a place on: none, one, or two and more
 none-at : (ws : List ℕ) (at : ℕ) → length ws ≤ at → drop at ws ≡ []
@@ -29,7 +30,7 @@ one_at ws at h = rw add-one (drop-cons ws at 0 h)
 module _ (len : ℕ) (ws : List ℕ) (at : ℕ) where
   abbrev after : List Kind → Turn → Checked
   after ks (fits fs) = run (within len) (fs ++ ks) (at + 1) (drop (at + 1) ws)
-  after ks (misfit back) = Misfit (at - back)
+  after ks (misfit back) = Err (Misfit (at - back))
 
   -- a word's turn is what `run` does at it
   step-turn : (k : Kind) (ks : List Kind) → at < length ws → run (within len) (k ∷ ks) at (drop at ws) ≡ after ks (turn (within len) k (get_or ws at 0))
@@ -37,7 +38,7 @@ module _ (len : ℕ) (ws : List ℕ) (at : ℕ) where
   step-turn k ks h = ap (run (within len) (k ∷ ks) at) (one_at ws at h) ∙ by_turn (turn (within len) k (get_or ws at 0))
     where
       by_turn : (u : Turn)
-          → elim u [ fits fs ↦ run (within len) (fs ++ ks) (suc at) (drop (at + 1) ws) | misfit b ↦ Misfit (at - b) ] ≡ after ks u
+          → ◌≡◌ {A = Checked} (elim u [ fits fs ↦ run (within len) (fs ++ ks) (suc at) (drop (at + 1) ws) | misfit b ↦ Err (Misfit (at - b)) ]) (after ks u)
       by_turn (fits fs) = rw add-one
       by_turn (misfit b) = refl
 
@@ -111,16 +112,16 @@ module _ (len : ℕ) (ws : List ℕ) (at : ℕ) where
       }
 
   -- a word that misfits ends the walk
-  one-misfit : (k : Kind) (back : ℕ) → at < length ws → turn (within len) k (get_or ws at 0) ≡ misfit back → Stopped ws len at k (at - back)
+  one-misfit : (k : Kind) (back : ℕ) → at < length ws → turn (within len) k (get_or ws at 0) ≡ misfit back → Stopped ws len at k (Misfit (at - back))
   one-misfit k back h e =
       record { stops = λ ks. step-turn k ks h ∙ ap (after ks) e; keeps = λ m es c. count_turn k m es c h ∙ ap (counting k m es c) e }
 
   -- words are missing
-  pub step-missing : (k : Kind) → at ≡ length ws → Stopped ws len at k (length ws)
+  pub step-missing : (k : Kind) → at ≡ length ws → Stopped ws len at k (Misfit (length ws))
   unfolding run
   step-missing k h =
       record {
-        stops = λ ks. ap (run (within len) (k ∷ ks) at) (none-at ws at (omega arith)) ∙ ap Misfit h;
+        stops = λ ks. ap (run (within len) (k ∷ ks) at) (none-at ws at (omega arith)) ∙ ap (λ (n : ℕ). Err (Misfit n)) h;
         keeps = λ m es c. count-missing k m es c h;
       }
 
@@ -156,8 +157,8 @@ module _ (len : ℕ) (ws : List ℕ) (at : ℕ) (k k' : Kind) where
       }
 
   -- the second of two words ends the walk
-  step-second : (place : ℕ) → at < length ws → turn (within len) k (get_or ws at 0) ≡ fits (k' ∷ []) → Stopped ws len (at + 1) k' place → Stopped ws len at k place
-  step-second place h e s =
+  step-second : (error : CheckError) → at < length ws → turn (within len) k (get_or ws at 0) ≡ fits (k' ∷ []) → Stopped ws len (at + 1) k' error → Stopped ws len at k error
+  step-second error h e s =
       record {
         stops = λ ks. step_fits len ws at k (k' ∷ []) h e ks ∙ s.stops ks;
         keeps = λ m es c.
@@ -165,19 +166,19 @@ module _ (len : ℕ) (ws : List ℕ) (at : ℕ) (k k' : Kind) where
       }
 
   -- the first of two words is the last of all
-  pub second-missing : at < length ws → length ws - at < 2 → turn (within len) k (get_or ws at 0) ≡ fits (k' ∷ []) → Stopped ws len at k (length ws)
-  second-missing h m e = step-second (length ws) h e (step-missing len ws (at + 1) k' (omega arith))
+  pub second-missing : at < length ws → length ws - at < 2 → turn (within len) k (get_or ws at 0) ≡ fits (k' ∷ []) → Stopped ws len at k (Misfit (length ws))
+  second-missing h m e = step-second (Misfit (length ws)) h e (step-missing len ws (at + 1) k' (omega arith))
 
 module _ (len : ℕ) (ws : List ℕ) (at : ℕ) where
   -- a name's two words
   pub name-fits : at + 1 < length ws → get_or ws at 0 + get_or ws (at + 1) 0 ≤ len → Went ws len at name (at + 2) 0
   name-fits h i = step-two len ws at name (length_from (get_or ws at 0)) h refl (simp (le-leb (get_or ws at 0 + get_or ws (at + 1) 0) len i)) refl refl refl
 
-  pub name-outside : at + 1 < length ws → len < get_or ws at 0 + get_or ws (at + 1) 0 → Stopped ws len at name at
+  pub name-outside : at + 1 < length ws → len < get_or ws at 0 + get_or ws (at + 1) 0 → Stopped ws len at name (Misfit at)
   name-outside h o =
       let back : (at + 1) - 1 ≡ at = omega arith in
       let s = one-misfit len ws (at + 1) (length_from (get_or ws at 0)) 1 h (simp (lt-leb (get_or ws at 0 + get_or ws (at + 1) 0) len o)) in
-      step-second len ws at name (length_from (get_or ws at 0)) at (omega arith) refl (subst (Stopped ws len (at + 1) (length_from (get_or ws at 0))) back s)
+      step-second len ws at name (length_from (get_or ws at 0)) (Misfit at) (omega arith) refl (subst (λ (n : ℕ). Stopped ws len (at + 1) (length_from (get_or ws at 0)) (Misfit n)) back s)
 
   -- a natural's two words
   pub natural-fits : at + 1 < length ws → get_or ws (at + 1) 0 < 2 ^ 32 → Went ws len at natural (at + 2) 0
@@ -187,7 +188,7 @@ module _ (len : ℕ) (ws : List ℕ) (at : ℕ) where
   pub row_fits : (k : Kind) (row w : ℕ) → at < length ws → w ≡ get_or ws at 0 → fits (kinds_of row) ≡ turn (within len) k w → Went ws len at k (at + 1) row
   row_fits k row w h e f = one-fits len ws at k row h (ap (turn (within len) k) (sym e) ∙ sym f)
 
-  pub row-misfits : (k : Kind) (w : ℕ) → at < length ws → w ≡ get_or ws at 0 → misfit 0 ≡ turn (within len) k w → Stopped ws len at k at
+  pub row-misfits : (k : Kind) (w : ℕ) → at < length ws → w ≡ get_or ws at 0 → misfit 0 ≡ turn (within len) k w → Stopped ws len at k (Misfit at)
   row-misfits k w h e f =
       let back : at - 0 ≡ at = omega arith in
-      subst (Stopped ws len at k) back (one-misfit len ws at k 0 h (ap (turn (within len) k) (sym e) ∙ sym f))
+      subst (λ (n : ℕ). Stopped ws len at k (Misfit n)) back (one-misfit len ws at k 0 h (ap (turn (within len) k) (sym e) ∙ sym f))

@@ -1,4 +1,5 @@
 -- What the walk's stack expects, from its top down, and how it changes in a turn of the walk.
+use Rattle.std.specs.Prelude.{Err}
 use Prim.Native.Nat.{ℕ, suc, ◌+◌, ◌-◌, ◌*◌, ◌/◌, ◌%◌, ◌^◌, ◌≤◌, ◌<◌}
 use native.Mathlib.Numerals.{add-one}
 use native.Mathlib.Omega.{arith}
@@ -13,15 +14,14 @@ use borrow.Author.Tests.{eqb-true, eqb-false}
 use Rattle.tree.specs.Clash.{impossible}
 use Rattle.tree.specs.Limits.{most_words}
 use Rattle.tree.specs.Kind.{Kind}
-use Rattle.tree.specs.Check.{run, within}
+use Rattle.tree.specs.Check.{one_tree, run, within}
 use Rattle.tree.specs.Tally.{Mark, Expected, marked, mark_at, more, noted, tally}
 use Rattle.tree.specs.ExpectedKinds.{kinds_in, marked-kinds, marked_append}
 use Rattle.tree.specs.KindNumbers.{kind_number, second_word, kind_of}
 use Rattle.tree.specs.Notes.{note_kind, kind_notes}
-use Rattle.tree.specs.Rows.{kinds_of, as_mark, expected_of, own_mark, MarkIs, FrameIs, Pushed, Went, Stopped, Stepped}
-use Rattle.tree.specs.declared.walk.Step.{Step}
-use Rattle.tree.specs.declared.walk.Step.TheVariants.{Go, Stop}
-use Rattle.tree.specs.declared.Checked.TheVariants.{Tree, Misfit}
+use Rattle.tree.specs.Rows.{kinds_of, as_mark, expected_of, own_mark, MarkIs, FrameIs, Pushed, Went, Stopped}
+use Rattle.tree.specs.declared.CheckError.{CheckError}
+use Rattle.tree.specs.declared.CheckError.TheVariants.{Misfit}
 use Rattle.tree.proofs.Entries.{entry-cons, entry-none, entry_of, entry_first, rest-mark}
 
 pend : List Expected → List ℕ → List Expected
@@ -177,13 +177,6 @@ after-pop {len} {first} {ws} {stack₀} {counts₀} {kinds₀} {stack} {counts} 
       outlined = ap (λ (es : List Expected). kind_notes (within len) (kinds_in es) at (drop at ws) kinds) p ∙ i.outlined;
     }
 
--- what a step that goes on says, and one that stops
-pub went : {ws : List ℕ} {len at : ℕ} {k : Kind} {s : Step} {next fields : ℕ} → s ≡ Go next fields → Stepped ws len at k s → Went ws len at k next fields
-went {ws} {len} {at} {k} e w = subst (Stepped ws len at k) e w
-
-pub stopped : {ws : List ℕ} {len at : ℕ} {k : Kind} {s : Step} {place : ℕ} → s ≡ Stop place → Stepped ws len at k s → Stopped ws len at k place
-stopped {ws} {len} {at} {k} e w = subst (Stepped ws len at k) e w
-
 module _ {len first : ℕ} {ws stack₀ counts₀ kinds₀ stack counts kinds : List ℕ} {top at : ℕ} (i : Walking len first ws stack₀ counts₀ kinds₀ stack counts kinds top at)
     (h : 0 < top) {frame row : ℕ} (f : get_or stack (top - 1) 0 ≡ frame) (r₀ : row ≡ frame % 2 ^ 32) (ne : row ≡ 0 → ⊥) where
   -- what lies behind the first kind of the entry on the top
@@ -271,9 +264,9 @@ module _ {len first : ℕ} {ws stack₀ counts₀ kinds₀ stack counts kinds : 
         }
 
   -- the answer where a step stops
-  pub at-stop : {place : ℕ} → Stopped ws len at (kind_of (row % 32)) place
-      → (Misfit place ≡ run (within len) (kinds_of first) 0 ws) × (counts ≡ tally (within len) (marked (kinds_of first) none) 0 ws counts₀)
-      × (Misfit place ≡ Tree → kinds ≡ kind_notes (within len) (kinds_of first) 0 ws kinds₀)
+  pub at-stop : {e : CheckError} → Stopped ws len at (kind_of (row % 32)) e
+      → (Err e ≡ run (within len) (kinds_of first) 0 ws) × (counts ≡ tally (within len) (marked (kinds_of first) none) 0 ws counts₀)
+      × (Err e ≡ one_tree → kinds ≡ kind_notes (within len) (kinds_of first) 0 ws kinds₀)
   at-stop s = (
     sym (s.stops (kinds_in behind)) ∙ ap (λ (es : List Expected). run (within len) (kinds_in es) at (drop at ws)) (sym expected-first) ∙ i.state,
     sym (s.keeps (own_mark frame) behind counts) ∙ ap (λ (es : List Expected). tally (within len) es at (drop at ws) counts) (sym expected-first) ∙ i.tallied,
@@ -295,12 +288,12 @@ module _ {len first : ℕ} {ws stack₀ counts₀ kinds₀ stack counts kinds : 
             ∙ i.outlined,
       )
 
-  pub at-surplus : at < length ws → (Misfit at ≡ run (within len) (kinds_of first) 0 ws) × (counts ≡ tally (within len) (marked (kinds_of first) none) 0 ws counts₀)
-      × (Misfit at ≡ Tree → kinds ≡ kind_notes (within len) (kinds_of first) 0 ws kinds₀)
+  pub at-surplus : at < length ws → (Err (Misfit at) ≡ run (within len) (kinds_of first) 0 ws) × (counts ≡ tally (within len) (marked (kinds_of first) none) 0 ws counts₀)
+      × (Err (Misfit at) ≡ one_tree → kinds ≡ kind_notes (within len) (kinds_of first) 0 ws kinds₀)
   unfolding run tally kind_notes
   at-surplus l = let a = at-end (get_or ws at 0 ∷ drop (suc at) ws) (drop-cons ws at 0 l) in (a.0, a.1, λ e. a.2)
 
-  pub at-whole : length ws ≤ at → (Tree ≡ run (within len) (kinds_of first) 0 ws) × (counts ≡ tally (within len) (marked (kinds_of first) none) 0 ws counts₀)
-      × (Tree ≡ Tree → kinds ≡ kind_notes (within len) (kinds_of first) 0 ws kinds₀)
+  pub at-whole : length ws ≤ at → (one_tree ≡ run (within len) (kinds_of first) 0 ws) × (counts ≡ tally (within len) (marked (kinds_of first) none) 0 ws counts₀)
+      × (one_tree ≡ one_tree → kinds ≡ kind_notes (within len) (kinds_of first) 0 ws kinds₀)
   unfolding run tally kind_notes
   at-whole l = let a = at-end [] (drop_of_length-le ws l) in (a.0, a.1, λ e. a.2)

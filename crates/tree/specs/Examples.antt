@@ -1,14 +1,15 @@
 -- Closed examples, by computation: words of trees, and tables with their answers.
+use Rattle.std.specs.Prelude.{Err}
 use Rattle.std.specs.Prelude.{ℕ, ◌+◌, ◌≡◌, refl, false, List, [], ◌∷◌, get_or, drop, replicate}
 use Rattle.std.proofs.Math.Option.{some}
 use Rattle.tree.specs.Ast.{Span, Expr, Exprs, Operator, OperatorExpr, IdExpr, ILiteral, Plus, no_exprs, ◌then◌, Return, no_a_exprs, InOut}
 use Rattle.tree.specs.Resolve.{part, resolve_expr}
 use Rattle.tree.specs.Words.{expr_words, program_words, operator_word, exprs_words}
 use Rattle.tree.specs.Kind.{expr}
-use Rattle.tree.specs.Check.{run, check_expression, check_program}
+use Rattle.tree.specs.Check.{one_tree, run, check_expression, check_program}
 use Rattle.tree.specs.Trees.{spans, words}
 use Rattle.tree.specs.Walk.{tree-at-word}
-use Rattle.tree.specs.declared.Checked.TheVariants.{Tree, Misfit, TooLong}
+use Rattle.tree.specs.declared.CheckError.TheVariants.{Misfit, TooLong}
 
 abbrev span : ℕ → ℕ → Span
 span s l = record { start = s; len = l }
@@ -23,16 +24,16 @@ p11 = 5 ∷ 10 ∷ 1 ∷ 4 ∷ 0 ∷ 1 ∷ 0 ∷ 1 ∷ 2 ∷ 0 ∷ 1 ∷ 0 ∷ [
 p11-words : expr_words (λ s. s) a+1 [] ≡ p11
 p11-words = refl
 
-p11-tree : check_expression p11 5 ≡ Tree
+p11-tree : check_expression p11 5 ≡ one_tree
 unfolding check_expression run
 p11-tree = refl
 
 -- over the empty text its name misfits, at the name's first word; cut off, the word count is the place
-p11-name : check_expression p11 0 ≡ Misfit 4
+p11-name : check_expression p11 0 ≡ Err (Misfit 4)
 unfolding check_expression run
 p11-name = refl
 
-p11-cut : check_expression (5 ∷ 10 ∷ 1 ∷ 4 ∷ 9 ∷ []) 5 ≡ Misfit 5
+p11-cut : check_expression (5 ∷ 10 ∷ 1 ∷ 4 ∷ 9 ∷ []) 5 ≡ Err (Misfit 5)
 unfolding check_expression run
 p11-cut = refl
 
@@ -42,28 +43,28 @@ unfolding part
 p11-resolved = refl
 
 -- P12: the empty program; a word more
-empty-program : check_program (0 ∷ 0 ∷ 0 ∷ 0 ∷ 0 ∷ []) 4 ≡ Tree
+empty-program : check_program (0 ∷ 0 ∷ 0 ∷ 0 ∷ 0 ∷ []) 4 ≡ one_tree
 unfolding check_program run
 empty-program = refl
 
-surplus-word : check_program (0 ∷ 0 ∷ 0 ∷ 0 ∷ 0 ∷ 0 ∷ []) 4 ≡ Misfit 5
+surplus-word : check_program (0 ∷ 0 ∷ 0 ∷ 0 ∷ 0 ∷ 0 ∷ []) 4 ≡ Err (Misfit 5)
 unfolding check_program run
 surplus-word = refl
 
 -- a bool, an operator, a sequence's mark, an expression's and a statement's word that are none
-no_bool : check_expression (1 ∷ 2 ∷ []) 0 ≡ Misfit 1
+no_bool : check_expression (1 ∷ 2 ∷ []) 0 ≡ Err (Misfit 1)
 unfolding check_expression run
 no_bool = refl
 
-no-operator : check_expression (5 ∷ 17 ∷ 0 ∷ []) 0 ≡ Misfit 1
+no-operator : check_expression (5 ∷ 17 ∷ 0 ∷ []) 0 ≡ Err (Misfit 1)
 unfolding check_expression run
 no-operator = refl
 
-no-mark : check_expression (5 ∷ 10 ∷ 2 ∷ []) 0 ≡ Misfit 2
+no-mark : check_expression (5 ∷ 10 ∷ 2 ∷ []) 0 ≡ Err (Misfit 2)
 unfolding check_expression run
 no-mark = refl
 
-no-expr : check_expression (37 ∷ []) 0 ≡ Misfit 0
+no-expr : check_expression (37 ∷ []) 0 ≡ Err (Misfit 0)
 unfolding check_expression run
 no-expr = refl
 
@@ -92,19 +93,19 @@ procedure-words :
     ≡ procedure_with 2 37
 procedure-words = refl
 
-procedure-tree : check_program (procedure_with 2 37) 65 ≡ Tree
+procedure-tree : check_program (procedure_with 2 37) 65 ≡ one_tree
 unfolding check_program run
 procedure-tree = refl
 
-no_mode : check_program (procedure_with 4 37) 65 ≡ Misfit 10
+no_mode : check_program (procedure_with 4 37) 65 ≡ Err (Misfit 10)
 unfolding check_program run
 no_mode = refl
 
-no-stmt : check_program (procedure_with 2 39) 65 ≡ Misfit 21
+no-stmt : check_program (procedure_with 2 39) 65 ≡ Err (Misfit 21)
 unfolding check_program run
 no-stmt = refl
 
-too_long : check_expression (replicate 16385 0) 0 ≡ TooLong
+too_long : check_expression (replicate 16385 0) 0 ≡ Err TooLong
 unfolding check_expression
 too_long = refl
 

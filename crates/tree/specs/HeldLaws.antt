@@ -1,4 +1,5 @@
 -- What a table holds by what the check says of it.
+use Rattle.std.specs.Prelude.{Ok, Err}
 use Rattle.std.specs.Prelude.{ℕ, ◌≤◌, ◌<◌, ◌≡◌, Bool, ◌&&◌, List, [], ◌∷◌, length, leb}
 use Rattle.std.proofs.Common.{arith, leb-true, leb-false, le-leb}
 use Rattle.std.proofs.Math.Path.{refl, ap}
@@ -9,14 +10,13 @@ use Rattle.tree.specs.Clash.{impossible}
 use Rattle.tree.specs.Limits.{most_text, most_words}
 use Rattle.tree.specs.Ast.{Expr, Program}
 use Rattle.tree.specs.Kind.{expr, program_fields}
-use Rattle.tree.specs.Check.{NameIn, Refusal, check_expression, check_program, refusal as check_refusal, expression_refusal, program_refusal, oversized, misfitting}
+use Rattle.tree.specs.Check.{Checked, NameIn, Refusal, check_expression, check_program, refusal as check_refusal, expression_refusal, program_refusal, oversized, misfitting}
 use Rattle.tree.specs.Trees.{Trees, names_in}
 use Rattle.tree.specs.Accepted.{unique}
 use Rattle.tree.specs.Tables.{to_program, from_program}
 use Rattle.tree.specs.Refused.{expression-too-many, expression-misfit, program-too-many, program-misfit}
 use Rattle.tree.specs.Held.{TableKind, expression_tables, program_tables, Held, held, refused, tree_of, held_checked, held_by, program_held, Holds, HoldsProgram, InLimits}
-use Rattle.tree.specs.declared.Checked.{Checked}
-use Rattle.tree.specs.declared.Checked.TheVariants.{Tree, Misfit, TooLong}
+use Rattle.tree.specs.declared.CheckError.TheVariants.{Misfit, TooLong}
 
 -- ---- the two kinds of table
 
@@ -118,12 +118,12 @@ module _ (K : TableKind) (L : Lawful K) (others : Bool) (text words : List ℕ) 
     (kept : within → InLimits text words × (others ≡ true)) where
   -- by the check's answer
   of-check : length text ≤ most_text → others ≡ true → (c : Checked) → K.refused words ≡ check_refusal c → Table K within words (held_by K others text words)
-  of-check ht ho Tree h =
+  of-check ht ho (Ok u) h =
       let a = (K.unrefused words).0 h in
       rw (holds K text words L a.1.0 a.1.1 ht a.0 ho) (tree (keeps (record { text-fits = ht; words-fit = a.0 }) ho) a.1.0 a.1.1)
-  of-check ht ho (Misfit place) h =
+  of-check ht ho (Err (Misfit place)) h =
       rw (refuses K text words ht ho _ h) (misfit (keeps (record { text-fits = ht; words-fit = L.misfit words place h }) ho) place h)
-  of-check ht ho TooLong h =
+  of-check ht ho (Err TooLong) h =
       let k = L.too_many words h in
       rw (refuses K text words ht ho _ h) (over (λ w. let f = (kept w).0.words-fit in omega arith))
 

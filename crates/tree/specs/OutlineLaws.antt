@@ -1,5 +1,6 @@
 -- Laws of the outline of a table that the check accepts, for whoever walks it with its kinds and ends: what is expected at a place
 -- (`Expects`), and from there at the fields of what stands there, and behind it.
+use Rattle.std.specs.Prelude.{Err}
 use Prim.Native.Nat.{ℕ, zero, suc, ◌+◌, ◌-◌, ◌≤◌, ◌<◌}
 use native.Mathlib.Omega.{arith}
 use Rattle.std.specs.Prelude.{◌≡◌, Bool, get_or}
@@ -10,10 +11,10 @@ use Rattle.std.proofs.Math.ListN.{length, drop}
 use Rattle.tree.specs.Clash.{impossible}
 use Rattle.tree.specs.Kind.{Kind, Turn, fits, misfit, turn}
 use Rattle.tree.specs.KindNumbers.{kind_number}
-use Rattle.tree.specs.Check.{run}
+use Rattle.tree.specs.Check.{Checked, one_tree, run}
 use Rattle.tree.specs.Walk.{head_at}
 use Rattle.tree.specs.Outline.{extent, kind_numbers, end_places, filled}
-use Rattle.tree.specs.declared.Checked.TheVariants.{Tree, Misfit}
+use Rattle.tree.specs.declared.CheckError.TheVariants.{Misfit}
 
 module _ (inside : ℕ → ℕ → Bool) where
   -- behind the first `count` words, at the place `next`, the check goes on with the kinds ls, and so do the numbers and the ends
@@ -21,7 +22,7 @@ module _ (inside : ℕ → ℕ → Bool) where
     pub next : ℕ
     pub place : next ≡ at + count
     pub short : count ≤ length ws
-    pub goes : run inside ls next (drop count ws) ≡ Tree
+    pub goes : run inside ls next (drop count ws) ≡ one_tree
     pub both : (ms : List Kind) → total ms ≡ count + extent inside ms (drop count ws)
     pub kinds-on : drop count kinds ≡ kind_numbers inside ls (drop count ws)
     pub ends_on : drop count ends ≡ end_places inside ls next (drop count ws)
@@ -31,7 +32,7 @@ module _ (inside : ℕ → ℕ → Bool) where
   BehindKinds ks ls at ws = Behind ls at ws (extent inside ks ws) (λ ms. extent inside (ks ++ ms) ws) (kind_numbers inside (ks ++ ls) ws) (end_places inside (ks ++ ls) at ws)
 
   -- as many as there are words
-  pub lengths : (ks : List Kind) (at : ℕ) (ws : List ℕ) → run inside ks at ws ≡ Tree
+  pub lengths : (ks : List Kind) (at : ℕ) (ws : List ℕ) → run inside ks at ws ≡ one_tree
       → (length (kind_numbers inside ks ws) ≡ length ws) × (length (end_places inside ks at ws) ≡ length ws)
   unfolding run kind_numbers end_places
   lengths [] at [] e = (refl, refl)
@@ -39,8 +40,8 @@ module _ (inside : ℕ → ℕ → Bool) where
   lengths (k ∷ ks) at [] e = impossible cc
   lengths (k ∷ ks) at (w ∷ ws) e = by_turn (turn inside k w) e (λ fs. lengths (fs ++ ks) (suc at) ws)
     where
-      by_turn : (u : Turn) → elim u [ fits fs ↦ run inside (fs ++ ks) (suc at) ws | misfit back ↦ Misfit (at - back) ] ≡ Tree
-          → ((fs : List Kind) → run inside (fs ++ ks) (suc at) ws ≡ Tree
+      by_turn : (u : Turn) → ◌≡◌ {A = Checked} (elim u [ fits fs ↦ run inside (fs ++ ks) (suc at) ws | misfit back ↦ Err (Misfit (at - back)) ]) one_tree
+          → ((fs : List Kind) → run inside (fs ++ ks) (suc at) ws ≡ one_tree
           → (length (kind_numbers inside (fs ++ ks) ws) ≡ length ws) × (length (end_places inside (fs ++ ks) (suc at) ws) ≡ length ws))
           → (suc (length {A = ℕ} (elim u [ fits fs ↦ kind_numbers inside (fs ++ ks) ws | misfit back ↦ [] ])) ≡ suc (length ws))
           × (suc (length {A = ℕ} (elim u [ fits fs ↦ end_places inside (fs ++ ks) (suc at) ws | misfit back ↦ [] ])) ≡ suc (length ws))
@@ -68,7 +69,7 @@ module _ (inside : ℕ → ℕ → Bool) where
   extent-none [] = refl
   extent-none (w ∷ ws) = refl
 
-  pub behind : (ks ls : List Kind) (at : ℕ) (ws : List ℕ) → run inside (ks ++ ls) at ws ≡ Tree → BehindKinds ks ls at ws
+  pub behind : (ks ls : List Kind) (at : ℕ) (ws : List ℕ) → run inside (ks ++ ls) at ws ≡ one_tree → BehindKinds ks ls at ws
   unfolding run extent kind_numbers end_places
   behind [] ls at [] e = record { next = at; place = omega arith; short = omega arith; goes = e; both = λ ms. omega arith; kinds-on = refl; ends_on = refl }
   behind [] ls at (w ∷ ws) e = record { next = at; place = omega arith; short = omega arith; goes = e; both = λ ms. omega arith; kinds-on = refl; ends_on = refl }
@@ -76,8 +77,8 @@ module _ (inside : ℕ → ℕ → Bool) where
   behind (k ∷ ks) ls at (w ∷ ws) e =
       by_turn (turn inside k w) (at + extent inside (k ∷ []) (w ∷ ws)) e (λ fs h. behind (fs ++ ks) ls (suc at) ws h)
     where
-      by_turn : (u : Turn) (end : ℕ) → elim u [ fits fs ↦ run inside (fs ++ (ks ++ ls)) (suc at) ws | misfit back ↦ Misfit (at - back) ] ≡ Tree
-          → ((fs : List Kind) → run inside ((fs ++ ks) ++ ls) (suc at) ws ≡ Tree → BehindKinds (fs ++ ks) ls (suc at) ws)
+      by_turn : (u : Turn) (end : ℕ) → ◌≡◌ {A = Checked} (elim u [ fits fs ↦ run inside (fs ++ (ks ++ ls)) (suc at) ws | misfit back ↦ Err (Misfit (at - back)) ]) one_tree
+          → ((fs : List Kind) → run inside ((fs ++ ks) ++ ls) (suc at) ws ≡ one_tree → BehindKinds (fs ++ ks) ls (suc at) ws)
           → Behind ls at (w ∷ ws) (elim u [ fits fs ↦ suc (extent inside (fs ++ ks) ws) | misfit back ↦ 0 ])
           (λ ms. elim u [ fits fs ↦ suc (extent inside (fs ++ (ks ++ ms)) ws) | misfit back ↦ 0 ])
           (kind_number k ∷ elim u [ fits fs ↦ kind_numbers inside (fs ++ (ks ++ ls)) ws | misfit back ↦ [] ])
@@ -100,12 +101,12 @@ module _ (inside : ℕ → ℕ → Bool) (ks₀ : List Kind) (table : List ℕ) 
   -- In a table where the kinds ks₀ are expected at the start, the kinds ks are expected at a place, and the check accepts the rest.
   pub record Expects (at : ℕ) (ks : List Kind) : Type 0 where
     pub within-table : at ≤ length table
-    pub goes : run inside ks at (drop at table) ≡ Tree
+    pub goes : run inside ks at (drop at table) ≡ one_tree
     pub kinds-at : drop at (kind_numbers inside ks₀ table) ≡ kind_numbers inside ks (drop at table)
     pub ends_at : drop at (end_places inside ks₀ 0 table) ≡ end_places inside ks at (drop at table)
 
   -- at the start
-  pub expects-start : run inside ks₀ 0 table ≡ Tree → Expects 0 ks₀
+  pub expects-start : run inside ks₀ 0 table ≡ one_tree → Expects 0 ks₀
   expects-start e = record { within-table = omega arith; goes = e; kinds-at = refl; ends_at = refl }
 
   -- behind what stands for the first kinds the others are expected
@@ -137,7 +138,7 @@ module _ (inside : ℕ → ℕ → Bool) (ks₀ : List Kind) (table : List ℕ) 
   word_at at k ks x = by-words (drop at table) refl x.goes x.kinds-at x.ends_at
     where
       by_turn : (w : ℕ) (ws : List ℕ) → drop at table ≡ w ∷ ws → (u : Turn) → turn inside k w ≡ u
-          → elim u [ fits fs ↦ run inside (fs ++ ks) (suc at) ws | misfit back ↦ Misfit (at - back) ] ≡ Tree
+          → ◌≡◌ {A = Checked} (elim u [ fits fs ↦ run inside (fs ++ ks) (suc at) ws | misfit back ↦ Err (Misfit (at - back)) ]) one_tree
           → drop at (kind_numbers inside ks₀ table) ≡ kind_number k ∷ elim u [ fits fs ↦ kind_numbers inside (fs ++ ks) ws | misfit back ↦ [] ]
           → drop at (end_places inside ks₀ 0 table) ≡ (at + extent inside (k ∷ []) (w ∷ ws)) ∷ elim u [ fits fs ↦ end_places inside (fs ++ ks) (suc at) ws | misfit back ↦ [] ]
           → extent inside (k ∷ []) (w ∷ ws) ≡ elim u [ fits fs ↦ suc (extent inside (fs ++ []) ws) | misfit back ↦ 0 ] → Word at k ks
@@ -166,7 +167,7 @@ module _ (inside : ℕ → ℕ → Bool) (ks₀ : List Kind) (table : List ℕ) 
                 ∙ ap (λ (l : List ℕ). suc (extent inside fs l)) (sym r);
           }
 
-      by-words : (ws : List ℕ) → drop at table ≡ ws → run inside (k ∷ ks) at ws ≡ Tree → drop at (kind_numbers inside ks₀ table) ≡ kind_numbers inside (k ∷ ks) ws
+      by-words : (ws : List ℕ) → drop at table ≡ ws → run inside (k ∷ ks) at ws ≡ one_tree → drop at (kind_numbers inside ks₀ table) ≡ kind_numbers inside (k ∷ ks) ws
           → drop at (end_places inside ks₀ 0 table) ≡ end_places inside (k ∷ ks) at ws → Word at k ks
       by-words [] e g a b = impossible cc
       by-words (w ∷ ws) e g a b = by_turn w ws e (turn inside k w) refl g a b refl
@@ -175,11 +176,11 @@ module _ (inside : ℕ → ℕ → Bool) (ks₀ : List Kind) (table : List ℕ) 
   pub not-over : (at : ℕ) → at < length table → Expects at [] → ⊥
   unfolding run
   not-over at h x =
-      let g : run inside [] at (get_or table at 0 ∷ drop (suc at) table) ≡ Tree = ap (run inside [] at) (sym (drop-cons table at 0 h)) ∙ x.goes in
+      let g : run inside [] at (get_or table at 0 ∷ drop (suc at) table) ≡ one_tree = ap (run inside [] at) (sym (drop-cons table at 0 h)) ∙ x.goes in
       impossible cc
 
   -- so what is expected is known at each place
-  pub expects-at : run inside ks₀ 0 table ≡ Tree → (at : ℕ) → at ≤ length table → (ks : List Kind) × Expects at ks
+  pub expects-at : run inside ks₀ 0 table ≡ one_tree → (at : ℕ) → at ≤ length table → (ks : List Kind) × Expects at ks
   expects-at e zero h = (ks₀, expects-start e)
   expects-at e (suc at) h = by-kinds (expects-at e at (omega arith))
     where

@@ -12,11 +12,10 @@ pub mod word;
 
 ghost use Rattle.std.specs.Prelude.{◌≡◌, ◌+◌, ◌*◌, ◌^◌, get_or};
 ghost use Rattle.tree.specs.Resolve.{part};
-ghost use Rattle.tree.specs.Check.{within, check as check_of, refusal, expression_refusal, program_refusal};
+ghost use Rattle.tree.specs.Check.{within, check as check_of, error_number, error_place, refusal, expression_refusal, program_refusal};
 ghost use Rattle.tree.specs.Rows.{kinds_of};
 ghost use Rattle.tree.specs.Outline.{program_kinds, program_ends};
 ghost use Rattle.tree.specs.Notes.{kind_notes};
-ghost use Rattle.tree.specs.declared.Checked.TheVariants.{Tree};
 ghost use Rattle.tree.specs.Tally.{counts as counts_of, expression_counts, program_counts};
 
 use kind::EXPR;
@@ -34,19 +33,39 @@ pub const OVERSIZED: u64 = 6;
 
 pub const MISFITTING: u64 = 7;
 
-// What the check of a table finds.
-#[derive(Clone, Copy)]
-pub enum Checked {
-    // The words are one tree.
-    Tree,
+// Why a table is refused.
+#[derive(Clone, Copy, PartialEq, Eq, Debug)]
+pub enum CheckError {
     // The words aren't one tree; the place is that of refusal 7.
     Misfit(usize),
     // There are more than `MOST_WORDS` words.
     TooLong,
 }
 
+impl CheckError {
+    // The number of the refusal.
+    pub fn number(self) -> u64
+        ensures { result ≡ error_number self }
+    {
+        match self {
+            CheckError::Misfit(_) => MISFITTING,
+            CheckError::TooLong => OVERSIZED,
+        }
+    }
+
+    // Its place.
+    pub fn place(self) -> usize
+        ensures { result ≡ error_place self }
+    {
+        match self {
+            CheckError::Misfit(place) => place,
+            CheckError::TooLong => 0,
+        }
+    }
+}
+
 // Whether the words are one expression over a text of that length.
-pub fn check_expression(words: &[u32], text_len: usize) -> Checked
+pub fn check_expression(words: &[u32], text_len: usize) -> Result<(), CheckError>
     ensures { refusal result ≡ expression_refusal words.now text_len }
 {
     let mut counts = [0u16; 1];
@@ -54,7 +73,7 @@ pub fn check_expression(words: &[u32], text_len: usize) -> Checked
 }
 
 // Whether the words are one program over a text of that length.
-pub fn check_program(words: &[u32], text_len: usize) -> Checked
+pub fn check_program(words: &[u32], text_len: usize) -> Result<(), CheckError>
     ensures { refusal result ≡ program_refusal words.now text_len }
 {
     let mut counts = [0u16; 1];
@@ -62,7 +81,11 @@ pub fn check_program(words: &[u32], text_len: usize) -> Checked
 }
 
 // The same; and at the place where a sequence of the expression starts, `counts` gets the number of its items.
-pub fn count_expression(words: &[u32], text_len: usize, counts: &mut [u16]) -> Checked
+pub fn count_expression(
+    words: &[u32],
+    text_len: usize,
+    counts: &mut [u16],
+) -> Result<(), CheckError>
     ensures { (refusal result ≡ expression_refusal words.now text_len) × (counts.new ≡ expression_counts words.now text_len counts.old) }
 {
     let mut kinds = [0u16; 1];
@@ -70,7 +93,7 @@ pub fn count_expression(words: &[u32], text_len: usize, counts: &mut [u16]) -> C
 }
 
 // The same of a program.
-pub fn count_program(words: &[u32], text_len: usize, counts: &mut [u16]) -> Checked
+pub fn count_program(words: &[u32], text_len: usize, counts: &mut [u16]) -> Result<(), CheckError>
     ensures { (refusal result ≡ program_refusal words.now text_len) × (counts.new ≡ program_counts words.now text_len counts.old) }
 {
     let mut kinds = [0u16; 1];
@@ -84,23 +107,17 @@ pub fn outline_program(
     text_len: usize,
     kinds: &mut [u16],
     ends: &mut [u16],
-) -> Checked
+) -> Result<(), CheckError>
     ensures { (refusal result ≡ program_refusal words.now text_len) × (kinds.new ≡ program_kinds words.now text_len kinds.old) × (ends.new ≡ program_ends words.now text_len ends.old) }
 {
     let mut counts = [0u16; 1];
     let mut noted = blank();
-    let checked = count(words, text_len, PROGRAM, &mut counts, &mut noted);
-    match checked {
-        Checked::Tree => {
-            let mut found = blank();
-            find_ends(words, &noted, &mut found);
-            fill(&noted, words.len(), kinds);
-            fill(&found, words.len(), ends);
-            Checked::Tree
-        }
-        Checked::Misfit(place) => Checked::Misfit(place),
-        Checked::TooLong => Checked::TooLong,
-    }
+    count(words, text_len, PROGRAM, &mut counts, &mut noted)?;
+    let mut found = blank();
+    find_ends(words, &noted, &mut found);
+    fill(&noted, words.len(), kinds);
+    fill(&found, words.len(), ends);
+    Ok(())
 }
 
 // A small table takes a small stack.
@@ -110,8 +127,8 @@ fn count(
     first: u32,
     counts: &mut [u16],
     kinds: &mut [u16],
-) -> Checked
-    ensures { (result ≡ check_of (kinds_of first) words.now text_len) × (counts.new ≡ counts_of (kinds_of first) words.now text_len counts.old) × (result ≡ Tree → kinds.new ≡ kind_notes (within text_len) (kinds_of first) 0 words.now kinds.old) }
+) -> Result<(), CheckError>
+    ensures { (result ≡ check_of (kinds_of first) words.now text_len) × (counts.new ≡ counts_of (kinds_of first) words.now text_len counts.old) × (result ≡ Ok tt → kinds.new ≡ kind_notes (within text_len) (kinds_of first) 0 words.now kinds.old) }
 {
     if words.len() < 256 {
         let mut stack = [0u64; 256];
@@ -121,7 +138,7 @@ fn count(
         let mut stack = [0u64; MOST_WORDS + 1];
         return walk(words, text_len, first, &mut stack, counts, kinds);
     }
-    Checked::TooLong
+    Err(CheckError::TooLong)
 }
 
 // The word at a place; 0 past the end.

@@ -7,7 +7,7 @@ ghost use Rattle.tree.specs.Outline.{filled};
 ghost use Rattle.tree.specs.Notes.{note_kind, fields_end, end_at, end_notes};
 
 use crate::kind::{NAME, SECOND_WORD};
-use crate::rows::{BASE, Fit, turn};
+use crate::rows::{BASE, turn};
 use crate::{MOST_WORDS, get};
 
 // The number that is noted for a digit of a row: 0 is taken for BOOL, and 29 to 31 for NATURAL.
@@ -79,10 +79,9 @@ fn end_of(words: &[u32], kinds: &[u16], ends: &[u16], at: usize) -> u16
     if NAME <= kind {
         return note_at(ends, second);
     }
-    let f = turn(kind, get(words, at));
-    match f {
-        Fit::Row(row) => after_fields(ends, row, next),
-        Fit::Misfit => next,
+    match turn(kind, get(words, at)) {
+        Some(row) => after_fields(ends, row, next),
+        None => next,
     }
 }
 

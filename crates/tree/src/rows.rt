@@ -135,16 +135,8 @@ pub(crate) fn is_sequence(kind: u32) -> bool
     kind <= PROCEDURES
 }
 
-// What a word says where a kind is expected.
-#[derive(Clone, Copy)]
-pub(crate) enum Fit {
-    // The row of its fields.
-    Row(u32),
-    Misfit,
-}
-
-// What a word says at a kind of those before NAME; 0, which no row holds, is taken for BOOL.
-pub(crate) fn turn(kind: u32, word: u32) -> Fit
+// The row of a word's fields at a kind of those before NAME, where the word fits; 0, which no row holds, is taken for BOOL.
+pub(crate) fn turn(kind: u32, word: u32) -> Option<u32>
     requires { kind < 27 }
     ensures { (inside : ℕ → ℕ → Bool) → as_turn result ≡ turn_of inside (kind_of kind) word }
 {
@@ -162,47 +154,45 @@ pub(crate) fn turn(kind: u32, word: u32) -> Fit
 }
 
 // A kind of `count` words from `first` on, none with fields.
-fn leaf_turn(word: u32, first: u32, count: u32) -> Fit
+fn leaf_turn(word: u32, first: u32, count: u32) -> Option<u32>
     ensures { as_turn result ≡ tagged first (replicate count []) word }
 {
     if word < first {
-        return Fit::Misfit;
+        return None;
     }
     if word - first < count {
-        return Fit::Row(0);
+        return Some(0);
     }
-    Fit::Misfit
+    None
 }
 
 // A kind of `count` words from `first` on, whose rows are those from `base` on.
-fn row_turn(word: u32, first: u32, count: u32, base: u32) -> Fit
+fn row_turn(word: u32, first: u32, count: u32, base: u32) -> Option<u32>
     requires { base + count ≤ 30 }
     ensures { as_turn result ≡ tagged first (take count (drop base constructor_rows)) word }
 {
     if word < first {
-        return Fit::Misfit;
+        return None;
     }
     let n = word - first;
     if count <= n {
-        return Fit::Misfit;
+        return None;
     }
     let i = (base + n) as usize;
-    let row = ROWS[i];
-    Fit::Row(row)
+    Some(ROWS[i])
 }
 
 // An option or a sequence: 0 at its end, 1 before what it holds.
-fn content_turn(kind: u32, word: u32) -> Fit
+fn content_turn(kind: u32, word: u32) -> Option<u32>
     requires { (6 < kind) × (kind < 27) }
     ensures { (inside : ℕ → ℕ → Bool) → as_turn result ≡ turn_of inside (kind_of kind) word }
 {
     if word == NO_MORE {
-        return Fit::Row(0);
+        return Some(0);
     }
     if MORE < word {
-        return Fit::Misfit;
+        return None;
     }
     let i = (kind - 7) as usize;
-    let row = CONTENT_ROWS[i];
-    Fit::Row(row)
+    Some(CONTENT_ROWS[i])
 }

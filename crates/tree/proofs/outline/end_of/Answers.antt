@@ -13,14 +13,14 @@ returns-then-kind-eq-SECOND_WORD c = let a = c.args in end-second a.words.now a.
 pub returns-then-kind-ge-NAME : goal.returns-then-kind-ge-NAME
 returns-then-kind-ge-NAME c = let a = c.args in end-pair a.words.now a.kinds.now a.ends.now a.at c.note_at-kind.ensures c.if-kind-ge-NAME.true c.note_at.ensures
 
-pub returns-in-Row : goal.returns-in-Row
-returns-in-Row c =
+pub returns-in-Some : goal.returns-in-Some
+returns-in-Some c =
     let a = c.args in
     end_row a.words.now a.kinds.now a.ends.now a.at c.note_at-kind.ensures (fits (kinds_of _)) c.if-kind-eq-SECOND_WORD.false (omega arith) c.get.ensures
-    (ap as_turn (sym c.in-Row.is) ∙ c.turn-f.ensures (λ s l. true)) c.after_fields.ensures
+    (c.in-Some.ensures (λ s l. true)) c.after_fields.ensures
 
-pub returns-in-Misfit : goal.returns-in-Misfit
-returns-in-Misfit c =
+pub returns-in-None : goal.returns-in-None
+returns-in-None c =
     let a = c.args in
     end_row a.words.now a.kinds.now a.ends.now a.at c.note_at-kind.ensures (misfit 0) c.if-kind-eq-SECOND_WORD.false (omega arith) c.get.ensures
-    (ap as_turn (sym c.in-Misfit.is) ∙ c.turn-f.ensures (λ s l. true)) refl
+    (c.in-None.ensures (λ s l. true)) refl

@@ -28,14 +28,12 @@ pub returns-then-kind-gt-NAME : goal.returns-then-kind-gt-NAME
 returns-then-kind-gt-NAME c =
     rw (kind-natural c.args.kind (omega arith) (omega arith)) (c.natural_step.ensures c.args.text_len)
 
-pub returns-in-Row : goal.returns-in-Row
-returns-in-Row c =
+pub returns-in-Some : goal.returns-in-Some
+returns-in-Some c =
     let a = c.args in
-    row_fits a.text_len a.words.now a.at (kind_of a.kind) _ c.get.result (omega arith) c.get.ensures
-    (ap as_turn (sym c.in-Row.is) ∙ c.turn-f.ensures (within a.text_len))
+    row_fits a.text_len a.words.now a.at (kind_of a.kind) _ c.get.result (omega arith) c.get.ensures (c.in-Some.ensures (within a.text_len))
 
-pub returns-in-Misfit : goal.returns-in-Misfit
-returns-in-Misfit c =
+pub returns-in-None : goal.returns-in-None
+returns-in-None c =
     let a = c.args in
-    row-misfits a.text_len a.words.now a.at (kind_of a.kind) c.get.result (omega arith) c.get.ensures
-    (ap as_turn (sym c.in-Misfit.is) ∙ c.turn-f.ensures (within a.text_len))
+    row-misfits a.text_len a.words.now a.at (kind_of a.kind) c.get.result (omega arith) c.get.ensures (c.in-None.ensures (within a.text_len))
