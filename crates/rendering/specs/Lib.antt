@@ -1,11 +1,5 @@
--- The code that prints, held to the prints of the crate `layout`: what is asked of each function, and what is proved of `render`.
+-- The code that prints.
 pub mod Tables
-pub mod TableLaws
-pub mod Render
-pub mod Claims
 pub mod Wrote
-pub mod OperatorWords
 pub mod Parts
 pub mod ExprParts
-pub mod StmtParts
-pub mod DeclParts

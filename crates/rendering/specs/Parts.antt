@@ -1,5 +1,5 @@
 -- What the functions that print the words at a place of a table do: the place after those words, and the print of the tree that they are.
-use Rattle.std.specs.Prelude.{ℕ, ◌≤◌, ◌<◌, ◌≡◌, Bool, List, [], ◌∷◌, length, drop, get_or}
+use Rattle.std.specs.Prelude.{ℕ, ◌+◌, ◌≤◌, ◌<◌, ◌≡◌, Bool, List, [], ◌∷◌, length, drop, get_or, eqb}
 use Rattle.std.proofs.Math.Option.{Option}
 use Rattle.lexing.specs.Bytes.{bytes}
 use Rattle.tree.specs.Ast.{Binding, Expr}
@@ -8,10 +8,11 @@ use Rattle.tree.specs.Check.{NameIn}
 use Rattle.layout.specs.declared.power.Side.TheVariants.{Left}
 use Rattle.layout.specs.declared.power.BindingPower.{BindingPower}
 use Rattle.layout.specs.declared.format.ExprFormatOption.{ExprFormatOption}
-use Rattle.rendering.specs.declared.parts.Advance.{Advance}
 use Rattle.layout.specs.Text.{◌▹◌, ◌▸◌, decimal}
 use Rattle.layout.specs.PrintUtil.{EndlessOperator, Parenthesis}
 use Rattle.layout.specs.Printer.{bool_text, old_text, quantifier_text, IdTypeDecl, Bindings, parameters, Expression, is_if}
+use Rattle.rendering.specs.declared.printer.Printer.{Printer}
+use Rattle.rendering.specs.declared.printer.Source.{Source}
 use Rattle.rendering.specs.Tables.{name_in}
 use Rattle.rendering.specs.Wrote.{Wrote}
 
@@ -22,168 +23,105 @@ pub record Part : Type 1 where
   pub words : Tree → List ℕ → List ℕ
   pub print : Tree → List ℕ → List ℕ
 
--- a print X was written, and what follows its words in the table is `rest`
-pub record Done (table : List ℕ) (X : List ℕ → List ℕ) (rest b : List ℕ) (p : ℕ) (b' : List ℕ) (s : Advance) : Type 0 where
-  pub after : drop s.next table ≡ rest
-  pub wrote : Wrote X b p b' s.pos
+-- the parts of a source by their place
+abbrev pub Parts : Type 1
+Parts = Source → ℕ → Part
 
--- the tree at a place of the table was printed
-pub record Prints (P : Part) (table : List ℕ) (at : ℕ) (b : List ℕ) (p : ℕ) (b' : List ℕ) (s : Advance) : Type 0 where
-  pub forward : at ≤ s.next
-  pub prints : (t : P.Tree) (rest : List ℕ) → P.given t rest → drop at table ≡ P.words t rest → Done table (P.print t) rest b p b' s
+-- from a place of the table on a print X was written, and what follows its words is `rest`
+pub record Done (table : List ℕ) (X : List ℕ → List ℕ) (rest : List ℕ) (s s' : Printer) : Type 0 where
+  pub after : drop s'.at table ≡ rest
+  pub wrote : Wrote X s.out.now s.pos s'.out.now s'.pos
 
--- the place after a word; a place past the table stays
-pub record Next (table : List ℕ) (at next : ℕ) : Type 0 where
-  pub forward : at ≤ next
-  pub past : at < length table → at < next
-  pub after : (w : ℕ) (ws : List ℕ) → drop at table ≡ w ∷ ws → drop next table ≡ ws
+-- the tree at a place of a source was printed
+abbrev pub PrintsOf : Part → List ℕ → Printer → Printer → Type 0
+PrintsOf P table s s' =
+    (t : P.Tree) (rest : List ℕ) → P.given t rest → drop s.at table ≡ P.words t rest → Done table (P.print t) rest s s'
 
-abbrev pub a_bool : Part
-a_bool = record { Tree = Bool; given = λ _ _. Unit {0}; words = λ b rest. bool_word b ∷ rest; print = λ b rest. bool_text b ▸ rest }
+-- the same of the part that stands where a printer is
+abbrev pub Told : Parts → Printer → Printer → Type 0
+Told P s s' = PrintsOf (P s.source s.at) s.source.words.now s s'
 
-abbrev pub a_natural : Part
-a_natural = record { Tree = ℕ; given = λ _ _. Unit {0}; words = natural_words; print = decimal }
+pub record Prints (P : Parts) (s s' : Printer) : Type 0 where
+  pub source : s'.source ≡ s.source
+  pub output : s'.out.ghost_name ≡ s.out.ghost_name
+  pub forward : s.at ≤ s'.at
+  pub prints : Told P s s'
 
-module _ (text : List ℕ) where
-  abbrev N : Type 0
-  N = NameIn (length text)
+-- the next word was read; past the table's end it is 0, and the place stays
+pub record Reads (s : Printer) (w : ℕ) (s' : Printer) : Type 0 where
+  pub source : s'.source ≡ s.source
+  pub output : s'.out ≡ s.out
+  pub written : s'.pos ≡ s.pos
+  pub word : w ≡ get_or s.source.words.now s.at 0
+  pub forward : s.at ≤ s'.at
+  pub past : s.at < length s.source.words.now → s'.at ≡ s.at + 1
 
-  abbrev pub a_name : Part
-  a_name = record { Tree = N; given = λ _ _. Unit {0}; words = name_words (λ n. n.span); print = λ n rest. name_in text n ▹ rest }
+-- the word so many places after the next
+pub record Looks (s : Printer) (places w : ℕ) : Type 0 where
+  pub word : w ≡ get_or s.source.words.now (s.at + places) 0
 
-  -- a name and its type
-  abbrev pub typed_name : Part
-  typed_name =
-      record {
-        Tree = N × N;
-        given = λ _ _. Unit {0};
-        words = λ a rest. name_words (λ n. n.span) a.0 (name_words (λ n. n.span) a.1 rest);
-        print = λ a rest. name_in text a.0 ▹ ": " ▸ name_in text a.1 ▹ rest;
-      }
+-- whether the next word is 0: no content of an option, no item of a sequence stands here
+pub record Ends (s : Printer) (r : Bool) : Type 0 where
+  pub ends : r ≡ eqb (get_or s.source.words.now s.at 0) 0
 
-  abbrev pub id_type : Part
-  id_type =
-      record {
-        Tree = N × Option N;
-        given = λ _ _. Unit {0};
-        words = λ a rest. name_words (λ n. n.span) a.0 (option_words (name_words (λ n. n.span)) a.1 rest);
-        print = λ a rest. IdTypeDecl (name_in text) [] a.0 a.1 rest;
-      }
+-- the number that is noted for the next word's place
+pub record Counts (s : Printer) (n : ℕ) : Type 0 where
+  pub noted : n ≡ get_or s.source.counts.now s.at 0
 
-  abbrev pub bindings : List ℕ → Part
-  bindings prefix =
-      record {
-        Tree = List (Binding N);
-        given = λ _ _. Unit {0};
-        words = seq_words (binding_words (λ n. n.span));
-        print = λ bs rest. Bindings (name_in text) prefix bs rest;
-      }
+-- the names of a source's text, and a name as its part of it
+abbrev pub N : Source → Type 0
+N S = NameIn (length S.text.now)
 
-  -- a quantifier's Bool and bindings
-  abbrev pub quantified : Part
-  quantified =
-      record {
-        Tree = Bool × List (Binding N);
-        given = λ _ _. Unit {0};
-        words = λ a rest. bool_word a.0 ∷ seq_words (binding_words (λ n. n.span)) a.1 rest;
-        print = λ a rest. Bindings (name_in text) (bytes (quantifier_text a.0)) a.1 rest;
-      }
+abbrev pub named : (S : Source) → N S → List ℕ
+named S n = name_in S.text.now n
 
-  abbrev pub closure_parameters : Part
-  closure_parameters =
-      record {
-        Tree = List (Binding N);
-        given = λ _ _. Unit {0};
-        words = seq_words (binding_words (λ n. n.span));
-        print = λ bs rest. parameters (name_in text) bs rest;
-      }
+-- trees that need nothing
+abbrev pub free : {A : Source → Type 0} → ((S : Source) → A S → List ℕ → List ℕ) → ((S : Source) → A S → List ℕ → List ℕ) → Parts
+free {A} words print S at = record { Tree = A S; given = λ _ _. Unit {0}; words = words S; print = print S }
 
-  -- ---- the leaves, after their first word
+abbrev pub a_bool : Parts
+a_bool = free (λ S (b : Bool) rest. bool_word b ∷ rest) (λ S b rest. bool_text b ▸ rest)
 
-  abbrev pub custom_literal : Part
-  custom_literal =
-      record {
-        Tree = N × N;
-        given = λ _ _. Unit {0};
-        words = λ a rest. name_words (λ n. n.span) a.0 (name_words (λ n. n.span) a.1 rest);
-        print = λ a rest. "|" ▸ name_in text a.0 ▹ ": " ▸ name_in text a.1 ▹ "|" ▸ rest;
-      }
+abbrev pub a_natural : Parts
+a_natural = free (λ S. natural_words) (λ S. decimal)
 
-  abbrev pub identifier : Part
-  identifier =
-      record {
-        Tree = N × Bool;
-        given = λ _ _. Unit {0};
-        words = λ a rest. name_words (λ n. n.span) a.0 (bool_word a.1 ∷ rest);
-        print = λ a rest. old_text a.1 ▸ name_in text a.0 ▹ rest;
-      }
+abbrev pub a_name : Parts
+a_name = free (λ S. name_words {N = N S} (λ n. n.span)) (λ S n rest. named S n ▹ rest)
 
-  -- an expression without expressions in it, by any step, in any context and format
-  abbrev pub leaf : List ℕ → ℕ → Part
-  leaf table at =
-      record {
-        Tree = ℕ × Expr N × BindingPower × ExprFormatOption;
-        given = λ _ _. get_or table at 0 < 5;
-        words = λ a rest. expr_words (λ n. n.span) a.1 rest;
-        print = λ a rest. Expression (name_in text) a.0 a.1 a.2 a.3 rest;
-      }
+-- a name and text after it
+abbrev pub name_head : List ℕ → Parts
+name_head suffix = free (λ S. name_words {N = N S} (λ n. n.span)) (λ S n rest. named S n ▹ suffix ▹ rest)
 
-  -- whether an expression is an IfThenElse, of any number of operands
-  pub record IsIf (table : List ℕ) (at : ℕ) (r : Bool) : Type 0 where
-    pub tells : (t : Expr N) (rest : List ℕ) → drop at table ≡ expr_words (λ n. n.span) t rest → r ≡ is_if t
+-- a name and its type
+abbrev pub typed_name : Parts
+typed_name =
+    free (λ S (a : N S × N S) rest. name_words (λ n. n.span) a.0 (name_words (λ n. n.span) a.1 rest))
+    (λ S a rest. named S a.0 ▹ ": " ▸ named S a.1 ▹ rest)
 
-  -- ---- the beginnings of prints
+abbrev pub id_type : List ℕ → Parts
+id_type prefix =
+    free (λ S (a : N S × Option (N S)) rest. name_words (λ n. n.span) a.0 (option_words (name_words (λ n. n.span)) a.1 rest))
+    (λ S a rest. IdTypeDecl (named S) prefix a.0 a.1 rest)
 
-  -- of a label
-  abbrev pub label_head : BindingPower → Part
-  label_head context =
-      record {
-        Tree = N;
-        given = λ _ _. Unit {0};
-        words = name_words (λ n. n.span);
-        print = λ n rest. Parenthesis Left EndlessOperator context ▹ name_in text n ▹ ": " ▸ rest;
-      }
+abbrev pub bindings : List ℕ → Parts
+bindings prefix = free (λ S. seq_words (binding_words {N = N S} (λ n. n.span))) (λ S bs rest. Bindings (named S) prefix bs rest)
 
-  -- of a `val`
-  abbrev pub let_head : BindingPower → Part
-  let_head context =
-      record {
-        Tree = N × Option N;
-        given = λ _ _. Unit {0};
-        words = λ a rest. name_words (λ n. n.span) a.0 (option_words (name_words (λ n. n.span)) a.1 rest);
-        print = λ a rest. Parenthesis Left EndlessOperator context ▹ IdTypeDecl (name_in text) (bytes "val ") a.0 a.1 (" := " ▸ rest);
-      }
+-- a quantifier's Bool and bindings
+abbrev pub quantified : Parts
+quantified =
+    free (λ S (a : Bool × List (Binding (N S))) rest. bool_word a.0 ∷ seq_words (binding_words (λ n. n.span)) a.1 rest)
+    (λ S a rest. Bindings (named S) (bytes (quantifier_text a.0)) a.1 rest)
 
-  -- of a quantifier
-  abbrev pub quantifier_head : BindingPower → Part
-  quantifier_head context =
-      record {
-        Tree = Bool × List (Binding N);
-        given = λ _ _. Unit {0};
-        words = λ a rest. bool_word a.0 ∷ seq_words (binding_words (λ n. n.span)) a.1 rest;
-        print = λ a rest. Parenthesis Left EndlessOperator context ▹ Bindings (name_in text) (bytes (quantifier_text a.0)) a.1 rest;
-      }
+abbrev pub closure_parameters : Parts
+closure_parameters = free (λ S. seq_words (binding_words {N = N S} (λ n. n.span))) (λ S bs rest. parameters (named S) bs rest)
 
-  -- of a call
-  abbrev pub call_head : Part
-  call_head = record { Tree = N; given = λ _ _. Unit {0}; words = name_words (λ n. n.span); print = λ n rest. name_in text n ▹ "(" ▸ rest }
+-- ---- the leaves, after their first word
 
-  -- of a closure's binding
-  abbrev pub closure_head : List ℕ → Part
-  closure_head sep =
-      record {
-        Tree = N × List (Binding N);
-        given = λ _ _. Unit {0};
-        words = λ a rest. name_words (λ n. n.span) a.0 (seq_words (binding_words (λ n. n.span)) a.1 rest);
-        print = λ a rest. sep ▹ name_in text a.0 ▹ parameters (name_in text) a.1 (" := " ▸ rest);
-      }
+abbrev pub custom_literal : Parts
+custom_literal =
+    free (λ S (a : N S × N S) rest. name_words (λ n. n.span) a.0 (name_words (λ n. n.span) a.1 rest))
+    (λ S a rest. "|" ▸ named S a.0 ▹ ": " ▸ named S a.1 ▹ "|" ▸ rest)
 
-  -- between a closure's bindings and its properties
-  abbrev pub closure_result : Part
-  closure_result =
-      record {
-        Tree = N × N;
-        given = λ _ _. Unit {0};
-        words = λ a rest. name_words (λ n. n.span) a.0 (name_words (λ n. n.span) a.1 rest);
-        print = λ a rest. " into " ▸ name_in text a.0 ▹ ": " ▸ name_in text a.1 ▹ " by { " ▸ rest;
-      }
+abbrev pub identifier : Parts
+identifier =
+    free (λ S (a : N S × Bool) rest. name_words (λ n. n.span) a.0 (bool_word a.1 ∷ rest)) (λ S a rest. old_text a.1 ▸ named S a.0 ▹ rest)

@@ -1,6 +1,7 @@
 -- What a write does to a buffer. A print is a function of the bytes that follow it, as in `Text`, so prints one after the other are
 -- composed functions.
 use Rattle.std.specs.Prelude.{ℕ, ◌+◌, ◌≤◌, min, ◌≡◌, List, ◌++◌, length, take}
+use Rattle.rendering.specs.declared.printer.Printer.{Printer}
 
 -- The print X was written into the buffer b from the place p on, which left b' and the place p' after the print. A place past the buffer's
 -- end says that the print did not fit.
@@ -10,3 +11,10 @@ pub record Wrote (X : List ℕ → List ℕ) (b : List ℕ) (p : ℕ) (b' : List
   pub same : length b' ≡ length b
   pub place : min p' (length b + 1) ≡ min (p + size) (length b + 1)
   pub bytes : p' ≤ length b → (rest : List ℕ) → take p' b' ++ rest ≡ take p b ++ X rest
+
+-- A printer wrote the print X, and nothing else of it changed.
+pub record Puts (X : List ℕ → List ℕ) (s s' : Printer) : Type 0 where
+  pub source : s'.source ≡ s.source
+  pub output : s'.out.ghost_name ≡ s.out.ghost_name
+  pub still : s'.at ≡ s.at
+  pub wrote : Wrote X s.out.now s.pos s'.out.now s'.pos

@@ -7,8 +7,9 @@ use mathlib.Core.List.{List, [], ◌∷◌, ◌++◌}
 use lib.Dec.{ltb}
 use borrow.Author.Tests.{lt-ltb, le-ltb, ltb-false}
 use Rattle.layout.specs.Text.{digits, decimal}
-use Rattle.rendering.specs.Wrote.{Wrote}
-use Rattle.rendering.proofs.Writing.Bytes.{then}
+use Rattle.rendering.specs.declared.printer.Printer.{Printer}
+use Rattle.rendering.specs.Wrote.{Puts}
+use Rattle.rendering.proofs.Writing.Bytes.{puts-then}
 
 -- more fuel gives the same digits
 fuel : (k l n : ℕ) (rest : List ℕ) → n < k → n < l → digits k n rest ≡ digits l n rest
@@ -40,11 +41,9 @@ decimal-more n rest h =
     digits-by n n rest false (le-ltb n 10 h) ∙ fuel n (suc (n / 10)) (n / 10) ((48 + n % 10) ∷ rest) (omega arith) (omega arith)
 
 -- a number of one digit was written
-pub wrote-digit : {b : List ℕ} {p : ℕ} {b' : List ℕ} {p' : ℕ} (n : ℕ) → n < 10 → Wrote (λ rest. ((48 + n % 10) ∷ []) ++ rest) b p b' p' → Wrote (decimal n) b p b' p'
-wrote-digit {b} {p} {b'} {p'} n h w = subst (λ (X : List ℕ → List ℕ). Wrote X b p b' p') (fun_ext (λ rest. sym (decimal-one n rest h))) w
+pub wrote-digit : {s s₁ : Printer} (n : ℕ) → n < 10 → Puts (λ rest. ((48 + n % 10) ∷ []) ++ rest) s s₁ → Puts (decimal n) s s₁
+wrote-digit {s} {s₁} n h w = subst (λ (X : List ℕ → List ℕ). Puts X s s₁) (fun_ext (λ rest. sym (decimal-one n rest h))) w
 
 -- a number of more digits was written
-pub wrote-digits : {b : List ℕ} {p : ℕ} {b₁ : List ℕ} {p₁ : ℕ} {b₂ : List ℕ} {p₂ : ℕ} (n : ℕ) → 10 ≤ n → Wrote (decimal (n / 10)) b p b₁ p₁
-    → Wrote (λ rest. ((48 + n % 10) ∷ []) ++ rest) b₁ p₁ b₂ p₂ → Wrote (decimal n) b p b₂ p₂
-wrote-digits {b} {p} {b₁} {p₁} {b₂} {p₂} n h u v =
-    subst (λ (X : List ℕ → List ℕ). Wrote X b p b₂ p₂) (fun_ext (λ rest. sym (decimal-more n rest h))) (then u v)
+pub wrote-digits : {s s₁ s₂ : Printer} (n : ℕ) → 10 ≤ n → Puts (decimal (n / 10)) s s₁ → Puts (λ rest. ((48 + n % 10) ∷ []) ++ rest) s₁ s₂ → Puts (decimal n) s s₂
+wrote-digits {s} {s₁} {s₂} n h u v = subst (λ (X : List ℕ → List ℕ). Puts X s s₂) (fun_ext (λ rest. sym (decimal-more n rest h))) (puts-then u v)

@@ -1,0 +1,181 @@
+// A printer, which reads the words of a table from a place on and writes their print into a buffer.
+ghost use Rattle.std.specs.Prelude.{IsTrue, ◌↔◌, ◌≡◌, ◌++◌, ◌+◌, ◌≤◌, length, take, drop, replicate};
+ghost use Rattle.lexing.specs.Answer.{pick};
+ghost use Rattle.lexing.specs.Bytes.{bytes as text};
+ghost use Rattle.layout.specs.PrintUtil.{Indent, Space, Parenthesis};
+ghost use Rattle.layout.specs.Text.{decimal, unless};
+ghost use Rattle.rendering.specs.Wrote.{Puts};
+ghost use Rattle.rendering.specs.Parts.{Reads, Looks, Ends, Counts};
+
+use layout::{BindingPower, ExprFormatOption, Side};
+use tree::get;
+use tree::word::NO_MORE;
+
+// What is printed: the words of a table over a text, how many items each of their sequences has, and the indent step.
+#[derive(Clone, Copy)]
+pub struct Source<'a> {
+    pub text: &'a [u8],
+    pub words: &'a [u32],
+    // At the place where a sequence begins, the number of its items.
+    pub counts: &'a [u16],
+    pub step: usize,
+}
+
+#[derive(Drop)]
+pub struct Printer<'a> {
+    pub source: Source<'a>,
+    // The place of the next word.
+    pub at: usize,
+    pub out: &'a mut [u8],
+    // The place of the next byte. Past the buffer's end it says that something did not fit, and stays so.
+    pub pos: usize,
+}
+
+// Stores bytes where they fit.
+fn store(out: &mut [u8], pos: usize, bytes: &[u8])
+    requires { pos + length bytes.now ≤ length out.old }
+    ensures { out.new ≡ take pos out.old ++ bytes.now ++ drop (pos + length bytes.now) out.old }
+{
+    out[pos..pos + bytes.len()].copy_from_slice(bytes);
+}
+
+// Stores spaces where they fit.
+fn store_spaces(out: &mut [u8], pos: usize, size: usize)
+    requires { pos + size ≤ length out.old }
+    ensures { out.new ≡ take pos out.old ++ replicate size 32 ++ drop (pos + size) out.old }
+{
+    out[pos..pos + size].fill(b' ');
+}
+
+// One text or the other.
+pub(crate) fn either<'a>(test: bool, yes: &'a [u8], other: &'a [u8]) -> &'a [u8]
+    ensures { result.now ≡ pick test yes.now other.now }
+{
+    if test { yes } else { other }
+}
+
+// ---- reading
+
+impl Printer<'_> {
+    // The next word, which is passed; past the table's end 0, and the place stays.
+    pub(crate) fn word(&mut self) -> u32
+        ensures { Reads self.old result self.new }
+    {
+        if self.at < self.source.words.len() {
+            let word = self.source.words[self.at];
+            self.at += 1;
+            return word;
+        }
+        0
+    }
+
+    // The word so many places after the next; past the table's end 0.
+    pub(crate) fn ahead(&self, places: usize) -> u32
+        ensures { Looks self.now places result }
+    {
+        let words = self.source.words;
+        if self.at < words.len() && places < words.len() - self.at {
+            return words[self.at + places];
+        }
+        0
+    }
+
+    // Whether an option or a sequence that goes on here has no content or item left.
+    pub(crate) fn is_at_end(&self) -> bool
+        ensures { Ends self.now result }
+    {
+        get(self.source.words, self.at) == NO_MORE
+    }
+
+    // How many items the sequence has that begins here.
+    pub(crate) fn count(&self) -> usize
+        ensures { Counts self.now result }
+    {
+        match self.source.counts.get(self.at) {
+            Some(count) => usize::from(*count),
+            None => 0,
+        }
+    }
+}
+
+// ---- writing
+
+impl Printer<'_> {
+    // Whether so many bytes fit.
+    fn fits(&self, size: usize) -> bool
+        ensures { IsTrue result ↔ self.now.pos + size ≤ length self.now.out.now }
+    {
+        self.pos <= self.out.len() && size <= self.out.len() - self.pos
+    }
+
+    // Writes `bytes`.
+    pub(crate) fn put(&mut self, bytes: &[u8])
+        ensures { Puts (λ rest. bytes.now ++ rest) self.old self.new }
+    {
+        if self.fits(bytes.len()) {
+            store(self.out, self.pos, bytes);
+            self.pos += bytes.len();
+        } else {
+            self.pos = self.out.len() + 1;
+        }
+    }
+
+    // Writes an indent.
+    pub(crate) fn indent(&mut self, size: usize)
+        ensures { Puts (λ rest. Indent size ++ rest) self.old self.new }
+    {
+        if self.fits(size) {
+            store_spaces(self.out, self.pos, size);
+            self.pos += size;
+        } else {
+            self.pos = self.out.len() + 1;
+        }
+    }
+
+    // Writes a natural in decimal.
+    pub(crate) fn decimal(&mut self, value: u64)
+        ensures { Puts (decimal value) self.old self.new }
+    {
+        let digit = [b'0' + (value % 10) as u8];
+        if 10 <= value {
+            self.decimal(value / 10);
+            self.put(&digit);
+        } else {
+            self.put(&digit);
+        }
+    }
+
+    // Writes a space, or a line end and the indent.
+    pub(crate) fn space(&mut self, format: ExprFormatOption)
+        ensures { Puts (λ rest. Space format ++ rest) self.old self.new }
+    {
+        match format {
+            ExprFormatOption::SingleLine => self.put(b" "),
+            ExprFormatOption::MultipleLines(indent) => {
+                self.put(b"\n");
+                self.indent(indent);
+            }
+        }
+    }
+
+    // Writes the separator of a list, unless before its first item.
+    pub(crate) fn separator(&mut self, first: bool)
+        ensures { Puts (λ rest. unless first (text ", ") ++ rest) self.old self.new }
+    {
+        if !first {
+            self.put(b", ");
+        }
+    }
+
+    // Writes a parenthesis, where an operator of this strength needs one in a context.
+    pub(crate) fn parenthesis(&mut self, strength: BindingPower, side: Side, context: BindingPower)
+        ensures { Puts (λ rest. Parenthesis side strength context ++ rest) self.old self.new }
+    {
+        if !strength.wins_over(context) {
+            match side {
+                Side::Left => self.put(b"("),
+                Side::Right => self.put(b")"),
+            }
+        }
+    }
+}
