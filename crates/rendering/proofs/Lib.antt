@@ -1,2 +1,4 @@
+-- The laws that the proofs of the methods cite.
 pub mod Writing
 pub mod Walk
+pub mod ExprPrints

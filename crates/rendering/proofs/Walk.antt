@@ -112,3 +112,18 @@ pub printed-natural : {s s₁ s₂ s₃ : Printer} {v a b : ℕ} → v ≡ get_o
 printed-natural {s} {s₁} {s₂} {s₃} e r q p n rest g d =
     let y = e ∙ (natural-at (names_in 0) s.source.words.now s.at n rest d).0 in
     done (text (word (word (begin d) r) q) (subst (λ (k : ℕ). Puts (decimal k) s₂ s₃) y p))
+
+-- the word that comes next
+pub first : {s₀ s : Printer} {X : List ℕ → List ℕ} {w v : ℕ} {ws : List ℕ} → Walk s₀ X (w ∷ ws) s → Looks s 0 v → v ≡ w
+first {s₀} {s} {w = w} {v = v} {ws = ws} l e =
+    let z : s.at + 0 ≡ s.at = omega arith in
+    e.word ∙ ap (λ (k : ℕ). get_or s.source.words.now k 0) z ∙ ap (λ (S : Source). get_or S.words.now s.at 0) l.source
+    ∙ (head_at s₀.source.words.now s.at w ws l.left).1
+
+-- a place where a word stands is inside the table
+pub inside : {s₀ s : Printer} {X : List ℕ → List ℕ} {w : ℕ} {ws : List ℕ} → Walk s₀ X (w ∷ ws) s → s.at < length s₀.source.words.now
+inside {s₀} {s} {w = w} {ws = ws} l = (head_at s₀.source.words.now s.at w ws l.left).0
+
+-- the same print, in other terms
+pub as-print : {table : List ℕ} {X Y : List ℕ → List ℕ} {rest : List ℕ} {s s' : Printer} → X ≡ Y → Done table X rest s s' → Done table Y rest s s'
+as-print {table} {rest = rest} {s = s} {s' = s'} e d = subst (λ (Z : List ℕ → List ℕ). Done table Z rest s s') e d

@@ -3,3 +3,4 @@ pub mod Tables
 pub mod Wrote
 pub mod Parts
 pub mod ExprParts
+pub mod OperatorWords

@@ -2,5 +2,7 @@
 
 #![tactic(auto)]
 
+mod expression;
+mod operator;
 mod parts;
 mod printer;

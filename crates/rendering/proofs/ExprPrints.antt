@@ -1,0 +1,3 @@
+-- The prints of expressions by their words.
+pub mod Forms
+pub mod Tags
