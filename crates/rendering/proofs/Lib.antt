@@ -2,3 +2,4 @@
 pub mod Writing
 pub mod Walk
 pub mod ExprPrints
+pub mod StmtPrints

@@ -4,3 +4,4 @@ pub mod Wrote
 pub mod Parts
 pub mod ExprParts
 pub mod OperatorWords
+pub mod StmtParts

@@ -3,6 +3,7 @@
 #![tactic(auto)]
 
 mod expression;
+mod items;
 mod operator;
 mod parts;
 mod printer;

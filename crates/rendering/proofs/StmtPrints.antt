@@ -1,0 +1,2 @@
+-- The prints of statements by their words.
+pub mod Pieces

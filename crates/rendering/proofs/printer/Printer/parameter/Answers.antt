@@ -1,0 +1,14 @@
+-- The mode by the word after the name, the name and its type, and the invariant.
+use Rattle.std.proofs.Common.{arith, ◌∙◌}
+use Rattle.tree.specs.Words.{mode_word}
+use Rattle.rendering.proofs.Walk.{prints, ready, begin, text, these, part, done, third}
+use Rattle.rendering.proofs.StmtPrints.Pieces.{mode-is}
+use Rattle.rendering.proofs.printer.Printer.parameter.Goals as goal
+
+pub returns : goal.returns
+returns c =
+    prints (record { source = cc; output = cc; forward = omega arith })
+    (λ a rest g d.
+    let mode = c.mode_text.ensures ∙ mode-is a.mode c.from_word-mode.ensures (third (begin {s = c.args.self.now} d) c.ahead.ensures) in
+    let name = part c.typed_apart.ensures (a.name, mode_word a.mode, a.typ) tt (text (begin d) (these mode c.put.ensures)) in
+    done (part c.optional_expr.ensures a.optional_auto_inv (ready g.0 (omega arith) (omega arith), g.1) name))
