@@ -1,5 +1,6 @@
 -- The laws that the proofs of the methods cite.
 pub mod Writing
 pub mod Walk
+pub mod Words
 pub mod ExprPrints
 pub mod StmtPrints

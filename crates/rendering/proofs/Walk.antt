@@ -61,6 +61,14 @@ part {s₀} {s} {s₁} {X} {P} {rest} q t g l =
     let d = prints t rest g l.left in
     record { source = q.source ∙ l.source; left = d.after; wrote = then l.wrote d.wrote }
 
+-- the same print, in other terms
+pub seen : {s₀ s : Printer} {X Y : List ℕ → List ℕ} {ws : List ℕ} → X ≡ Y → Walk s₀ X ws s → Walk s₀ Y ws s
+seen {s₀} {s} {ws = ws} e l = subst (λ (Z : List ℕ → List ℕ). Walk s₀ Z ws s) e l
+
+-- the same words are left, in other terms
+pub left-as : {s₀ s : Printer} {X : List ℕ → List ℕ} {ws vs : List ℕ} → ws ≡ vs → Walk s₀ X ws s → Walk s₀ X vs s
+left-as {s₀} {s} {X} e l = subst (λ (us : List ℕ). Walk s₀ X us s) e l
+
 -- all is printed
 pub done : {s₀ s : Printer} {X : List ℕ → List ℕ} {ws : List ℕ} → Walk s₀ X ws s → Done s₀.source.words.now X ws s₀ s
 done l = record { after = l.left; wrote = l.wrote }
@@ -88,6 +96,10 @@ printed-name {s} {s₁} {s₂} {s₃} {v} {w} {x} r q e p n rest g d =
 -- further on an indent fits that is no greater
 pub ready : {S : Source} {at next i j : ℕ} → Ready S at i → at ≤ next → j ≤ i → Ready S next j
 ready k h l = let r = k.room in record { few = k.few; short = k.short; room = omega arith }
+
+-- and one a step deeper behind a word
+pub deeper : {S : Source} {at next i j : ℕ} → Ready S at i → at < next → j ≤ i + S.step → Ready S next j
+deeper k h l = let r = k.room in let s = k.short in record { few = k.few; short = k.short; room = omega arith }
 
 -- ---- words that are looked at
 
@@ -119,6 +131,12 @@ first {s₀} {s} {w = w} {v = v} {ws = ws} l e =
     let z : s.at + 0 ≡ s.at = omega arith in
     e.word ∙ ap (λ (k : ℕ). get_or s.source.words.now k 0) z ∙ ap (λ (S : Source). get_or S.words.now s.at 0) l.source
     ∙ (head_at s₀.source.words.now s.at w ws l.left).1
+
+-- the word after it
+pub second : {s : Printer} {X : List ℕ → List ℕ} {a w v : ℕ} {ws : List ℕ} → Walk s X (a ∷ w ∷ ws) s → Looks s 1 v → v ≡ w
+second {s} {a = a} {w = w} {ws = ws} l e =
+    let t = s.source.words.now in
+    e.word ∙ (head_at t (s.at + 1) w ws (head_at t s.at a (w ∷ ws) l.left).2).1
 
 -- a place where a word stands is inside the table
 pub inside : {s₀ s : Printer} {X : List ℕ → List ℕ} {w : ℕ} {ws : List ℕ} → Walk s₀ X (w ∷ ws) s → s.at < length s₀.source.words.now

@@ -7,3 +7,5 @@ mod items;
 mod operator;
 mod parts;
 mod printer;
+mod simple;
+mod statement;

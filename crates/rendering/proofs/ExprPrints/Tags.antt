@@ -19,27 +19,13 @@ use Rattle.rendering.specs.declared.printer.Printer.{Printer}
 use Rattle.rendering.specs.OperatorWords.{operator_of}
 use Rattle.rendering.specs.Parts.{N, named, Parts, Done, Told, Prints, Reads, a_bool, a_natural, custom_literal, identifier}
 use Rattle.rendering.specs.ExprParts.{Ready, Numbered, an_expr, an_operator_expr, a_call, a_label, a_let, a_quantifier, a_closure}
-use Rattle.rendering.proofs.Walk.{begin, word, reads, part, done, as-print}
+use Rattle.rendering.proofs.Walk.{begin, reads}
+use Rattle.rendering.proofs.Words.{found, passed, by-word}
 
--- the word of what was found
-pub found : {E : Type 0} {code : E → ℕ} {w : ℕ} {q : Option E} {e : E} → Decodes code w q → q ≡ Some e → w ≡ code e
-found {e = e} d h = sym ((d e).0 h)
-
--- a word that is not 0 stands in the table, and was passed
-pub passed : {s s₁ : Printer} {w : ℕ} → Reads s w s₁ → 0 < w → (s.at < length s.source.words.now) × (s₁.at ≡ s.at + 1)
-passed {s} {s₁} {w} r h =
-    let i = within s.source.words.now s.at (let e = r.word in omega arith) in (i, r.past i)
-  where
-    within : (l : List ℕ) (i : ℕ) → 0 < get_or l i 0 → i < length l
-    within [] zero k = absurd (omega arith)
-    within [] (suc i) k = absurd (omega arith)
-    within (x ∷ l) zero k = omega arith
-    within (x ∷ l) (suc i) k = let r = within l i k in omega arith
-
--- so after an expression's first word less is left
+-- after an expression's first word less is left
 pub tagged : {s s₁ : Printer} {w : ℕ} {q : Option ExprTag} {e : ExprTag} → Reads s w s₁ → Decodes expr_code w q → q ≡ Some e
-    → 5 * (length s₁.source.words.now - s₁.at) + 5 ≤ 5 * (length s.source.words.now - s.at)
-tagged {e = e} r f h = let k = found f h in let l = positive e in let p = passed r (omega arith) in rw r.source (omega arith)
+    → length s₁.source.words.now - s₁.at < length s.source.words.now - s.at
+tagged {e = e} r f h = let k = found f h in let l = positive e in passed r (omega arith)
   where
     positive : (e : ExprTag) → 0 < expr_code e
     positive tag.BLiteral = omega arith
@@ -54,34 +40,16 @@ tagged {e = e} r f h = let k = found f h in let l = positive e in let p = passed
     positive tag.ClosureExpr = omega arith
 
 module _ {s s₁ : Printer} {w : ℕ} {q : Option ExprTag} (r : Reads s w s₁) (f : Decodes expr_code w q) (context : BindingPower) (format : ExprFormatOption) where
-  -- an expression is printed as the part that its first word tells
-  arm : {s₂ : Printer} (P : Parts) (k : ℕ) (make : (P s.source s₁.at).Tree → Expr (N s.source))
-      → ((t : Expr (N s.source)) (rest : List ℕ) → drop s.at s.source.words.now ≡ expr_words (λ n. n.span) t rest → (a : (P s.source s₁.at).Tree) × (make a ≡ t))
-      → ((a : (P s.source s₁.at).Tree) (rest : List ℕ) → Ready s.source s₁.at (start_indent format + s.source.step) → Numbered s.source (make a) rest → (P s.source s₁.at).given a rest)
-      → ((a : (P s.source s₁.at).Tree) (rest : List ℕ) → expr_words (λ n. n.span) (make a) rest ≡ k ∷ (P s.source s₁.at).words a rest)
-      → ((a : (P s.source s₁.at).Tree) → (P s.source s₁.at).print a ≡ (λ u. Expression (named s.source) s.source.step (make a) context format u)) → Prints P s₁ s₂
-      → Told (an_expr context format) s s₂
-  arm {s₂} P k make opens given words print x t rest g d =
-      let o = opens t rest d in
-      let Q : Expr (N s.source) → Type 0 = λ u.
-      Numbered s.source u rest → drop s.at s.source.words.now ≡ expr_words (λ n. n.span) u rest
-      → Done s.source.words.now (λ v. Expression (named s.source) s.source.step u context format v) rest s s₂ in
-      let made : Q (make o.0) = λ n e.
-      let e₁ = e ∙ words o.0 rest in
-      let h = (head_at s.source.words.now s.at k ((P s.source s₁.at).words o.0 rest) e₁).0 in
-      let at : s₁.at ≡ s.at + 1 = r.past h in
-      let room = g.0.room in
-      let short = g.0.short in
-      let next : Ready s.source s₁.at (start_indent format + s.source.step) = record { few = g.0.few; short = g.0.short; room = omega arith } in
-      as-print (print o.0) (done (part x o.0 (given o.0 rest next n) (word (begin e₁) r))) in
-      subst Q o.1 made g.1 d
-
+  -- the word of a tag
   is : (e : ExprTag) → q ≡ Some e → get_or s.source.words.now s.at 0 ≡ expr_code e
   is e h = sym r.word ∙ found f h
 
-  -- an indent less deep fits too
-  lower : {at : ℕ} (i : ℕ) → Ready s.source at (i + s.source.step) → Ready s.source at (0 + s.source.step)
-  lower i k = let room = k.room in record { few = k.few; short = k.short; room = omega arith }
+  -- an indent one step deeper fits after it
+  deep : {i : ℕ} {C : Type 0} → s₁.at ≡ s.at + 1 → Ready s.source s.at i × C → Ready s.source s₁.at (i + s.source.step) × C
+  deep h g = let k = g.0.room in let l = g.0.short in (record { few = g.0.few; short = g.0.short; room = omega arith }, g.1)
+
+  flat : {i : ℕ} {C : Type 0} → s₁.at ≡ s.at + 1 → Ready s.source s.at i × C → Ready s.source s₁.at (0 + s.source.step) × C
+  flat h g = let k = g.0.room in let l = g.0.short in (record { few = g.0.few; short = g.0.short; room = omega arith }, g.1)
 
   -- a word that has a tag is found
   no : (e : ExprTag) → q ≡ None → w ≡ expr_code e → ⊥
@@ -90,62 +58,62 @@ module _ {s s₁ : Printer} {w : ℕ} {q : Option ExprTag} (r : Reads s w s₁) 
   pub is-bool : {s₂ : Printer} {e : ExprTag} → q ≡ Some e → e ≡ tag.BLiteral → Prints a_bool s₁ s₂ → Told (an_expr context format) s s₂
   unfolding Expression
   is-bool h k x =
-      arm a_bool 1 (λ b. BLiteral b) (λ t rest d. let o = tree-at-word (names_in (length s.source.text.now)) s.source.words.now s.at expr t rest 1 d (is tag.BLiteral (h ∙ ap Some k)) in (o.0.0, o.1))
-      (λ a rest k n. tt) (λ a rest. refl) (λ a. refl) x
+      by-word r (an_expr context format) a_bool 1 (λ b. BLiteral b) (λ t rest d. let o = tree-at-word (names_in (length s.source.text.now)) s.source.words.now s.at expr t rest 1 d (is tag.BLiteral (h ∙ ap Some k)) in (o.0.0, o.1))
+      (λ a rest n k. tt) (λ a rest. refl) (λ a. refl) x
 
   pub is-natural : {s₂ : Printer} {e : ExprTag} → q ≡ Some e → e ≡ tag.ILiteral → Prints a_natural s₁ s₂ → Told (an_expr context format) s s₂
   unfolding Expression
   is-natural h k x =
-      arm a_natural 2 (λ n. ILiteral n) (λ t rest d. let o = tree-at-word (names_in (length s.source.text.now)) s.source.words.now s.at expr t rest 2 d (is tag.ILiteral (h ∙ ap Some k)) in (o.0.0, o.1))
-      (λ a rest k n. tt) (λ a rest. refl) (λ a. refl) x
+      by-word r (an_expr context format) a_natural 2 (λ n. ILiteral n) (λ t rest d. let o = tree-at-word (names_in (length s.source.text.now)) s.source.words.now s.at expr t rest 2 d (is tag.ILiteral (h ∙ ap Some k)) in (o.0.0, o.1))
+      (λ a rest n k. tt) (λ a rest. refl) (λ a. refl) x
 
   pub is-custom : {s₂ : Printer} {e : ExprTag} → q ≡ Some e → e ≡ tag.CustomLiteral → Prints custom_literal s₁ s₂ → Told (an_expr context format) s s₂
   unfolding Expression
   is-custom h k x =
-      arm custom_literal 3 (λ a. CustomLiteral a.0 a.1) (λ t rest d. let o = tree-at-word (names_in (length s.source.text.now)) s.source.words.now s.at expr t rest 3 d (is tag.CustomLiteral (h ∙ ap Some k)) in ((o.0.0, o.0.1.0), o.1))
-      (λ a rest k n. tt) (λ a rest. refl) (λ a. refl) x
+      by-word r (an_expr context format) custom_literal 3 (λ a. CustomLiteral a.0 a.1) (λ t rest d. let o = tree-at-word (names_in (length s.source.text.now)) s.source.words.now s.at expr t rest 3 d (is tag.CustomLiteral (h ∙ ap Some k)) in ((o.0.0, o.0.1.0), o.1))
+      (λ a rest n k. tt) (λ a rest. refl) (λ a. refl) x
 
   pub is-identifier : {s₂ : Printer} {e : ExprTag} → q ≡ Some e → e ≡ tag.IdExpr → Prints identifier s₁ s₂ → Told (an_expr context format) s s₂
   unfolding Expression
   is-identifier h k x =
-      arm identifier 4 (λ a. IdExpr a.0 a.1) (λ t rest d. let o = tree-at-word (names_in (length s.source.text.now)) s.source.words.now s.at expr t rest 4 d (is tag.IdExpr (h ∙ ap Some k)) in ((o.0.0, o.0.1.0), o.1))
-      (λ a rest k n. tt) (λ a rest. refl) (λ a. refl) x
+      by-word r (an_expr context format) identifier 4 (λ a. IdExpr a.0 a.1) (λ t rest d. let o = tree-at-word (names_in (length s.source.text.now)) s.source.words.now s.at expr t rest 4 d (is tag.IdExpr (h ∙ ap Some k)) in ((o.0.0, o.0.1.0), o.1))
+      (λ a rest n k. tt) (λ a rest. refl) (λ a. refl) x
 
   pub is-operator : {s₂ : Printer} {e : ExprTag} → q ≡ Some e → e ≡ tag.OperatorExpr → Prints (an_operator_expr context format) s₁ s₂ → Told (an_expr context format) s s₂
   unfolding Expression
   is-operator h k x =
-      arm (an_operator_expr context format) 5 (λ a. OperatorExpr a.0 a.1) (λ t rest d. let o = tree-at-word (names_in (length s.source.text.now)) s.source.words.now s.at expr t rest 5 d (is tag.OperatorExpr (h ∙ ap Some k)) in ((o.0.0, o.0.1.0), o.1))
-      (λ a rest k n. (k, n)) (λ a rest. refl) (λ a. refl) x
+      by-word r (an_expr context format) (an_operator_expr context format) 5 (λ a. OperatorExpr a.0 a.1) (λ t rest d. let o = tree-at-word (names_in (length s.source.text.now)) s.source.words.now s.at expr t rest 5 d (is tag.OperatorExpr (h ∙ ap Some k)) in ((o.0.0, o.0.1.0), o.1))
+      (λ a rest. deep) (λ a rest. refl) (λ a. refl) x
 
   pub is-call : {s₂ : Printer} {e : ExprTag} → q ≡ Some e → e ≡ tag.FunctionCallExpr → Prints a_call s₁ s₂ → Told (an_expr context format) s s₂
   unfolding Expression
   is-call h k x =
-      arm a_call 6 (λ a. FunctionCallExpr a.0 a.1) (λ t rest d. let o = tree-at-word (names_in (length s.source.text.now)) s.source.words.now s.at expr t rest 6 d (is tag.FunctionCallExpr (h ∙ ap Some k)) in ((o.0.0, o.0.1.0), o.1))
-      (λ a rest k n. (lower (start_indent format) k, n)) (λ a rest. refl) (λ a. refl) x
+      by-word r (an_expr context format) a_call 6 (λ a. FunctionCallExpr a.0 a.1) (λ t rest d. let o = tree-at-word (names_in (length s.source.text.now)) s.source.words.now s.at expr t rest 6 d (is tag.FunctionCallExpr (h ∙ ap Some k)) in ((o.0.0, o.0.1.0), o.1))
+      (λ a rest. flat) (λ a rest. refl) (λ a. refl) x
 
   pub is-label : {s₂ : Printer} {e : ExprTag} → q ≡ Some e → e ≡ tag.LabeledExpr → Prints (a_label context format) s₁ s₂ → Told (an_expr context format) s s₂
   unfolding Expression
   is-label h k x =
-      arm (a_label context format) 7 (λ a. LabeledExpr a.0 a.1) (λ t rest d. let o = tree-at-word (names_in (length s.source.text.now)) s.source.words.now s.at expr t rest 7 d (is tag.LabeledExpr (h ∙ ap Some k)) in ((o.0.0, o.0.1.0), o.1))
-      (λ a rest k n. (k, n)) (λ a rest. refl) (λ a. refl) x
+      by-word r (an_expr context format) (a_label context format) 7 (λ a. LabeledExpr a.0 a.1) (λ t rest d. let o = tree-at-word (names_in (length s.source.text.now)) s.source.words.now s.at expr t rest 7 d (is tag.LabeledExpr (h ∙ ap Some k)) in ((o.0.0, o.0.1.0), o.1))
+      (λ a rest. deep) (λ a rest. refl) (λ a. refl) x
 
   pub is-let : {s₂ : Printer} {e : ExprTag} → q ≡ Some e → e ≡ tag.LetExpr → Prints (a_let context format) s₁ s₂ → Told (an_expr context format) s s₂
   unfolding Expression
   is-let h k x =
-      arm (a_let context format) 8 (λ a. LetExpr a.0 a.1 a.2 a.3) (λ t rest d. let o = tree-at-word (names_in (length s.source.text.now)) s.source.words.now s.at expr t rest 8 d (is tag.LetExpr (h ∙ ap Some k)) in ((o.0.0, o.0.1.0, o.0.1.1.0, o.0.1.1.1.0), o.1))
-      (λ a rest k n. (k, n)) (λ a rest. refl) (λ a. refl) x
+      by-word r (an_expr context format) (a_let context format) 8 (λ a. LetExpr a.0 a.1 a.2 a.3) (λ t rest d. let o = tree-at-word (names_in (length s.source.text.now)) s.source.words.now s.at expr t rest 8 d (is tag.LetExpr (h ∙ ap Some k)) in ((o.0.0, o.0.1.0, o.0.1.1.0, o.0.1.1.1.0), o.1))
+      (λ a rest. deep) (λ a rest. refl) (λ a. refl) x
 
   pub is-quantifier : {s₂ : Printer} {e : ExprTag} → q ≡ Some e → e ≡ tag.QuantifierExpr → Prints (a_quantifier context format) s₁ s₂ → Told (an_expr context format) s s₂
   unfolding Expression
   is-quantifier h k x =
-      arm (a_quantifier context format) 9 (λ a. QuantifierExpr a.0 a.1 a.2 a.3) (λ t rest d. let o = tree-at-word (names_in (length s.source.text.now)) s.source.words.now s.at expr t rest 9 d (is tag.QuantifierExpr (h ∙ ap Some k)) in ((o.0.0, o.0.1.0, o.0.1.1.0, o.0.1.1.1.0), o.1))
-      (λ a rest k n. (k, n)) (λ a rest. refl) (λ a. refl) x
+      by-word r (an_expr context format) (a_quantifier context format) 9 (λ a. QuantifierExpr a.0 a.1 a.2 a.3) (λ t rest d. let o = tree-at-word (names_in (length s.source.text.now)) s.source.words.now s.at expr t rest 9 d (is tag.QuantifierExpr (h ∙ ap Some k)) in ((o.0.0, o.0.1.0, o.0.1.1.0, o.0.1.1.1.0), o.1))
+      (λ a rest. deep) (λ a rest. refl) (λ a. refl) x
 
   pub is-closure : {s₂ : Printer} {e : ExprTag} → q ≡ Some e → e ≡ tag.ClosureExpr → Prints a_closure s₁ s₂ → Told (an_expr context format) s s₂
   unfolding Expression
   is-closure h k x =
-      arm a_closure 10 (λ a. ClosureExpr a.0 a.1 a.2 a.3) (λ t rest d. let o = tree-at-word (names_in (length s.source.text.now)) s.source.words.now s.at expr t rest 10 d (is tag.ClosureExpr (h ∙ ap Some k)) in ((o.0.0, o.0.1.0, o.0.1.1.0, o.0.1.1.1.0), o.1))
-      (λ a rest k n. (lower (start_indent format) k, n)) (λ a rest. refl) (λ a. refl) x
+      by-word r (an_expr context format) a_closure 10 (λ a. ClosureExpr a.0 a.1 a.2 a.3) (λ t rest d. let o = tree-at-word (names_in (length s.source.text.now)) s.source.words.now s.at expr t rest 10 d (is tag.ClosureExpr (h ∙ ap Some k)) in ((o.0.0, o.0.1.0, o.0.1.1.0, o.0.1.1.1.0), o.1))
+      (λ a rest. flat) (λ a rest. refl) (λ a. refl) x
 
   -- no expression has another word
   pub is-none : q ≡ None → Told (an_expr context format) s s₁

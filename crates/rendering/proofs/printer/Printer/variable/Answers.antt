@@ -1,0 +1,24 @@
+-- Its word by the word after the name, the name, and the three optional parts.
+use Rattle.std.proofs.Common.{arith, ◌≡◌, ap, true, false, List}
+use Rattle.lexing.specs.Bytes.{bytes}
+use Rattle.tree.specs.Words.{bool_word}
+use Rattle.layout.specs.Statements.{mutability}
+use Rattle.rendering.specs.Parts.{named}
+use Rattle.rendering.proofs.Walk.{prints, ready, begin, word, text, these, part, done, third, seen}
+use Rattle.rendering.proofs.StmtPrints.Pieces.{declared}
+use Rattle.rendering.proofs.printer.Printer.variable.Goals as goal
+
+kind : (c : goal.After-put-2) (b : _) → c.ahead-is_constant.result ≡ bool_word b → c.either.result.now ≡ bytes (mutability b)
+kind c true e = rw e at c.either.ensures
+kind c false e = rw e at c.either.ensures
+
+pub returns : goal.returns
+returns c =
+    prints (record { source = cc; output = cc; forward = omega arith })
+    (λ a rest g d.
+    let start = text (begin d) (these (kind c a.0.is_mutable (third (begin d) c.ahead-is_constant.ensures)) c.put.ensures) in
+    let name = word (part c.name.ensures a.0.name tt start) c.word.ensures in
+    let typ = seen (declared (named c.args.self.now.source) (bytes (mutability a.0.is_mutable)) a.0.name a.0.optional_type) (part c.optional_name.ensures a.0.optional_type tt name) in
+    let invariant = part c.optional_expr.ensures a.0.optional_auto_inv (ready g.0 (omega arith) (omega arith), g.1.0) typ in
+    let value = part c.optional_expr-2.ensures a.1 (ready g.0 (omega arith) (omega arith), g.1.1) invariant in
+    done (text value c.put-2.ensures))
