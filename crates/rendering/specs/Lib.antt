@@ -5,3 +5,4 @@ pub mod Parts
 pub mod ExprParts
 pub mod OperatorWords
 pub mod StmtParts
+pub mod DeclParts

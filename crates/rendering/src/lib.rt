@@ -7,5 +7,6 @@ mod items;
 mod operator;
 mod parts;
 mod printer;
+mod program;
 mod simple;
 mod statement;
