@@ -1,6 +1,6 @@
 -- Numbers from first equal spans, and the numbers written.
 use Rattle.std.specs.Prelude.{ℕ, suc, ◌+◌, ◌<◌, ◌≤◌, min, ◌≡◌, refl, Bool, true, false, cond, List, [], length, get_or, take, set, eqb}
-use Rattle.std.proofs.Common.{arith, add-one, sym, ap, ◌∙◌, ⊎_elim, length-set, ext_get_or, take_all, get_or-set_same, get_or-set_other, eqb-true}
+use Rattle.std.proofs.Common.{arith, add-one, sym, ap, ◌∙◌, ⊎_elim, length-set, ext_get_or, take_all, get_or-take, get_or-set_same, get_or-set_other, eqb-true}
 use Rattle.std.proofs.lemmas.Bool.{eqb-false}
 use Rattle.names.specs.Names.{most_bytes, names, numbering, distinct}
 use Rattle.tree.specs.Outline.{filled}
@@ -63,6 +63,16 @@ module _ (classes : List ℕ) (n : ℕ) where
 
   pub ranking-end : (i count : ℕ) (ranks : List ℕ) → i ≡ n → Ranking classes n i count ranks → (bs : List (List ℕ)) → FirstEqual bs n classes → n ≤ length bs → Ranked bs n count ranks
   ranking-end i count ranks e r bs f l = rw e at (r.ranked bs f l)
+
+-- the classes of the names alone
+pub first-cut : (bs : List (List ℕ)) (n : ℕ) (classes : List ℕ) → n ≤ length classes → FirstEqual bs n classes → FirstEqual bs n (take n classes)
+first-cut bs n classes h f =
+    let at : (i : ℕ) → i < n → get_or (take n classes) i 0 ≡ get_or classes i 0 = λ i l. get_or-take n classes i 0 l in
+    record {
+      early = λ i l. omega (arith, at i l, f.early i l);
+      equal = λ i l. rw (at i l) (f.equal i l);
+      least = λ i j l m e. omega (arith, at i l, f.least i j l m e);
+    }
 
 -- the numbers copied over a list
 filled-by : (bs : List (List ℕ)) (n count : ℕ) (ranks before after : List ℕ) → n ≡ length bs → Ranked bs n count ranks
