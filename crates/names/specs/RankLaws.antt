@@ -6,7 +6,7 @@ use Rattle.names.specs.Names.{most_bytes, names, numbering, distinct}
 use Rattle.tree.specs.Outline.{filled}
 use Rattle.tree.specs.OutlineLaws.{filled-length, filled_at, filled-later}
 use Rattle.names.specs.NumberLaws.{lt-or-le, numbering-length, rank-new, rank-old}
-use Rattle.names.specs.Parts.{names-cut}
+use Rattle.names.specs.Parts.{names-cut, read-cut}
 use Rattle.names.specs.Spans.{Written, FirstEqual, Ranked}
 
 ranked-none : (bs : List (List ℕ)) (ranks : List ℕ) → Ranked bs 0 0 ranks
@@ -97,3 +97,11 @@ pub numbered-cut : (text spans : List ℕ) (count : ℕ) (before after : List �
     → (count ≡ length (distinct [] (names (take most_bytes text) spans))) × (after ≡ filled (numbering [] (names (take most_bytes text) spans)) before)
     → (count ≡ length (distinct [] (names text spans))) × (after ≡ filled (numbering [] (names text spans)) before)
 numbered-cut text spans count before after h = (h.0 ∙ ap (λ (bs : List (List ℕ)). length (distinct [] bs)) (names-cut text spans), h.1 ∙ ap (λ (bs : List (List ℕ)). filled (numbering [] bs) before) (names-cut text spans))
+
+-- where the text is cut at its own length too
+pub numbered-read : (text spans : List ℕ) (count : ℕ) (before after : List ℕ) (k : ℕ) {text' spans' : List ℕ} → k ≡ min (length text) most_bytes → text' ≡ take k text → spans' ≡ spans
+    → (count ≡ length (distinct [] (names text' spans'))) × (after ≡ filled (numbering [] (names text' spans')) before)
+    → (count ≡ length (distinct [] (names text spans))) × (after ≡ filled (numbering [] (names text spans)) before)
+numbered-read text spans count before after k {text'} {spans'} e read same h =
+    let cut : text' ≡ take most_bytes text = read ∙ ap (λ (k : ℕ). take k text) e ∙ read-cut most_bytes text in
+    numbered-cut text spans count before after (rw (← cut, ← same) h)

@@ -10,7 +10,7 @@ mod pairs;
 mod ranks;
 mod spans;
 
-ghost use Rattle.std.specs.Prelude.{◌≡◌, [], ◌+◌, ◌≤◌, length};
+ghost use Rattle.std.specs.Prelude.{◌≡◌, [], length};
 ghost use Rattle.names.specs.Names.{names, numbering, distinct};
 ghost use Rattle.tree.specs.Outline.{filled};
 
@@ -22,7 +22,7 @@ pub const MOST_SPANS: usize = 32768;
 
 pub const MOST_BYTES: usize = 65535;
 
-// How many bytes, and how many keys of spans, the arrays have room for.
+// How many numbers the arrays have: one for each byte, and two for each span.
 const SMALL: usize = 4096;
 
 const LARGE: usize = 65536;
@@ -32,25 +32,21 @@ const LARGE: usize = 65536;
 pub fn number_spans(text: &[u8], spans: &[u32], numbers: &mut [u16]) -> usize
     ensures { (result ≡ length (distinct [] (names text.now spans.now))) × (numbers.new ≡ filled (numbering [] (names text.now spans.now)) numbers.old) }
 {
-    let read = text.len().min(MOST_BYTES);
-    let over = Spans::new(&text[..read], spans);
-    if read <= SMALL && over.count <= SMALL / 2 {
-        sized::<SMALL>(&over, numbers)
+    let text = &text[..text.len().min(MOST_BYTES)];
+    if text.len().max(spans.len()) <= SMALL {
+        number_in(&Spans::<SMALL>::new(text, spans), numbers)
     } else {
-        sized::<LARGE>(&over, numbers)
+        number_in(&Spans::<LARGE>::new(text, spans), numbers)
     }
 }
 
-// The same in arrays of one size.
-fn sized<const N: usize>(spans: &Spans, numbers: &mut [u16]) -> usize
-    requires bytes { length spans.now.text.now ≤ N }
-    requires keys { spans.now.count + spans.now.count ≤ N }
-    requires size { N ≤ 65536 }
+// The same in arrays of N numbers.
+fn number_in<const N: usize>(spans: &Spans<N>, numbers: &mut [u16]) -> usize
     ensures { (result ≡ length (distinct [] (names spans.now.text.now spans.now.words.now))) × (numbers.new ≡ filled (numbering [] (names spans.now.text.now spans.now.words.now)) numbers.old) }
 {
     let mut classes = [0u16; N];
     let mut keys = [0u16; N];
-    spans.keys(&mut classes, &mut keys);
+    spans.span_keys(&mut classes, &mut keys);
     spans.first_equal(&mut keys);
     let ranks = &mut keys[..spans.count];
     let count = rank(ranks);

@@ -4,7 +4,7 @@ ghost use Rattle.names.specs.Spans.{Pairs, PairClasses};
 
 use crate::classes::{Classes, Lists, Places};
 
-// How many places and keys the arrays have room for.
+// How many numbers the arrays have: one for each place, and one for each key.
 const SMALL: usize = 1024;
 
 const MIDDLE: usize = 8192;
@@ -18,16 +18,16 @@ pub(crate) fn pair_classes(keys: &mut [u16], w: usize, n: usize, most: usize)
 {
     let size = most.max(n);
     if size <= SMALL {
-        sized::<SMALL>(keys, w, n, most);
+        classes_in::<SMALL>(keys, w, n, most);
     } else if size <= MIDDLE {
-        sized::<MIDDLE>(keys, w, n, most);
+        classes_in::<MIDDLE>(keys, w, n, most);
     } else {
-        sized::<LARGE>(keys, w, n, most);
+        classes_in::<LARGE>(keys, w, n, most);
     }
 }
 
-// The same in arrays of one size.
-fn sized<const N: usize>(keys: &mut [u16], w: usize, n: usize, most: usize)
+// The same in arrays of N numbers.
+fn classes_in<const N: usize>(keys: &mut [u16], w: usize, n: usize, most: usize)
     requires pairs { Pairs keys.old w n most }
     requires places { n ≤ N }
     requires keys { most ≤ N }

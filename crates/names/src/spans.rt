@@ -1,33 +1,36 @@
 // Keys of spans: two spans of one length have the same two keys exactly when their bytes are equal. The keys are the classes of the first
 // and of the last block of a span, whose width is the greatest power of two that is no greater than the span's length.
-ghost use Rattle.std.specs.Prelude.{◌≡◌, ◌+◌, ◌<◌, ◌≤◌, max, length};
+ghost use Rattle.std.specs.Prelude.{◌≡◌, ◌+◌, ◌<◌, ◌≤◌, min, length};
 ghost use Rattle.names.specs.Names.{most_spans, most_bytes, names};
-ghost use Rattle.names.specs.Spans.{start_of, length_of, Longest, KeyTaken, KeysTaken, Lengths, KeyedAll, FirstEqual};
+ghost use Rattle.names.specs.Spans.{start_of, length_of, Longest, KeyTaken, KeysTaken, Lengths, Sized, KeyedAll, FirstEqual};
 
+use crate::MOST_SPANS;
 use crate::blocks::{bytes, widen};
 use crate::pairs::pair_classes;
-use crate::{MOST_BYTES, MOST_SPANS};
 
 // How many values a byte has.
 const BYTE_VALUES: usize = 256;
 
-// Spans over a text: two words each, a start and a length. Their keys are below `most`.
+// Spans over a text that is read whole: two words each, a start and a length. Their keys are below `most`, and N numbers are enough for
+// the text's bytes, and for two keys of each span.
 #[derive(Drop)]
-pub(crate) struct Spans<'a> {
+pub(crate) struct Spans<'a, const N: usize> {
     pub(crate) text: &'a [u8],
     pub(crate) words: &'a [u32],
     pub(crate) count: usize,
     pub(crate) most: usize,
-    ghost few_bytes: { length text.now ≤ most_bytes },
-    ghost all: { count ≡ length (names text.now words.now) },
-    ghost few_spans: { count ≤ most_spans },
-    ghost below: { most ≡ max (max (length text.now + 1) count) 256 },
+    ghost sized: { Sized text.now words.now count most },
+    ghost bytes_fit: { length text.now ≤ N },
+    ghost keys_fit: { count + count ≤ N },
+    ghost size: { N ≤ 65536 },
 }
 
-impl<'a> Spans<'a> {
-    // The spans of a text that is read whole.
+impl<'a, const N: usize> Spans<'a, N> {
     pub(crate) fn new(text: &'a [u8], words: &'a [u32]) -> Self
-        requires { length text.now ≤ most_bytes }
+        requires few_bytes { length text.now ≤ most_bytes }
+        requires bytes_fit { length text.now ≤ N }
+        requires keys_fit { min (length words.now) (most_spans + most_spans) ≤ N }
+        requires size { N ≤ 65536 }
         ensures text { result.text.now ≡ text.now }
         ensures words { result.words.now ≡ words.now }
     {
@@ -69,12 +72,10 @@ impl<'a> Spans<'a> {
     }
 
     // The keys of a span, if its length is at least w and below 2 w. Keys stand at i and at i + count.
-    fn take_key(&self, i: usize, w: usize, classes: &[u16], keys: &mut [u16])
+    fn take_key(&self, i: usize, w: usize, classes: &[u16; N], keys: &mut [u16; N])
         requires span { i < self.now.count }
         requires positive { 1 ≤ w }
         requires narrow { w ≤ most_bytes }
-        requires classes { length self.now.text.now ≤ length classes.now }
-        requires keys { self.now.count + self.now.count ≤ length keys.old }
         ensures { KeyTaken (length self.now.text.now) self.now.words.now classes.now self.now.count w i keys.old keys.new }
     {
         let length = self.length(i);
@@ -86,11 +87,9 @@ impl<'a> Spans<'a> {
     }
 
     // The keys of the spans of these lengths.
-    fn take_keys(&self, w: usize, classes: &[u16], keys: &mut [u16])
+    fn take_keys(&self, w: usize, classes: &[u16; N], keys: &mut [u16; N])
         requires positive { 1 ≤ w }
         requires narrow { w ≤ most_bytes }
-        requires classes { length self.now.text.now ≤ length classes.now }
-        requires keys { self.now.count + self.now.count ≤ length keys.old }
         ensures { KeysTaken (length self.now.text.now) self.now.words.now classes.now self.now.count w self.now.count keys.old keys.new }
     {
         for i in 0..self.count {
@@ -99,9 +98,7 @@ impl<'a> Spans<'a> {
     }
 
     // The keys of the spans, width by width: 1, 2, 4, .. to the longest span's length.
-    pub(crate) fn keys(&self, classes: &mut [u16], keys: &mut [u16])
-        requires classes { length self.now.text.now ≤ length classes.old }
-        requires keys { self.now.count + self.now.count ≤ length keys.old }
+    pub(crate) fn span_keys(&self, classes: &mut [u16; N], keys: &mut [u16; N])
         ensures { KeyedAll self.now.text.now self.now.words.now self.now.count self.now.most keys.new }
     {
         bytes(self.text, classes);
@@ -116,8 +113,7 @@ impl<'a> Spans<'a> {
     }
 
     // The lengths of the spans in place of their second keys.
-    fn lengths(&self, keys: &mut [u16])
-        requires { self.now.count + self.now.count ≤ length keys.old }
+    fn lengths(&self, keys: &mut [u16; N])
         ensures { Lengths (length self.now.text.now) self.now.words.now self.now.count self.now.count keys.old keys.new }
     {
         for i in 0..self.count {
@@ -127,10 +123,10 @@ impl<'a> Spans<'a> {
 
     // For each span the first span with the same bytes, in place of its first key: the class of its keys, and then of that class and its
     // length.
-    pub(crate) fn first_equal(&self, keys: &mut [u16])
-        requires keyed { KeyedAll self.now.text.now self.now.words.now self.now.count self.now.most keys.old }
-        requires keys { self.now.count + self.now.count ≤ length keys.old }
-        ensures { FirstEqual (names self.now.text.now self.now.words.now) self.now.count keys.new }
+    pub(crate) fn first_equal(&self, keys: &mut [u16; N])
+        requires { KeyedAll self.now.text.now self.now.words.now self.now.count self.now.most keys.old }
+        ensures equal { FirstEqual (names self.now.text.now self.now.words.now) self.now.count keys.new }
+        ensures len { length keys.new ≡ N }
     {
         pair_classes(keys, self.count, self.count, self.most);
         self.lengths(keys);

@@ -1,11 +1,10 @@
 -- `number_spans` meets its contract: a longer text has the names of what is read of it.
-use Rattle.std.proofs.Common.{arith, List, ℕ, ◌≡◌, take, ap, ◌∙◌}
-use Rattle.names.specs.Names.{most_bytes}
-use Rattle.names.specs.Parts.{read-cut}
-use Rattle.names.specs.RankLaws.{numbered-cut}
+use Rattle.names.specs.RankLaws.{numbered-read}
 use Rattle.names.proofs.number_spans.Goals as goal
 
-pub returns-else-read-le-SMALL : goal.returns-else-read-le-SMALL
-returns-else-read-le-SMALL c =
-    let read : c.new-over.result.text.now ≡ take most_bytes c.args.text.now = c.new-over.ensures.text ∙ ap (λ (k : ℕ). take k c.args.text.now) c.min-read.ensures ∙ read-cut most_bytes c.args.text.now in
-    numbered-cut c.args.text.now c.args.spans.now _ _ _ (rw (← read, ← c.new-over.ensures.words) c.sized-else-read-le-SMALL.ensures)
+pub returns-then-max-le-SMALL : goal.returns-then-max-le-SMALL
+returns-then-max-le-SMALL c = numbered-read c.args.text.now _ _ _ _ _ c.min.ensures c.new.ensures.text c.new.ensures.words c.number_in.ensures
+
+pub returns-else-max-le-SMALL : goal.returns-else-max-le-SMALL
+returns-else-max-le-SMALL c =
+    numbered-read c.args.text.now _ _ _ _ _ c.min.ensures c.new-else-max-le-SMALL.ensures.text c.new-else-max-le-SMALL.ensures.words c.number_in-else-max-le-SMALL.ensures

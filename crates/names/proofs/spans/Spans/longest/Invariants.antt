@@ -3,4 +3,4 @@ use Rattle.names.specs.Spans.{Longest}
 use Rattle.names.proofs.spans.Spans.longest.Given as goal
 
 abbrev pub invariant-loop-i : goal.invariant-loop-i
-invariant-loop-i l = Longest (length l.self.text.now) l.self.words.now l.i l.most
+invariant-loop-i g l = Longest (length l.self.text.now) l.self.words.now l.i l.most

@@ -1,8 +1,8 @@
--- `pairs::sized` meets its contract: the classes of the keys and of the keys from the place w on, copied.
+-- `pairs::classes_in` meets its contract: the classes of the keys and of the keys from the place w on, copied.
 use Rattle.std.proofs.Common.{ℕ, ◌<◌, get_or, arith}
 use Rattle.names.specs.PairLaws.{parted, pairs-classed}
 use Rattle.names.specs.WriteLaws.{written_front}
-use Rattle.names.proofs.pairs.sized.Goals as goal
+use Rattle.names.proofs.pairs.classes_in.Goals as goal
 
 pub invariant_of-places : goal.invariant_of-places
 invariant_of-places g c =
