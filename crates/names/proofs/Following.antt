@@ -1,4 +1,4 @@
--- The loop of `follow`: what holds before each turn, at its start and after a turn.
+-- The loop of `follow`: what holds before each turn and after it.
 use Rattle.std.proofs.Common.{ℕ, ◌<◌, ◌≤◌, ◌≡◌, refl, sym, ap, ◌∙◌, subst, Bool, true, false, List, length, get_or, set, length-set, get_or-set_other, eqb, eqb-true, ltb, ltb-true, ltb-false, arith}
 use Rattle.std.proofs.lemmas.Bool.{eqb-false}
 use Rattle.names.specs.Classes.{Same, FirstOf, Seen, Class, Chained, Followed}
@@ -16,23 +16,7 @@ pub record Following (first second : List ℕ) (n v : ℕ) (seen₀ out₀ seen 
   pub kept : (j : ℕ) → (get_or first j 0 ≡ v → ⊥) → get_or out j 0 ≡ get_or out₀ j 0
 
 module _ {first second : List ℕ} {n most v : ℕ} {heads next : List ℕ} (lists : Chained first n most heads next) where
-  pub follow-starts : {seen out : List ℕ} → v < most → Seen first second n seen → Following first second n v seen out seen out (get_or heads v 0)
-  follow-starts l seen-firsts =
-      let head = lists.firsts v l in
-      record {
-        seen-length = refl;
-        out-length = refl;
-        keyed = head.found;
-        seen-firsts = seen-firsts;
-        noted = λ j l h e. absurd (head.none j (omega arith) l e);
-        classed = λ j l h e. absurd (head.none j (omega arith) l e);
-        kept = λ j e. refl;
-      }
-
   module _ {seen₀ out₀ seen out : List ℕ} {at : ℕ} (i : Following first second n v seen₀ out₀ seen out at) (l : at < n) where
-    pub next-later : at < get_or next at 0
-    next-later = (lists.nexts at (omega arith) l).later
-
     module _ {key s c at' : ℕ} (key-is : key ≡ get_or second at 0) (seen-is : s ≡ get_or seen key 0) (next-is : at' ≡ get_or next at 0) (key-there : key < length seen) (out-there : at < length out)
         (k : Class first second s at c) where
       key-there' : get_or second at 0 < length seen
@@ -83,6 +67,3 @@ module _ {first second : List ℕ} {n most v : ℕ} {heads next : List ℕ} (lis
                 (λ j b h e. stored (λ x. FirstOf first second n j x) out at j c out-there (λ q. absurd (omega arith)) (λ q. i.classed j b h e));
             kept = λ j e. get_or-set_other out at j c 0 (λ q. e (ap (λ (x : ℕ). get_or first x 0) q ∙ i.keyed l)) ∙ i.kept j e;
           })
-
-  pub follow-ends : {seen₀ out₀ seen out : List ℕ} {at : ℕ} → Following first second n v seen₀ out₀ seen out at → n ≤ at → Followed first second n v seen₀ out₀ seen out
-  follow-ends i h = record { seen-length = i.seen-length; out-length = i.out-length; seen-firsts = i.seen-firsts; classed = λ j l e. i.classed j (omega arith) l e; kept = i.kept }

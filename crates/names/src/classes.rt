@@ -1,7 +1,7 @@
 // Places with two keys each, sorted into classes: two places are of one class exactly when both keys are equal, and a class is named by
 // its first place. Linear in the places and the keys, whatever they are: the places of one first key are a list, and the lists are
 // followed one after the other; at each second key the class of the last place with it is noted.
-ghost use Rattle.std.specs.Prelude.{◌≡◌, ℕ, ◌<◌, ◌≤◌, length, get_or, replicate};
+ghost use Rattle.std.specs.Prelude.{◌≡◌, ℕ, ◌<◌, ◌≤◌, length, get_or};
 ghost use Rattle.names.specs.Names.{most_bytes};
 ghost use Rattle.names.specs.Classes.{Class, Chained, Seen, Followed, Classed};
 
@@ -44,10 +44,11 @@ pub(crate) struct Lists<const N: usize> {
 
 impl<const N: usize> Lists<N> {
     pub(crate) fn chain(&mut self, places: &Places<N>)
-        requires { self.old.heads ≡ replicate N (length places.now.first.now) }
         ensures { Chained places.now.first.now (length places.now.first.now) places.now.most self.new.heads self.new.next }
     {
-        for i in (0..places.first.len()).rev() {
+        let n = places.first.len();
+        self.heads.fill(n as u16);
+        for i in (0..n).rev() {
             let key = usize::from(places.first[i]);
             self.next[i] = self.heads[key];
             self.heads[key] = i as u16;
@@ -82,10 +83,10 @@ impl<const N: usize> Classes<N> {
 
     // The class of each place: its first place.
     pub(crate) fn classify(&mut self, places: &Places<N>, lists: &Lists<N>)
-        requires listed { Chained places.now.first.now (length places.now.first.now) places.now.most lists.now.heads lists.now.next }
-        requires unseen { self.old.seen ≡ replicate N 0 }
+        requires { Chained places.now.first.now (length places.now.first.now) places.now.most lists.now.heads lists.now.next }
         ensures { Classed places.now.first.now places.now.second.now (length places.now.first.now) self.new.out }
     {
+        self.seen.fill(0);
         for v in 0..places.most {
             self.follow(places, lists, v);
         }

@@ -40,15 +40,16 @@ fn classes_in<const N: usize>(keys: &mut [u16], w: usize, n: usize, most: usize)
         second: &all[w..w + n],
         most,
     };
+    // Both are made before a call, as the compilers then make them in place.
     let mut lists = Lists::<N> {
-        heads: [n as u16; N],
+        heads: [0; N],
         next: [0; N],
     };
-    lists.chain(&places);
     let mut classes = Classes::<N> {
         seen: [0; N],
         out: [0; N],
     };
+    lists.chain(&places);
     classes.classify(&places, &lists);
     keys[..n].copy_from_slice(&classes.out[..n]);
 }
