@@ -1,7 +1,7 @@
 -- The loop of `follow`: what holds before each turn and after it.
-use Rattle.std.proofs.Common.{ℕ, ◌<◌, ◌≤◌, ◌≡◌, refl, sym, ap, ◌∙◌, subst, Bool, true, false, List, length, get_or, set, length-set, get_or-set_other, eqb, eqb-true, ltb, ltb-true, ltb-false, arith}
+use Rattle.std.proofs.Common.{ℕ, ◌<◌, ◌≡◌, refl, sym, ap, ◌∙◌, subst, Bool, true, false, List, length, get_or, set, length-set, get_or-set_other, eqb, eqb-true, ltb, ltb-true, ltb-false, arith}
 use Rattle.std.proofs.lemmas.Bool.{eqb-false}
-use Rattle.names.specs.Classes.{Same, FirstOf, Seen, Class, Chained, Followed}
+use Rattle.names.specs.Classes.{Same, FirstOf, Seen, Class, Chained}
 use Rattle.names.specs.ClassLaws.{same-trans}
 use Rattle.names.proofs.Places.{stored, first-own, class-first}
 

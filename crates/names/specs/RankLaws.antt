@@ -1,6 +1,6 @@
 -- Numbers from first equal spans, and the numbers written.
 use Rattle.std.specs.Prelude.{ℕ, suc, ◌+◌, ◌<◌, ◌≤◌, min, ◌≡◌, refl, Bool, true, false, cond, List, [], length, get_or, take, set, eqb}
-use Rattle.std.proofs.Common.{arith, add-one, sym, ap, ◌∙◌, ⊎_elim, length-set, ext_get_or, take_all, get_or-take, get_or-set_same, get_or-set_other, eqb-true}
+use Rattle.std.proofs.Common.{arith, add-one, sym, ap, ◌∙◌, ⊎_elim, length-set, ext_get_or, take_all, get_or-take, get_or-set_same, get_or-set_other, eqb-true, eq-eqb, ne_eqb}
 use Rattle.std.proofs.lemmas.Bool.{eqb-false}
 use Rattle.names.specs.Names.{most_bytes, names, numbering, distinct}
 use Rattle.tree.specs.Outline.{filled}
@@ -60,6 +60,17 @@ module _ (classes : List ℕ) (n : ℕ) where
       by-test : (t : Bool) → cond t (count + 1) count ≤ i + 1
       by-test true = omega (arith, r.few)
       by-test false = omega (arith, r.few)
+
+  -- the first span of its name, and one whose name occurs before
+  pub ranking-first : (i count : ℕ) (ranks : List ℕ) (c count' : ℕ) (ranks' : List ℕ) → Ranking classes n i count ranks → i < n → i < length classes
+      → c ≡ get_or ranks i 0 → c ≡ i → ranks' ≡ set ranks i count → count' ≡ count + 1 → Ranking classes n (i + 1) count' ranks'
+  ranking-first i count ranks c count' ranks' r h k e own s t =
+      rw s (ranking-next i count ranks c count count' r h k e (simp (eq-eqb c i own)) (simp (eq-eqb c i own) t))
+
+  pub ranking-again : (i count : ℕ) (ranks : List ℕ) (c count' : ℕ) (ranks' : List ℕ) → Ranking classes n i count ranks → i < n → i < length classes
+      → c ≡ get_or ranks i 0 → (c ≡ i → ⊥) → ranks' ≡ set ranks i (get_or ranks c 0) → count' ≡ count → Ranking classes n (i + 1) count' ranks'
+  ranking-again i count ranks c count' ranks' r h k e other s t =
+      rw s (ranking-next i count ranks c (get_or ranks c 0) count' r h k e (simp (ne_eqb c i other)) (simp (ne_eqb c i other) t))
 
   pub ranking-end : (i count : ℕ) (ranks : List ℕ) → i ≡ n → Ranking classes n i count ranks → (bs : List (List ℕ)) → FirstEqual bs n classes → n ≤ length bs → Ranked bs n count ranks
   ranking-end i count ranks e r bs f l = rw e at (r.ranked bs f l)

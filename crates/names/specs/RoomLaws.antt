@@ -1,5 +1,5 @@
 -- What is read of a text, and the bound of the keys.
-use Rattle.std.specs.Prelude.{ℕ, ◌+◌, ◌≤◌, min, max, ◌≡◌, List, length, take, replicate}
+use Rattle.std.specs.Prelude.{ℕ, ◌+◌, ◌≤◌, max, ◌≡◌, List, length, take, replicate}
 use Rattle.std.proofs.Common.{arith, sym, length-take, length-take-le}
 use Rattle.std.proofs.lemmas.List.{length-replicate}
 use Rattle.names.specs.Names.{most_spans, most_bytes, names}

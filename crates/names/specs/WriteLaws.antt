@@ -1,6 +1,6 @@
 -- Lists written from the front.
 use Rattle.std.specs.Prelude.{ℕ, ◌+◌, ◌-◌, ◌<◌, ◌≤◌, ◌≡◌, refl, List, ◌++◌, length, get_or, take, drop, set}
-use Rattle.std.proofs.Common.{arith, sym, ap, ◌∙◌, ⊎_elim, length-append, length-drop, length-set, length-take-le, take-append-drop, get_or-take, get_or-drop, get_or-set_same, get_or-set_other}
+use Rattle.std.proofs.Common.{arith, ap, ◌∙◌, ⊎_elim, length-append, length-drop, length-set, length-take-le, get_or-take, get_or-drop, get_or-set_same, get_or-set_other}
 use Rattle.std.proofs.lemmas.List.{get_or_append_left, get_or-append_right}
 use Rattle.names.specs.NumberLaws.{lt-or-le}
 use Rattle.names.specs.Spans.{Written}

@@ -1,6 +1,5 @@
 -- `blocks::bytes` meets its contract: the first i bytes are written.
-use Rattle.std.proofs.Common.{◌≡◌, length, get_or, arith}
-use Rattle.names.specs.Spans.{Written}
+use Rattle.std.proofs.Common.{length, arith}
 use Rattle.names.specs.BlockLaws.{blocks-one}
 use Rattle.names.specs.WriteLaws.{written-to}
 use Rattle.names.proofs.blocks.bytes.Goals as goal

@@ -1,5 +1,5 @@
 -- `pairs::classes_in` meets its contract: the classes of the keys and of the keys from the place w on, copied.
-use Rattle.std.proofs.Common.{ℕ, ◌<◌, get_or, arith}
+use Rattle.std.proofs.Common.{◌<◌, arith}
 use Rattle.names.specs.PairLaws.{parted, pairs-classed}
 use Rattle.names.specs.WriteLaws.{written_front}
 use Rattle.names.proofs.pairs.classes_in.Goals as goal
