@@ -5,28 +5,29 @@ use Rattle.names.specs.Classes.{Classed}
 use Rattle.names.specs.ClassLaws.{class-early, class-equal}
 use Rattle.names.specs.Spans.{Written, Pairs, PairClasses}
 
--- the first keys of n places and their second keys, each as a list of its own
+-- the first keys of n places and their second keys, each in a list of its own
 pub record Parted (keys : List ℕ) (w n : ℕ) (first second : List ℕ) : Type 0 where
-  pub first-length : length first ≡ n
-  pub second-length : length second ≡ n
   pub firsts : (i : ℕ) → i < n → get_or first i 0 ≡ get_or keys i 0
   pub seconds : (i : ℕ) → i < n → get_or second i 0 ≡ get_or keys (i + w) 0
 
-pub parted : (keys : List ℕ) (w n : ℕ) → n + w ≤ length keys → Parted keys w n (take n keys) (take (w + n - w) (drop w keys))
-parted keys w n h =
-    let e : w + n - w ≡ n = omega arith in
-    rw e (record {
-      first-length = length-take-le n keys (omega arith);
-      second-length = length-take-le n (drop w keys) (omega (arith, length-drop w keys));
-      firsts = λ i l. get_or-take n keys i 0 l;
-      seconds = λ i l. let s : w + i ≡ i + w = omega arith in get_or-take n (drop w keys) i 0 l ∙ get_or-drop w keys i 0 ∙ ap (λ (p : ℕ). get_or keys p 0) s;
-    })
+module _ (keys : List ℕ) (w n : ℕ) where
+  pub parted : Parted keys w n (take n keys) (take (w + n - w) (drop w keys))
+  parted =
+      let e : w + n - w ≡ n = omega arith in
+      record {
+        firsts = λ i l. get_or-take n keys i 0 l;
+        seconds = λ i l. let s : w + i ≡ i + w = omega arith in rw e (get_or-take n (drop w keys) i 0 l ∙ get_or-drop w keys i 0 ∙ ap (λ (p : ℕ). get_or keys p 0) s);
+      }
+
+  pub parted-length : n + w ≤ length keys → (length (take n keys) ≡ n) × (length (take (w + n - w) (drop w keys)) ≡ n)
+  parted-length h =
+      let e : w + n - w ≡ n = omega arith in
+      (length-take-le n keys (omega arith), rw e (length-take-le n (drop w keys) (omega (arith, length-drop w keys))))
 
 -- the classes, copied over the first keys
-pub pairs-classed : (keys first second : List ℕ) (w n most : ℕ) (classes keys' : List ℕ) → Pairs keys w n most → Parted keys w n first second → Classed first second (length first) classes
+pub pairs-classed : (keys first second : List ℕ) (w n most : ℕ) (classes keys' : List ℕ) → Pairs keys w n most → Parted keys w n first second → Classed first second n classes
     → Written (λ i. get_or classes i 0) n keys keys' → PairClasses keys w n keys'
-pairs-classed keys first second w n most classes keys' p parted classed copied =
-    let made : Classed first second n classes = rw (← parted.first-length) classed in
+pairs-classed keys first second w n most classes keys' p parted made copied =
     let at : (i : ℕ) → i < n → get_or keys' i 0 ≡ get_or classes i 0 = copied.written in
     record {
       same_length = copied.same_length;
