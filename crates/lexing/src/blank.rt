@@ -5,13 +5,10 @@ ghost use Rattle.lexing.specs.CodeAnswers.{reach_of, mark_of, end_of, Position};
 
 use crate::bytes::{Class, is_space, run_length, starts_with};
 
-// How far blanks reach.
-#[derive(Clone, Copy)]
-pub enum Reach {
-    // Over so many bytes.
-    Passed(usize),
-    // A long comment that opens at this place is not closed.
-    Unclosed(usize),
+// A long comment that opens at this place is not closed.
+#[derive(Clone, Copy, PartialEq, Eq, Debug)]
+pub struct Unclosed {
+    pub at: usize,
 }
 
 // What two bytes of a long comment are.
@@ -86,43 +83,37 @@ pub(crate) fn position_after_end_of_long_comment(input: &[u8], start: usize, end
     }
 }
 
-// The one blank at the start, `Passed(0)` where there is none.
-pub(crate) fn blank_at_start(s: &[u8]) -> Reach
+// The one blank at the start, 0 bytes where there is none.
+pub(crate) fn blank_at_start(s: &[u8]) -> Result<usize, Unclosed>
     ensures { reach_of result ≡ blank s.now }
 {
     if s.len() == 0 {
-        return Reach::Passed(0);
+        return Ok(0);
     }
     if is_space(s[0]) {
-        return Reach::Passed(1);
+        return Ok(1);
     }
     if starts_with(s, b"//") {
         let n = run_length(&s[1..], Class::NotNewline);
-        return Reach::Passed(1 + n);
+        return Ok(1 + n);
     }
     if starts_with(s, b"/*") {
         let end = position_after_end_of_long_comment(s, 2, s.len());
-        return Reach::Passed(end);
+        return Ok(end);
     }
-    Reach::Passed(0)
+    Ok(0)
 }
 
 // `W`: all blanks at the start.
-pub fn blanks(s: &[u8]) -> Reach
+pub fn blanks(s: &[u8]) -> Result<usize, Unclosed>
     ensures { reach_of result ≡ W s.now }
 {
     let mut at: usize = 0;
     loop {
         match blank_at_start(&s[at..]) {
-            Reach::Passed(n) => {
-                if n == 0 {
-                    return Reach::Passed(at);
-                }
-                at += n;
-            }
-            Reach::Unclosed(n) => {
-                return Reach::Unclosed(at + n);
-            }
+            Ok(0) => return Ok(at),
+            Ok(n) => at += n,
+            Err(open) => return Err(Unclosed { at: at + open.at }),
         }
     }
 }

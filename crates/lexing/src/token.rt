@@ -3,23 +3,22 @@ ghost use Rattle.std.specs.Prelude.{◌≡◌, ◌-◌};
 ghost use Rattle.lexing.specs.Tokens as tokens;
 ghost use Rattle.lexing.specs.CodeAnswers.{answer_of, number_of};
 
-use crate::blank::{Reach, blanks};
+use crate::blank::blanks;
 use crate::bytes::{Class, can_start_identifier_char, run_length, same_bytes, starts_with};
-use crate::refusal::{LARGE_NATURAL, UNCLOSED_COMMENT};
+use crate::refusal::{Reason, Refusal};
 
 // The largest natural.
 const MOST_NATURAL: u64 = 18446744073709551615;
 
-// What reading a token answers.
-#[derive(Clone, Copy)]
-pub enum Lexed {
-    // Its value, and how many bytes it takes with the blanks after it.
-    Ok(u64, usize),
-    // It does not stand here.
-    None,
-    // The refusal's number and place.
-    Refused(u64, usize),
+// A token's value, and how many bytes it takes with the blanks after it.
+#[derive(Clone, Copy, PartialEq, Eq, Debug)]
+pub struct Token {
+    pub value: u64,
+    pub size: usize,
 }
+
+// What reading a token answers: `None` where it does not stand here.
+pub type Lexed = Result<Option<Token>, Refusal>;
 
 // The number that digits stand for.
 #[derive(Clone, Copy)]
@@ -34,11 +33,14 @@ pub fn lexeme(text: &[u8], value: u64, n: usize) -> Lexed
     ensures { answer_of result ≡ tokens.lexeme value n text.now }
 {
     if text.len() < n {
-        return Lexed::Ok(value, n);
+        return Ok(Some(Token { value, size: n }));
     }
     match blanks(&text[n..]) {
-        Reach::Passed(k) => Lexed::Ok(value, n + k),
-        Reach::Unclosed(k) => Lexed::Refused(UNCLOSED_COMMENT, n + k),
+        Ok(k) => Ok(Some(Token { value, size: n + k })),
+        Err(open) => Err(Refusal {
+            reason: Reason::UnclosedComment,
+            place: n + open.at,
+        }),
     }
 }
 
@@ -61,7 +63,7 @@ pub fn parse_id(text: &[u8]) -> Lexed
 {
     let size = identifier_length(text);
     if size == 0 {
-        return Lexed::None;
+        return Ok(None);
     }
     lexeme(text, size as u64, size)
 }
@@ -71,9 +73,12 @@ pub fn parse_custom_literal(text: &[u8]) -> Lexed
 {
     let n = run_length(text, Class::CustomLiteralChar);
     if n == 0 {
-        return Lexed::None;
+        return Ok(None);
     }
-    Lexed::Ok(n as u64, n)
+    Ok(Some(Token {
+        value: n as u64,
+        size: n,
+    }))
 }
 
 // `T(word)`.
@@ -84,7 +89,7 @@ pub fn keyword(text: &[u8], word: &[u8]) -> Lexed
     if same_bytes(&text[..n], word) {
         return lexeme(text, 0, n);
     }
-    Lexed::None
+    Ok(None)
 }
 
 pub fn sym(text: &[u8], s: &[u8]) -> Lexed
@@ -93,7 +98,7 @@ pub fn sym(text: &[u8], s: &[u8]) -> Lexed
     if starts_with(text, s) {
         return lexeme(text, 0, s.len());
     }
-    Lexed::None
+    Ok(None)
 }
 
 // `SymNotPrefix(s, [longer])`.
@@ -101,7 +106,7 @@ pub fn sym_not_prefix(text: &[u8], s: &[u8], longer: &[u8]) -> Lexed
     ensures { answer_of result ≡ tokens.sign_not_prefix s.now longer.now text.now }
 {
     if starts_with(text, longer) {
-        return Lexed::None;
+        return Ok(None);
     }
     sym(text, s)
 }
@@ -136,10 +141,13 @@ pub fn natural(text: &[u8]) -> Lexed
 {
     let n = run_length(text, Class::Digit);
     if n == 0 {
-        return Lexed::None;
+        return Ok(None);
     }
     match decimal(&text[..n]) {
         Number::Value(value) => lexeme(text, value, n),
-        Number::TooLarge => Lexed::Refused(LARGE_NATURAL, 0),
+        Number::TooLarge => Err(Refusal {
+            reason: Reason::LargeNatural,
+            place: 0,
+        }),
     }
 }
