@@ -14,15 +14,10 @@ use Rattle.lexing.specs.Bytes.{is_space, same_bytes, not_newline, run, starts_wi
 use Rattle.lexing.specs.Blanks.{Blanks, passed, unclosed, further, blank, blanks_from, W, position_after_end_of_long_comment}
 use Rattle.lexing.specs.Tokens.{identifier_length, keyword, lexeme, closed, decimal, natural, most_natural}
 use Rattle.lexing.specs.CodeAnswers.{number_of, Position}
+use Rattle.lexing.proofs.Lists.{suffix}
 use Rattle.lexing.specs.TokenLaws.{unless_empty-none, unless_empty-some}
 use Rattle.lexing.specs.RunLaws.{run_inside}
 use Rattle.lexing.specs.BlankLaws.{W-blank, W-none, W-unclosed, further-zero, further-further, blank-inside, reach, W-inside}
-use Rattle.lexing.specs.declared.token.Number.{Number}
-use Rattle.lexing.specs.declared.token.Number.TheVariants.{Value, TooLarge}
-
--- `&s[at..]` is the rest from `at` on
-pub suffix : (s : List ℕ) (at : ℕ) → take (length s - at) (drop at s) ≡ drop at s
-suffix s at = take_all (length s - at) (drop at s) (le_of_eq (length-drop at s))
 
 -- no blank stands at the end of the text
 pub blank-empty : (s : List ℕ) → length s ≡ 0 → passed 0 ≡ blank s
@@ -141,36 +136,3 @@ module _ (s : List ℕ) (n : ℕ) {r : Blanks} (e : r ≡ W (take (length s - n)
   pub lexeme-is : (v : ℕ) → closed v n r ≡ lexeme v n s
   unfolding lexeme
   lexeme-is v = ap (closed v n) (e ∙ ap W (suffix s n))
-
--- what `decimal` answers of the number n
-number-value : (n v : ℕ) → Value v ≡ number_of n → (leb n most_natural ≡ true) × (v ≡ n)
-number-value n v e = by-test (leb n most_natural) refl e
-  where
-    by-test : (t : Bool) → leb n most_natural ≡ t → Value v ≡ pick t (Value n) TooLarge → (leb n most_natural ≡ true) × (v ≡ n)
-    by-test true p e = (p, cc)
-    by-test false p e = absurd (false≢true cc)
-
--- and where it answers that the number is too large
-number-large : (n : ℕ) → TooLarge ≡ number_of n → leb n most_natural ≡ false
-number-large n e = by-test (leb n most_natural) refl e
-  where
-    by-test : (t : Bool) → leb n most_natural ≡ t → TooLarge ≡ pick t (Value n) TooLarge → leb n most_natural ≡ false
-    by-test true p e = absurd (false≢true cc)
-    by-test false p e = p
-
--- a natural, by the number of its digits and what `decimal` answered for them
-module _ (s : List ℕ) {n : ℕ} (d : n ≡ run is_digit s) where
-  pub natural-none : n ≡ 0 → Answer.none ≡ natural s
-  unfolding natural
-  natural-none z = unless_empty-none _ _ (sym d ∙ z)
-
-  module _ (z : n ≡ 0 → ⊥) {r : Number} (e : r ≡ number_of (decimal 0 (take n s))) where
-    pub natural-value : {v : ℕ} → r ≡ Value v → lexeme v n s ≡ natural s
-    unfolding natural
-    natural-value {v} q =
-        let (p, w) = number-value (decimal 0 (take n s)) v (sym q ∙ e) in
-        rw (← d) (simp (p, ← w) (unless_empty-some n _ z))
-
-    pub natural-large : r ≡ TooLarge → refused large_natural 0 ≡ natural s
-    unfolding natural
-    natural-large q = rw (← d) (simp (number-large (decimal 0 (take n s)) (sym q ∙ e)) (unless_empty-some n _ z))

@@ -1,14 +1,14 @@
 // Words and signs, with the blanks after them.
-ghost use Rattle.std.specs.Prelude.{◌≡◌, ◌-◌};
+ghost use Rattle.std.specs.Prelude.{◌≡◌, ◌-◌, ◌+◌, ◌*◌};
 ghost use Rattle.lexing.specs.Tokens as tokens;
 ghost use Rattle.lexing.specs.CodeAnswers.{answer_of, number_of};
 
 use crate::blank::blanks;
-use crate::bytes::{Class, can_start_identifier_char, run_length, same_bytes, starts_with};
+use crate::bytes::{
+    can_start_identifier_char, custom_literal_char, identifier_char, is_digit, run_length,
+    same_bytes, starts_with,
+};
 use crate::refusal::{Reason, Refusal};
-
-// The largest natural.
-const MOST_NATURAL: u64 = 18446744073709551615;
 
 // A token's value, and how many bytes it takes with the blanks after it.
 #[derive(Clone, Copy, PartialEq, Eq, Debug)]
@@ -19,14 +19,6 @@ pub struct Token {
 
 // What reading a token answers: `None` where it does not stand here.
 pub type Lexed = Result<Option<Token>, Refusal>;
-
-// The number that digits stand for.
-#[derive(Clone, Copy)]
-pub(crate) enum Number {
-    Value(u64),
-    // It exceeds the largest natural.
-    TooLarge,
-}
 
 // A token with a value that takes `n` bytes, and the blanks after it.
 pub fn lexeme(text: &[u8], value: u64, n: usize) -> Lexed
@@ -48,12 +40,11 @@ pub fn lexeme(text: &[u8], value: u64, n: usize) -> Lexed
 pub fn identifier_length(text: &[u8]) -> usize
     ensures { result ≡ tokens.identifier_length text.now }
 {
-    if text.len() == 0 {
+    let [first, rest @ ..] = text else {
         return 0;
-    }
-    if can_start_identifier_char(text[0]) {
-        let n = run_length(&text[1..], Class::IdentifierChar);
-        return 1 + n;
+    };
+    if can_start_identifier_char(*first) {
+        return 1 + run_length(rest, identifier_char);
     }
     0
 }
@@ -71,7 +62,7 @@ pub fn parse_id(text: &[u8]) -> Lexed
 pub fn parse_custom_literal(text: &[u8]) -> Lexed
     ensures { answer_of result ≡ tokens.parse_custom_literal text.now }
 {
-    let n = run_length(text, Class::CustomLiteralChar);
+    let n = run_length(text, custom_literal_char);
     if n == 0 {
         return Ok(None);
     }
@@ -111,41 +102,34 @@ pub fn sym_not_prefix(text: &[u8], s: &[u8], longer: &[u8]) -> Lexed
     sym(text, s)
 }
 
-pub(crate) fn digit_value(b: u8) -> u64
-    ensures { result ≡ b - 48 }
+// `value` with one more digit, if it is no larger than the largest natural.
+pub(crate) fn with_digit(value: u64, digit: u8) -> Option<u64>
+    ensures { result ≡ number_of (value * 10 + (digit - 48)) }
 {
-    if b < 48 {
-        return 0;
-    }
-    (b - 48) as u64
+    let tens = value.checked_mul(10)?;
+    tens.checked_add(u64::from(digit.saturating_sub(b'0')))
 }
 
-pub(crate) fn decimal(s: &[u8]) -> Number
+pub(crate) fn decimal(s: &[u8]) -> Option<u64>
     ensures { result ≡ number_of (tokens.decimal 0 s.now) }
 {
-    let mut value: u64 = 0;
-    let mut i = 0;
-    while i < s.len() {
-        let d = digit_value(s[i]);
-        if (MOST_NATURAL - d) / 10 < value {
-            return Number::TooLarge;
-        }
-        value = value * 10 + d;
-        i += 1;
+    let mut value = 0;
+    for digit in s {
+        value = with_digit(value, *digit)?;
     }
-    Number::Value(value)
+    Some(value)
 }
 
 pub fn natural(text: &[u8]) -> Lexed
     ensures { answer_of result ≡ tokens.natural text.now }
 {
-    let n = run_length(text, Class::Digit);
+    let n = run_length(text, is_digit);
     if n == 0 {
         return Ok(None);
     }
     match decimal(&text[..n]) {
-        Number::Value(value) => lexeme(text, value, n),
-        Number::TooLarge => Err(Refusal {
+        Some(value) => lexeme(text, value, n),
+        None => Err(Refusal {
             reason: Reason::LargeNatural,
             place: 0,
         }),
