@@ -1,7 +1,4 @@
 // Prints slices of numbers, each number after a space; one of more than `MOST_NUMBERS` by how many it has and their CRC-32.
-ghost use Rattle.std.specs.Prelude.{◌≤◌, length};
-
-use crate::numbers::wide;
 use crate::show::{crc_byte, print, print_number, print_word};
 use std::io;
 use std::io::Write;
@@ -48,14 +45,8 @@ fn crc_pair(sum: u32, number: u16) -> u32 {
     crc_byte(crc_byte(sum, high), low)
 }
 
-// So many numbers of the slice, or all.
-pub(crate) fn most_numbers(n: u32, numbers: &[u16]) -> usize
-    ensures { result ≤ length numbers.now }
-{
-    let wished = wide(n);
-    if wished < numbers.len() {
-        wished
-    } else {
-        numbers.len()
-    }
+// The first `n` items of a slice, or all.
+pub(crate) fn most<T>(n: u32, items: &mut [T]) -> &mut [T] {
+    let room = items.len().min(n as usize);
+    &mut items[..room]
 }

@@ -1,7 +1,7 @@
 // The cases of `tree`.
 use crate::lines::tail;
-use crate::numbers::{number, wide};
-use crate::pieces::{WORDS, build_table};
+use crate::numbers::number;
+use crate::pieces::{DIGITS, WORDS, build_words};
 use crate::show::{print, print_number};
 use std::io;
 use std::io::Write;
@@ -11,9 +11,9 @@ use tree::Checked;
 pub(crate) fn table_case(to: &mut impl Write, entry: u8, rest: &[u8]) -> io::Result<()> {
     let mut table = [0u32; WORDS];
     let first = number(rest);
-    let n = build_table(tail(rest, first.digits), &mut table);
+    let n = build_words::<DIGITS>(tail(rest, first.digits), &mut table);
     print(to, b" => ")?;
-    table_answer(to, entry, wide(first.value), &table[..n])
+    table_answer(to, entry, first.value as usize, &table[..n])
 }
 
 fn table_answer(to: &mut impl Write, entry: u8, n: usize, words: &[u32]) -> io::Result<()> {
