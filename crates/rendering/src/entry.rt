@@ -12,7 +12,7 @@ use crate::program::program;
 use crate::{Rendered, Root};
 use layout::{BindingPower, INDENT_AMOUNT};
 use tree::{
-    Checked, MISFITTING, MOST_TEXT, MOST_WORDS, OVERSIZED, count_expression, count_program,
+    CheckError, MOST_TEXT, MOST_WORDS, OVERSIZED, count_expression, count_program,
 };
 
 const MOST_INDENT: usize = 255;
@@ -62,14 +62,13 @@ fn render_counted(
 {
     let found = count_root(text, words, counts, root);
     match found {
-        Checked::Tree => render_by(text, words, counts, root, buffer),
-        Checked::Misfit(place) => Rendered::Refused(MISFITTING, place),
-        Checked::TooLong => Rendered::Refused(OVERSIZED, 0),
+        Ok(()) => render_by(text, words, counts, root, buffer),
+        Err(error) => Rendered::Refused(error.number(), error.place()),
     }
 }
 
 // The check of a table by its root.
-fn count_root(text: &[u8], words: &[u32], counts: &mut [u16], root: Root) -> Checked
+fn count_root(text: &[u8], words: &[u32], counts: &mut [u16], root: Root) -> Result<(), CheckError>
     ensures { (refusal result ≡ (rooted 2 text.now root).refused words.now) × (counts.new ≡ root_counts root words.now (length text.now) counts.old) }
 {
     match root {

@@ -9,27 +9,19 @@ render_by-requires c = (
   c.requires.1,
   numbered c.args.text.now c.args.words.now c.args.counts.now 2
       c.args.root c.requires.2
-      (sym c.count_root-found.ensures.0 ∙ ap check_refusal c.in-Tree.is) c.count_root-found.ensures.1,
+      (sym c.count_root-found.ensures.0 ∙ ap check_refusal c.in-Ok.is) c.count_root-found.ensures.1,
 )
 
-pub returns-in-Tree : goal.returns-in-Tree
-returns-in-Tree c =
+pub returns-in-Ok : goal.returns-in-Ok
+returns-in-Ok c =
     accepted 2 c.args.root c.args.text.now
     c.args.words.now c.args.buffer.now _
     c.requires.0 c.requires.1
-    (sym c.count_root-found.ensures.0 ∙ ap check_refusal c.in-Tree.is) c.render_by.ensures
+    (sym c.count_root-found.ensures.0 ∙ ap check_refusal c.in-Ok.is) c.render_by.ensures
 
-pub returns-in-Misfit : goal.returns-in-Misfit
-returns-in-Misfit c =
-    refused-table 2 c.args.root c.args.text.now
-    c.args.words.now c.args.buffer.now
-    c.args.buffer.now c.requires.0
-    c.requires.1
-    (sym c.count_root-found.ensures.0 ∙ ap check_refusal c.in-Misfit.is)
-
-pub returns-in-TooLong : goal.returns-in-TooLong
-returns-in-TooLong c =
+pub returns-in-Err : goal.returns-in-Err
+returns-in-Err c = rw (c.number.ensures, c.place.ensures) (
     refused-table 2 c.args.root c.args.text.now
     c.args.words.now c.args.buffer.now
     c.args.buffer.now c.requires.0 c.requires.1
-    (sym c.count_root-found.ensures.0 ∙ ap check_refusal c.in-TooLong.is)
+    (sym c.count_root-found.ensures.0 ∙ ap check_refusal c.in-Err.is))
