@@ -11,12 +11,12 @@ use Rattle.tree.specs.Clash.{impossible}
 use Rattle.tree.specs.Limits.{most_text, most_words}
 use Rattle.tree.specs.Ast.{Expr, Program}
 use Rattle.tree.specs.Kind.{expr, program_fields}
-use Rattle.tree.specs.Check.{NameIn, Refusal, check_expression, check_program, refusal as check_refusal, expression_refusal, program_refusal, oversized, misfitting}
+use Rattle.tree.specs.Check.{Checked, NameIn, Refusal, check_expression, check_program, refusal as check_refusal, expression_refusal, program_refusal, oversized, misfitting}
 use Rattle.tree.specs.Trees.{Trees, names_in}
 use Rattle.tree.specs.Accepted.{unique}
 use Rattle.tree.specs.Refused.{expression-too-many, expression-misfit, program-too-many, program-misfit}
-use Rattle.tree.specs.declared.Checked.{Checked}
-use Rattle.tree.specs.declared.Checked.TheVariants.{Tree, Misfit, TooLong}
+use Rattle.std.specs.Prelude.{Ok, Err}
+use Rattle.tree.specs.declared.CheckError.TheVariants.{Misfit, TooLong}
 use Rattle.layout.specs.declared.format.ExprFormatOption.{ExprFormatOption}
 use Rattle.rendering.specs.Tables.{most_indent, Printable, expressions, programs, Held, held, refused, tree_of, held_checked, held_by, Holds, HoldsProgram, Within}
 
@@ -126,13 +126,13 @@ pub data Table (P : Printable) (text words : List ℕ) : Held P.Tree → Type 0 
 module _ (P : Printable) (L : Lawful P) (text words : List ℕ) where
   -- by the check's answer
   of-check : length text ≤ most_text → P.indent ≤ most_indent → (c : Checked) → P.refused words ≡ check_refusal c → Table P text words (held_by P text words)
-  of-check ht hi Tree h =
+  of-check ht hi (Ok u) h =
       let a = (P.unrefused words).0 h in
       let w : Within P text words = record { text-fits = ht; words-fit = a.0; indent-fits = hi } in
       rw (holds P text words L a.1.0 a.1.1 w) (tree w a.1.0 a.1.1)
-  of-check ht hi (Misfit place) h =
+  of-check ht hi (Err (Misfit place)) h =
       rw (refuses P text words ht hi _ h) (misfit (record { text-fits = ht; words-fit = L.misfit words place h; indent-fits = hi }) place h)
-  of-check ht hi TooLong h =
+  of-check ht hi (Err TooLong) h =
       let k = L.too_many words h in
       rw (refuses P text words ht hi _ h) (over (λ w. let f = w.words-fit in omega arith))
 
