@@ -4,10 +4,10 @@
 use crate::lines::{tail, until};
 use crate::numbers::number;
 use crate::pieces::{DIGITS, TEXT, WORDS, build, build_words};
-use crate::slices::most;
 use crate::show::{
     cleared, print, print_bytes, print_count, print_refusal, print_words, untouched,
 };
+use crate::slices::most;
 use printing::{Printed, print_expression, print_expression_lines, print_program};
 use reading::{Reading, read_expression, read_program};
 use std::io;

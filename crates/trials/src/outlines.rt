@@ -9,7 +9,7 @@ use crate::slices::{most, print_numbers};
 use crate::tables::print_checked;
 use std::io;
 use std::io::Write;
-use tree::{Checked, outline_program};
+use tree::{CheckError, outline_program};
 
 // How many kinds and how many ends, the length of the text, and a table.
 pub(crate) fn outline_case(to: &mut impl Write, run: Run, rest: &[u8]) -> io::Result<()> {
@@ -74,9 +74,9 @@ fn repeated(
     text_len: usize,
     kinds: &mut [u16],
     ends: &mut [u16],
-) -> Checked {
+) -> Result<(), CheckError> {
     for _ in 1..run.times {
-        outline_program(words, text_len, kinds, ends);
+        let _ = outline_program(words, text_len, kinds, ends);
     }
     outline_program(words, text_len, kinds, ends)
 }

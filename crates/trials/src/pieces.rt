@@ -1,7 +1,7 @@
 // Texts and tables of repeated pieces. A piece is a number, a byte and what stands up to the next `;`, with the escapes of `lines`; it means so
 // many times these bytes: `2 (;1 a;2 )` is `((a))`. A table's bytes are its words in decimal with a byte between them: `2 7 0 1 ;1 1 0` is the
 // table 7 0 1 7 0 1 1 0.
-ghost use Rattle.std.specs.Prelude.{◌≤◌, length};
+ghost use Rattle.std.specs.Prelude.{◌≤◌, ◌<◌, ◌^◌, length};
 
 use crate::lines::{decode, tail, until};
 use crate::numbers::number;
@@ -49,6 +49,7 @@ fn repeat(piece: &[u8], text: &mut [u8], at: usize) -> usize
 // Puts the words of a line of pieces at the start of `table`, as many as fit, by way of their digits, of which there may be so many; answers
 // how many words there are.
 pub(crate) fn build_words<const DIGITS: usize>(line: &[u8], table: &mut [u32]) -> usize
+    requires { DIGITS < 2 ^ 63 }
     ensures { result ≤ length table.new }
 {
     let mut digits = [0u8; DIGITS];

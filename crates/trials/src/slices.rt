@@ -1,5 +1,5 @@
 // Prints slices of numbers, each number after a space; one of more than `MOST_NUMBERS` by how many it has and their CRC-32.
-use crate::show::{crc_byte, print, print_number, print_word};
+use crate::show::{crc_byte, print, print_word};
 use std::io;
 use std::io::Write;
 
@@ -24,10 +24,9 @@ fn print_short(to: &mut impl Write, number: u16) -> io::Result<()> {
 }
 
 fn print_checksum(to: &mut impl Write, n: usize, unit: &[u8], sum: u32) -> io::Result<()> {
-    print(to, b" ")?;
-    print_number(to, n as u64)?;
+    write!(to, " {n}")?;
     print(to, unit)?;
-    print_number(to, sum as u64)
+    write!(to, "{sum}")
 }
 
 // The checksum of numbers, each as two bytes, the high one first.

@@ -5,7 +5,7 @@ use crate::pieces::{DIGITS, WORDS, build_words};
 use crate::show::{print, print_number};
 use std::io;
 use std::io::Write;
-use tree::Checked;
+use tree::CheckError;
 
 // A number, and a table.
 pub(crate) fn table_case(to: &mut impl Write, entry: u8, rest: &[u8]) -> io::Result<()> {
@@ -25,14 +25,11 @@ fn table_answer(to: &mut impl Write, entry: u8, n: usize, words: &[u32]) -> io::
     }
 }
 
-pub(crate) fn print_checked(to: &mut impl Write, answer: Checked) -> io::Result<()> {
+pub(crate) fn print_checked(to: &mut impl Write, answer: Result<(), CheckError>) -> io::Result<()> {
     match answer {
-        Checked::Tree => print(to, b"tree"),
-        Checked::Misfit(place) => {
-            print(to, b"misfit ")?;
-            print_number(to, place as u64)
-        }
-        Checked::TooLong => print(to, b"too long"),
+        Ok(()) => print(to, b"tree"),
+        Err(CheckError::Misfit(place)) => write!(to, "misfit {place}"),
+        Err(CheckError::TooLong) => print(to, b"too long"),
     }
 }
 
