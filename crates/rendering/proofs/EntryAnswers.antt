@@ -8,11 +8,16 @@ use lib.ListN.{length, take}
 use borrow.Author.Tests.{le-leb, lt-leb}
 use Rattle.tree.specs.Clash.{impossible}
 use Rattle.tree.specs.Limits.{most_text, most_words}
-use Rattle.tree.specs.Check.{Refusal, oversized}
+use Rattle.tree.specs.Check.{Refusal, oversized, misfitting}
 use Rattle.tree.specs.CountLaws.{expression-counted, program-counted}
 use Rattle.rendering.specs.declared.parts.Advance.{Advance}
-use Rattle.rendering.specs.declared.Rendered.{Rendered}
-use Rattle.rendering.specs.declared.Rendered.TheVariants.{Bytes, Refused}
+use Rattle.std.specs.Prelude.{Result, Ok, Err}
+use Rattle.tree.specs.Check.{Checked, refusal as check_refusal}
+use Rattle.tree.specs.declared.CheckError.{CheckError}
+use Rattle.tree.specs.declared.CheckError.TheVariants.{Misfit as CheckMisfit, TooLong as CheckTooLong}
+use Rattle.rendering.specs.declared.PrintError.{PrintError}
+use Rattle.rendering.specs.declared.PrintError.TheVariants.{Oversized, Misfit, TooLong}
+use Rattle.rendering.specs.Errors.{Refuses, of_check}
 use Rattle.rendering.specs.declared.Root.{Root}
 use Rattle.rendering.specs.declared.Root.TheVariants.{AnExpression, AProgram}
 use Rattle.rendering.specs.Tables.{most_indent, Printable, print_of, program_print_of, Held, held, refused, held_by, Within}
@@ -20,7 +25,7 @@ use Rattle.rendering.specs.TableLaws.{Lawful, expression-laws, program-laws, hol
 use Rattle.rendering.specs.Wrote.{Wrote}
 use Rattle.rendering.specs.Parts.{Prints}
 use Rattle.rendering.specs.ExprParts.{most_step}
-use Rattle.rendering.specs.Render.{rooted, root_indent, root_counts, root_part, RootCounted, Numbered, print_too_long, Made, Gives, Renders, Makes}
+use Rattle.rendering.specs.Render.{rooted, root_indent, root_counts, root_part, RootCounted, Numbered, Made, Gives, Renders, Makes}
 
 -- ---- from a write to a print
 
@@ -29,18 +34,18 @@ whole_length : {X : List ℕ → List ℕ} {b b' : List ℕ} {n : ℕ} → Wrote
 whole_length w = let a = w.adds [] in let p = w.place in omega arith
 
 -- a print that fits the buffer stands at its start
-fitting : {X : List ℕ → List ℕ} {b b' : List ℕ} {n : ℕ} → Wrote X b 0 b' n → n ≤ length b' → Made (X []) b (Bytes n) b'
+fitting : {X : List ℕ → List ℕ} {b b' : List ℕ} {n : ℕ} → Wrote X b 0 b' n → n ≤ length b' → Made (X []) b (Ok n) b'
 fitting {X} {b} {b'} {n} w h =
     let k : n ≤ length b = let s = w.same in omega arith in
     let l : n ≡ length (X []) = let p = whole_length w in omega arith in
-    let f : Bytes n ≡ Bytes (length (X [])) = ap Bytes l in
+    let f : ◌≡◌ {A = Result ℕ PrintError} (Ok n) (Ok (length (X []))) = ap Ok l in
     record {
       answers = f ∙ sym (simp (le-leb (length (X [])) (length b) (omega arith)));
       bytes = λ m e. let same : n ≡ m = cc in rw (sym same) (sym (append-nil (take n b')) ∙ w.bytes k []);
     }
 
 -- a print that is longer than the buffer is refused
-longer : {X : List ℕ → List ℕ} {b b' : List ℕ} {n : ℕ} → Wrote X b 0 b' n → length b' < n → Made (X []) b (Refused print_too_long 0) b'
+longer : {X : List ℕ → List ℕ} {b b' : List ℕ} {n : ℕ} → Wrote X b 0 b' n → length b' < n → Made (X []) b (Err TooLong) b'
 longer {X} {b} w h =
     record {
       answers = let p = whole_length w in let s = w.same in sym (simp (lt-leb (length (X [])) (length b) (omega arith)));
@@ -66,7 +71,7 @@ numbered text words before step root {after} h e f =
     by-root AProgram t d l m = program-counted words (length text) before t d l m
 
 -- the write of a tree's print, by what follows from every write of it
-written : (text words counts : List ℕ) (step : ℕ) (root : Root) {b b₁ : List ℕ} {s : Advance} {r : Rendered} → step ≤ most_step → root_indent root ≤ most_indent
+written : (text words counts : List ℕ) (step : ℕ) (root : Root) {b b₁ : List ℕ} {s : Advance} {r : Result ℕ PrintError} → step ≤ most_step → root_indent root ≤ most_indent
     → length words ≤ most_words → Prints (root_part text words counts step root) words 0 b 0 b₁ s
     → ((X : List ℕ → List ℕ) → Wrote X b 0 b₁ s.pos → Made (X []) b r b₁)
     → (t : (rooted step text root).Tree) → RootCounted text words counts step root t → (rooted step text root).words t ≡ words → Made ((rooted step text root).print t) b r b₁
@@ -77,10 +82,10 @@ written text words counts step AProgram m i l x k t c f = k _ (x.prints t [] (re
 module _ (step : ℕ) (text : List ℕ) (root : Root) {words counts b b₁ : List ℕ} {s : Advance} (m : step ≤ most_step) (i : root_indent root ≤ most_indent)
     (n : Numbered text words counts step root) (x : Prints (root_part text words counts step root) words 0 b 0 b₁ s) where
   -- a print that fits the buffer, and one that is longer
-  pub fits : s.pos ≤ length b₁ → Makes (rooted step text root) words b (Bytes s.pos) b₁
+  pub fits : s.pos ≤ length b₁ → Makes (rooted step text root) words b (Ok s.pos) b₁
   fits h = record { made = λ t f. written text words counts step root m i n.few x (λ X w. fitting w h) t (n.counted t f) f }
 
-  pub passes : length b₁ < s.pos → Makes (rooted step text root) words b (Refused print_too_long 0) b₁
+  pub passes : length b₁ < s.pos → Makes (rooted step text root) words b (Err TooLong) b₁
   passes h = record { made = λ t f. written text words counts step root m i n.few x (λ X w. longer w h) t (n.counted t f) f }
 
 -- ---- by the root
@@ -113,23 +118,26 @@ module _ (step : ℕ) (root : Root) (text words b b' : List ℕ) where
   P = rooted step text root
 
   -- what the table is refused by
-  by-held : {r : Rendered} (h : Held P.Tree) → held_by P text words ≡ h → Gives P b r b' h → Renders P text words b r b'
+  by-held : {r : Result ℕ PrintError} (h : Held P.Tree) → held_by P text words ≡ h → Gives P b r b' h → Renders P text words b r b'
   by-held {r} h e g = record { gives = subst (λ (x : Held P.Tree). Gives P b r b' x) (sym e) g }
 
   -- a text that is too long, and a start indent that is too large, are refused by 6
-  pub over-text : most_text < length text → Renders P text words b (Refused oversized 0) b'
-  over-text h = by-held (refused oversized 0) (long-text P text words h) refl
+  pub over-text : most_text < length text → Renders P text words b (Err Oversized) b'
+  over-text h = by-held (refused oversized 0) (long-text P text words h) (record { error = Oversized; answers = refl; numbered = refl; placed = refl })
 
-  pub over-indent : most_indent < root_indent root → Renders P text words b (Refused oversized 0) b'
-  over-indent h = by-held (refused oversized 0) (deep-indent P text words (rw (root-indent step text root) h)) refl
+  pub over-indent : most_indent < root_indent root → Renders P text words b (Err Oversized) b'
+  over-indent h = by-held (refused oversized 0) (deep-indent P text words (rw (root-indent step text root) h)) (record { error = Oversized; answers = refl; numbered = refl; placed = refl })
 
   module _ (t : length text ≤ most_text) (i : root_indent root ≤ most_indent) where
     -- the check's refusal is the answer
-    pub refused-table : {number place : ℕ} → P.refused words ≡ some (record { number = number; place = place }) → Renders P text words b (Refused number place) b'
-    refused-table {number} {place} e = by-held (refused number place) (refuses P text words t (rw (root-indent step text root) i) _ e) refl
+    pub refused-table : (e : CheckError) → P.refused words ≡ check_refusal (Err e) → Renders P text words b (Err (of_check e)) b'
+    refused-table (CheckMisfit place) e =
+        by-held (refused misfitting place) (refuses P text words t (rw (root-indent step text root) i) _ e) (record { error = Misfit place; answers = refl; numbered = refl; placed = refl })
+    refused-table CheckTooLong e =
+        by-held (refused oversized 0) (refuses P text words t (rw (root-indent step text root) i) _ e) (record { error = Oversized; answers = refl; numbered = refl; placed = refl })
 
     -- the print of an unrefused table's tree is the answer
-    pub accepted : {r : Rendered} → P.refused words ≡ none → Makes P words b r b' → Renders P text words b r b'
+    pub accepted : {r : Result ℕ PrintError} → P.refused words ≡ none → Makes P words b r b' → Renders P text words b r b'
     accepted e x =
         let a = (P.unrefused words).0 e in
         let w : Within P text words = record { text-fits = t; words-fit = a.0; indent-fits = rw (root-indent step text root) i } in

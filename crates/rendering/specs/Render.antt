@@ -1,12 +1,13 @@
 -- What `render` does, once over the root of a table's tree.
-use Rattle.std.specs.Prelude.{ℕ, ◌≤◌, ◌≡◌, List, [], length, take, leb}
+use Rattle.std.specs.Prelude.{ℕ, ◌≤◌, ◌≡◌, List, [], length, take, leb, Result, Ok, Err}
 use Rattle.lexing.specs.Answer.{pick}
 use Rattle.tree.specs.Limits.{most_words}
 use Rattle.tree.specs.Check.{NameIn}
 use Rattle.tree.specs.Tally.{expression_counts, program_counts}
 use Rattle.tree.specs.Counted.{CountedExpr, CountedProgram}
-use Rattle.rendering.specs.declared.Rendered.{Rendered}
-use Rattle.rendering.specs.declared.Rendered.TheVariants.{Bytes, Refused}
+use Rattle.rendering.specs.declared.PrintError.{PrintError}
+use Rattle.rendering.specs.declared.PrintError.TheVariants.{TooLong}
+use Rattle.rendering.specs.Errors.{Refuses}
 use Rattle.rendering.specs.declared.Root.{Root}
 use Rattle.rendering.specs.declared.Root.TheVariants.{AnExpression, AProgram}
 use Rattle.layout.specs.PrintUtil.{start_indent, Init}
@@ -46,25 +47,21 @@ module _ (text table counts : List ℕ) (step : ℕ) where
     pub few : length table ≤ most_words
     pub counted : (t : (rooted step text root).Tree) → (rooted step text root).words t ≡ table → RootCounted root t
 
--- The number of a refusal of a print: it is longer than where it is to stand, or than a print may be.
-abbrev pub print_too_long : ℕ
-print_too_long = 8
-
 -- a print stands at the start of the buffer b, which became b', and its length is answered; or it is longer than the buffer
-pub record Made (print b : List ℕ) (r : Rendered) (b' : List ℕ) : Type 0 where
-  pub answers : r ≡ pick (leb (length print) (length b)) (Bytes (length print)) (Refused print_too_long 0)
-  pub bytes : (n : ℕ) → r ≡ Bytes n → take n b' ≡ print
+pub record Made (print b : List ℕ) (r : Result ℕ PrintError) (b' : List ℕ) : Type 0 where
+  pub answers : r ≡ pick (leb (length print) (length b)) (Ok (length print)) (Err TooLong)
+  pub bytes : (n : ℕ) → r ≡ Ok n → take n b' ≡ print
 
 -- the answer and the buffer by what the table holds
-abbrev pub Gives : (P : Printable) (b : List ℕ) (r : Rendered) (b' : List ℕ) → Held P.Tree → Type 0
+abbrev pub Gives : (P : Printable) (b : List ℕ) (r : Result ℕ PrintError) (b' : List ℕ) → Held P.Tree → Type 0
 Gives P b r b' (held t) = Made (P.print t) b r b'
-Gives P b r b' (refused number place) = r ≡ Refused number place
+Gives P b r b' (refused number place) = Refuses r number place
 
 -- What `render` ensures of its answer r and the buffer b, which becomes b'. The buffer's bytes that no print occupies are free, after a refusal
 -- all of them.
-pub record Renders (P : Printable) (text words b : List ℕ) (r : Rendered) (b' : List ℕ) : Type 0 where
+pub record Renders (P : Printable) (text words b : List ℕ) (r : Result ℕ PrintError) (b' : List ℕ) : Type 0 where
   pub gives : Gives P b r b' (held_by P text words)
 
 -- the same by the tree whose words a checked table has
-pub record Makes (P : Printable) (words b : List ℕ) (r : Rendered) (b' : List ℕ) : Type 0 where
+pub record Makes (P : Printable) (words b : List ℕ) (r : Result ℕ PrintError) (b' : List ℕ) : Type 0 where
   pub made : (t : P.Tree) → P.words t ≡ words → Made (P.print t) b r b'

@@ -9,27 +9,27 @@ ghost use Rattle.rendering.specs.Render.{rooted, root_indent, root_counts, root_
 use crate::expression::expr;
 use crate::parts::Advance;
 use crate::program::program;
-use crate::{Rendered, Root};
+use crate::{PrintError, Root};
 use layout::{BindingPower, INDENT_AMOUNT};
-use tree::{
-    CheckError, MOST_TEXT, MOST_WORDS, OVERSIZED, count_expression, count_program,
-};
+use tree::{CheckError, MOST_TEXT, MOST_WORDS, count_expression, count_program};
 
 const MOST_INDENT: usize = 255;
 
-// The number of a print's refusal: it is longer than where it is to stand, or than a print may be.
-pub const PRINT_TOO_LONG: u64 = 8;
-
 // Prints the tree that a table holds over a text at a buffer's start. The buffer's bytes that no print occupies are free afterwards, after a
 // refusal all of them. A small table takes a small table of numbers.
-pub fn render(text: &[u8], words: &[u32], root: Root, buffer: &mut [u8]) -> Rendered
+pub fn render(
+    text: &[u8],
+    words: &[u32],
+    root: Root,
+    buffer: &mut [u8],
+) -> Result<usize, PrintError>
     ensures { Renders (rooted 2 text.now root) text.now words.now buffer.old result buffer.new }
 {
     if MOST_TEXT < text.len() {
-        return Rendered::Refused(OVERSIZED, 0);
+        return Err(PrintError::Oversized);
     }
     if MOST_INDENT < start_indent(root) {
-        return Rendered::Refused(OVERSIZED, 0);
+        return Err(PrintError::Oversized);
     }
     if words.len() <= 256 {
         let mut counts = [0u16; 256];
@@ -56,15 +56,12 @@ fn render_counted(
     counts: &mut [u16],
     root: Root,
     buffer: &mut [u8],
-) -> Rendered
+) -> Result<usize, PrintError>
     requires { (length text.now ≤ most_text) × (root_indent root ≤ most_indent) × (length words.now ≤ most_words → length words.now ≤ length counts.old) }
     ensures { Renders (rooted 2 text.now root) text.now words.now buffer.old result buffer.new }
 {
-    let found = count_root(text, words, counts, root);
-    match found {
-        Ok(()) => render_by(text, words, counts, root, buffer),
-        Err(error) => Rendered::Refused(error.number(), error.place()),
-    }
+    count_root(text, words, counts, root)?;
+    render_by(text, words, counts, root, buffer)
 }
 
 // The check of a table by its root.
@@ -78,15 +75,21 @@ fn count_root(text: &[u8], words: &[u32], counts: &mut [u16], root: Root) -> Res
 }
 
 // The print of a checked table's tree, by the numbers of items.
-fn render_by(text: &[u8], words: &[u32], counts: &[u16], root: Root, buffer: &mut [u8]) -> Rendered
+fn render_by(
+    text: &[u8],
+    words: &[u32],
+    counts: &[u16],
+    root: Root,
+    buffer: &mut [u8],
+) -> Result<usize, PrintError>
     requires { (root_indent root ≤ most_indent) × Numbered text.now words.now counts.now 2 root }
     ensures { Makes (rooted 2 text.now root) words.now buffer.old result buffer.new }
 {
     let s = print_root(text, words, counts, root, buffer);
     if buffer.len() < s.pos {
-        return Rendered::Refused(PRINT_TOO_LONG, 0);
+        return Err(PrintError::TooLong);
     }
-    Rendered::Bytes(s.pos)
+    Ok(s.pos)
 }
 
 // The print of a table's tree from a buffer's first byte on, by its root.

@@ -14,8 +14,12 @@ mod simple;
 mod statement;
 mod write;
 
-pub use entry::{PRINT_TOO_LONG, render};
+ghost use Rattle.std.specs.Prelude.{◌≡◌};
+ghost use Rattle.rendering.specs.Errors.{print_error_number, print_error_place, of_check};
+
+pub use entry::render;
 use layout::ExprFormatOption;
+use tree::CheckError;
 
 // The tree that a table is to hold.
 #[derive(Clone, Copy)]
@@ -25,11 +29,47 @@ pub enum Root {
     AProgram,
 }
 
-// What `render` answers.
-#[derive(Clone, Copy)]
-pub enum Rendered {
-    // How many bytes the print has.
-    Bytes(usize),
-    // The refusal's number and place.
-    Refused(u64, usize),
+// Why a table is not printed.
+#[derive(Clone, Copy, PartialEq, Eq, Debug)]
+pub enum PrintError {
+    // The text, the words or the start indent are past their limits.
+    Oversized,
+    // The words aren't one tree over the text; the place is that of refusal 7.
+    Misfit(usize),
+    // The print is longer than where it is to stand, or than a print may be.
+    TooLong,
+}
+
+impl PrintError {
+    // The refusal's number.
+    pub fn number(self) -> u64
+        ensures { result ≡ print_error_number self }
+    {
+        match self {
+            PrintError::Oversized => 6,
+            PrintError::Misfit(_) => 7,
+            PrintError::TooLong => 8,
+        }
+    }
+
+    // The refusal's place.
+    pub fn place(self) -> usize
+        ensures { result ≡ print_error_place self }
+    {
+        match self {
+            PrintError::Misfit(place) => place,
+            PrintError::Oversized | PrintError::TooLong => 0,
+        }
+    }
+}
+
+impl From<CheckError> for PrintError {
+    ghost from_gives = { λ c e. e ≡ of_check c };
+
+    fn from(error: CheckError) -> PrintError {
+        match error {
+            CheckError::Misfit(place) => PrintError::Misfit(place),
+            CheckError::TooLong => PrintError::Oversized,
+        }
+    }
 }
