@@ -1,5 +1,6 @@
 -- What the proofs of several functions cite.
-pub mod Loops
+pub mod Lists
+pub mod Comments
 pub mod Returns
--- What is proved of the definitions, each claim by citation.
 pub mod Claims
+pub mod Naturals

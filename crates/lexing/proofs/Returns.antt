@@ -11,20 +11,13 @@ use lib.Seq.{take_all, drop-drop}
 use lib.Dec.{leb}
 use Rattle.lexing.specs.Answer.{Answer, ok, refused, large_natural, pick}
 use Rattle.lexing.specs.Bytes.{is_space, same_bytes, not_newline, run, starts_with, is_digit, can_start_identifier_char, identifier_char}
-use Rattle.lexing.specs.Blanks.{passed, unclosed, further, blank, blanks_from, W, position_after_end_of_long_comment}
+use Rattle.lexing.specs.Blanks.{Blanks, passed, unclosed, further, blank, blanks_from, W, position_after_end_of_long_comment}
 use Rattle.lexing.specs.Tokens.{identifier_length, keyword, lexeme, closed, decimal, natural, most_natural}
-use Rattle.lexing.specs.CodeAnswers.{reach_of, number_of, Position}
+use Rattle.lexing.specs.CodeAnswers.{number_of, Position}
+use Rattle.lexing.proofs.Lists.{suffix}
 use Rattle.lexing.specs.TokenLaws.{unless_empty-none, unless_empty-some}
 use Rattle.lexing.specs.RunLaws.{run_inside}
 use Rattle.lexing.specs.BlankLaws.{W-blank, W-none, W-unclosed, further-zero, further-further, blank-inside, reach, W-inside}
-use Rattle.lexing.specs.declared.blank.Reach.{Reach}
-use Rattle.lexing.specs.declared.blank.Reach.TheVariants.{Passed, Unclosed}
-use Rattle.lexing.specs.declared.token.Number.{Number}
-use Rattle.lexing.specs.declared.token.Number.TheVariants.{Value, TooLarge}
-
--- `&s[at..]` is the rest from `at` on
-pub suffix : (s : List ℕ) (at : ℕ) → take (length s - at) (drop at s) ≡ drop at s
-suffix s at = take_all (length s - at) (drop at s) (le_of_eq (length-drop at s))
 
 -- no blank stands at the end of the text
 pub blank-empty : (s : List ℕ) → length s ≡ 0 → passed 0 ≡ blank s
@@ -69,21 +62,20 @@ pub reached-start : (s : List ℕ) → Reached s 0
 reached-start s = record { inside = omega arith; says = sym (further-zero (W s)) }
 
 -- one turn, by what `blank_at_start` answered for the rest from `at` on
-module _ {s : List ℕ} {at : ℕ} (r : Reach) (o : Reached s at) (e : reach_of r ≡ blank (take (length s - at) (drop at s))) where
-  reached-here : reach_of r ≡ blank (drop at s)
-  reached-here = e ∙ ap blank (suffix s at)
+module _ {s : List ℕ} {at : ℕ} (o : Reached s at) where
+  reached-here : {r : Blanks} → r ≡ blank (take (length s - at) (drop at s)) → r ≡ blank (drop at s)
+  reached-here e = e ∙ ap blank (suffix s at)
 
-  pub reached-inside : {q : Reach} → r ≡ q → at + reach (reach_of q) ≤ length s
-  reached-inside p = omega (arith, ap (λ r. reach (reach_of r)) (sym p) ∙ ap reach reached-here, blank-inside (drop at s), length-drop at s, o.inside)
+  pub reached-inside : {r : Blanks} → r ≡ blank (take (length s - at) (drop at s)) → at + reach r ≤ length s
+  reached-inside e = omega (arith, ap reach (reached-here e), blank-inside (drop at s), length-drop at s, o.inside)
 
-  pub reached-end : {n : ℕ} → r ≡ Passed n → n ≡ 0 → passed at ≡ W s
-  reached-end p z =
-      let h : blank (drop at s) ≡ passed 0 = sym reached-here ∙ ap reach_of p ∙ ap passed z in
+  pub reached-end : passed 0 ≡ blank (take (length s - at) (drop at s)) → passed at ≡ W s
+  reached-end e =
       let q : at + 0 ≡ at = omega arith in
-      sym (o.says ∙ ap (further at) (W-none (drop at s) h) ∙ ap passed q)
+      sym (o.says ∙ ap (further at) (W-none (drop at s) (sym (reached-here e))) ∙ ap passed q)
 
-  pub reached-more : {n : ℕ} → r ≡ Passed n → (n ≡ 0 → ⊥) → Reached s (at + n)
-  reached-more {n} p z = record { inside = reached-inside p; says = by_count n (sym reached-here ∙ ap reach_of p) z }
+  pub reached-more : {n : ℕ} → passed n ≡ blank (take (length s - at) (drop at s)) → (n ≡ 0 → ⊥) → Reached s (at + n)
+  reached-more {n} e z = record { inside = reached-inside e; says = by_count n (sym (reached-here e)) z }
     where
       by_count : (n : ℕ) → blank (drop at s) ≡ passed n → (n ≡ 0 → ⊥) → W s ≡ further (at + n) (W (drop (at + n) s))
       by_count zero e z = absurd (z refl)
@@ -91,8 +83,8 @@ module _ {s : List ℕ} {at : ℕ} (r : Reach) (o : Reached s at) (e : reach_of 
           o.says ∙ ap (further at) (W-blank (drop at s) k e) ∙ further-further at (suc k) (W (drop (suc k) (drop at s)))
           ∙ ap (λ t. further (at + suc k) (W t)) (drop-drop (suc k) at s)
 
-  pub reached-open : {n : ℕ} → r ≡ Unclosed n → unclosed (at + n) ≡ W s
-  reached-open {n} p = sym (o.says ∙ ap (further at) (W-unclosed (drop at s) n (sym reached-here ∙ ap reach_of p)))
+  pub reached-open : {n : ℕ} → unclosed n ≡ blank (take (length s - at) (drop at s)) → unclosed (at + n) ≡ W s
+  reached-open {n} e = sym (o.says ∙ ap (further at) (W-unclosed (drop at s) n (sym (reached-here e))))
 
 -- an identifier by its tests
 pub identifier-empty : (s : List ℕ) → length s ≡ 0 → 0 ≡ identifier_length s
@@ -137,43 +129,10 @@ lexeme-past s v n h =
     rw (drop_of_length-le s past, nothing) (ap (ok v) (sym z))
 
 -- by what `blanks` answered for the rest after the token
-module _ (s : List ℕ) (n : ℕ) (r : Reach) (e : reach_of r ≡ W (take (length s - n) (drop n s))) where
-  pub lexeme-inside : {q : Reach} → r ≡ q → n ≤ length s → n + reach (reach_of q) ≤ length s
-  lexeme-inside p h = omega (arith, ap (λ r. reach (reach_of r)) (sym p) ∙ ap reach (e ∙ ap W (suffix s n)), W-inside (drop n s), length-drop n s)
+module _ (s : List ℕ) (n : ℕ) {r : Blanks} (e : r ≡ W (take (length s - n) (drop n s))) where
+  pub lexeme-inside : n ≤ length s → n + reach r ≤ length s
+  lexeme-inside h = omega (arith, ap reach (e ∙ ap W (suffix s n)), W-inside (drop n s), length-drop n s)
 
-  pub lexeme-is : {q : Reach} → r ≡ q → (v : ℕ) → closed v n (reach_of q) ≡ lexeme v n s
+  pub lexeme-is : (v : ℕ) → closed v n r ≡ lexeme v n s
   unfolding lexeme
-  lexeme-is p v = ap (closed v n) (ap reach_of (sym p) ∙ e ∙ ap W (suffix s n))
-
--- what `decimal` answers of the number n
-number-value : (n v : ℕ) → Value v ≡ number_of n → (leb n most_natural ≡ true) × (v ≡ n)
-number-value n v e = by-test (leb n most_natural) refl e
-  where
-    by-test : (t : Bool) → leb n most_natural ≡ t → Value v ≡ pick t (Value n) TooLarge → (leb n most_natural ≡ true) × (v ≡ n)
-    by-test true p e = (p, cc)
-    by-test false p e = absurd (false≢true cc)
-
--- and where it answers that the number is too large
-number-large : (n : ℕ) → TooLarge ≡ number_of n → leb n most_natural ≡ false
-number-large n e = by-test (leb n most_natural) refl e
-  where
-    by-test : (t : Bool) → leb n most_natural ≡ t → TooLarge ≡ pick t (Value n) TooLarge → leb n most_natural ≡ false
-    by-test true p e = absurd (false≢true cc)
-    by-test false p e = p
-
--- a natural, by the number of its digits and what `decimal` answered for them
-module _ (s : List ℕ) {n : ℕ} (d : n ≡ run is_digit s) where
-  pub natural-none : n ≡ 0 → Answer.none ≡ natural s
-  unfolding natural
-  natural-none z = unless_empty-none _ _ (sym d ∙ z)
-
-  module _ (z : n ≡ 0 → ⊥) {r : Number} (e : r ≡ number_of (decimal 0 (take n s))) where
-    pub natural-value : {v : ℕ} → r ≡ Value v → lexeme v n s ≡ natural s
-    unfolding natural
-    natural-value {v} q =
-        let (p, w) = number-value (decimal 0 (take n s)) v (sym q ∙ e) in
-        rw (← d) (simp (p, ← w) (unless_empty-some n _ z))
-
-    pub natural-large : r ≡ TooLarge → refused large_natural 0 ≡ natural s
-    unfolding natural
-    natural-large q = rw (← d) (simp (number-large (decimal 0 (take n s)) (sym q ∙ e)) (unless_empty-some n _ z))
+  lexeme-is v = ap (closed v n) (e ∙ ap W (suffix s n))

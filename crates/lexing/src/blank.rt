@@ -3,76 +3,55 @@ ghost use Rattle.std.specs.Prelude.{◌≡◌, ◌-◌, ◌≤◌, length, take,
 ghost use Rattle.lexing.specs.Blanks.{mark, long_comment, blank, W};
 ghost use Rattle.lexing.specs.CodeAnswers.{reach_of, mark_of, end_of, Position};
 
-use crate::bytes::{Class, is_space, run_length, starts_with};
+use crate::bytes::{is_space, not_newline, run_length, starts_with};
 
-// How far blanks reach.
-#[derive(Clone, Copy)]
-pub enum Reach {
-    // Over so many bytes.
-    Passed(usize),
-    // A long comment that opens at this place is not closed.
-    Unclosed(usize),
+// A long comment that opens at this place is not closed.
+#[derive(Clone, Copy, PartialEq, Eq, Debug)]
+pub struct Unclosed {
+    pub at: usize,
 }
 
-// What two bytes of a long comment are.
-#[derive(Clone, Copy)]
-pub(crate) enum Pair {
+// The marks of a long comment.
+#[derive(Clone, Copy, PartialEq, Eq, Debug)]
+pub(crate) enum Mark {
     Closing,
     Opening,
-    Neither,
 }
 
-// Where a long comment ends.
-#[derive(Clone, Copy)]
-pub(crate) enum End {
-    // After so many bytes.
-    At(usize),
-    // It is not closed.
-    Never,
-}
-
-pub(crate) fn mark_at(a: u8, b: u8) -> Pair
+#[tactic(auto, unfolding(crate::specs::Blanks::mark))]
+pub(crate) fn mark_at(a: u8, b: u8) -> Option<Mark>
     ensures { mark_of result ≡ mark a b }
 {
-    if a == b'*' {
-        if b == b'/' {
-            return Pair::Closing;
-        }
-        return Pair::Neither;
+    match (a, b) {
+        (b'*', b'/') => Some(Mark::Closing),
+        (b'/', b'*') => Some(Mark::Opening),
+        _ => None,
     }
-    if a == b'/' {
-        if b == b'*' {
-            return Pair::Opening;
-        }
-    }
-    Pair::Neither
 }
 
-// The end of a long comment whose opening mark stands before `s`.
-pub(crate) fn long_comment(s: &[u8]) -> End
+// How many bytes a long comment takes, whose opening mark stands before `s`.
+pub(crate) fn long_comment(s: &[u8]) -> Option<usize>
     ensures { end_of result ≡ long_comment 0 s.now }
 {
     let mut depth: usize = 0;
-    let mut i: usize = 0;
-    while i + 1 < s.len() {
-        match mark_at(s[i], s[i + 1]) {
-            Pair::Closing => {
-                i += 2;
+    let mut rest = s;
+    while let [a, b, after @ ..] = rest {
+        match mark_at(*a, *b) {
+            Some(Mark::Closing) => {
                 if depth == 0 {
-                    return End::At(i);
+                    return Some(s.len() - after.len());
                 }
                 depth -= 1;
+                rest = after;
             }
-            Pair::Opening => {
-                i += 2;
+            Some(Mark::Opening) => {
                 depth += 1;
+                rest = after;
             }
-            Pair::Neither => {
-                i += 1;
-            }
+            None => rest = &rest[1..],
         }
     }
-    End::Never
+    None
 }
 
 // Upstream's function of this name: the place after the long comment that is open at `start`, at most `end`.
@@ -81,48 +60,40 @@ pub(crate) fn position_after_end_of_long_comment(input: &[u8], start: usize, end
     ensures { Position (take (end - start) (drop start input.now)) start end result }
 {
     match long_comment(&input[start..end]) {
-        End::At(n) => start + n,
-        End::Never => end,
+        Some(n) => start + n,
+        None => end,
     }
 }
 
-// The one blank at the start, `Passed(0)` where there is none.
-pub(crate) fn blank_at_start(s: &[u8]) -> Reach
+// The one blank at the start, 0 bytes where there is none.
+pub(crate) fn blank_at_start(s: &[u8]) -> Result<usize, Unclosed>
     ensures { reach_of result ≡ blank s.now }
 {
-    if s.len() == 0 {
-        return Reach::Passed(0);
-    }
-    if is_space(s[0]) {
-        return Reach::Passed(1);
+    let [first, rest @ ..] = s else {
+        return Ok(0);
+    };
+    if is_space(*first) {
+        return Ok(1);
     }
     if starts_with(s, b"//") {
-        let n = run_length(&s[1..], Class::NotNewline);
-        return Reach::Passed(1 + n);
+        return Ok(1 + run_length(rest, not_newline));
     }
     if starts_with(s, b"/*") {
-        let end = position_after_end_of_long_comment(s, 2, s.len());
-        return Reach::Passed(end);
+        return Ok(position_after_end_of_long_comment(s, 2, s.len()));
     }
-    Reach::Passed(0)
+    Ok(0)
 }
 
 // `W`: all blanks at the start.
-pub fn blanks(s: &[u8]) -> Reach
+pub fn blanks(s: &[u8]) -> Result<usize, Unclosed>
     ensures { reach_of result ≡ W s.now }
 {
     let mut at: usize = 0;
     loop {
         match blank_at_start(&s[at..]) {
-            Reach::Passed(n) => {
-                if n == 0 {
-                    return Reach::Passed(at);
-                }
-                at += n;
-            }
-            Reach::Unclosed(n) => {
-                return Reach::Unclosed(at + n);
-            }
+            Ok(0) => return Ok(at),
+            Ok(n) => at += n,
+            Err(open) => return Err(Unclosed { at: at + open.at }),
         }
     }
 }

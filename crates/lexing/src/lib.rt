@@ -7,9 +7,9 @@ mod bytes;
 pub mod refusal;
 mod token;
 
-pub use blank::{Reach, blanks};
+pub use blank::{Unclosed, blanks};
 pub use bytes::same_bytes;
 pub use token::{
-    Lexed, identifier_length, keyword, lexeme, natural, parse_custom_literal, parse_id, sym,
+    Lexed, Token, identifier_length, keyword, lexeme, natural, parse_custom_literal, parse_id, sym,
     sym_not_prefix,
 };

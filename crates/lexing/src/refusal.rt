@@ -1,18 +1,41 @@
-// The numbers of a reading's refusals.
-// The text is longer than it may be.
-pub const TEXT_TOO_LONG: u64 = 1;
+// Why a text is refused, and where.
+ghost use Rattle.std.specs.Prelude.{◌≡◌};
+ghost use Rattle.lexing.specs.CodeAnswers.{number};
 
-// The rules can't go on.
-pub const UNUSABLE_TOKEN: u64 = 2;
+#[derive(Clone, Copy, PartialEq, Eq, Debug)]
+pub enum Reason {
+    // The text is longer than it may be.
+    TextTooLong,
+    // The rules can't go on.
+    UnusableToken,
+    // One level more than may be would be opened.
+    LevelTooDeep,
+    // A natural is above the largest.
+    LargeNatural,
+    // The tree has more words than the table, or than a table may have.
+    TreeTooLarge,
+    // A long comment is not closed.
+    UnclosedComment,
+}
 
-// One level more than may be would be opened.
-pub const LEVEL_TOO_DEEP: u64 = 3;
+impl Reason {
+    // The refusal's number.
+    pub fn number(self) -> u64
+        ensures { result ≡ number self }
+    {
+        match self {
+            Reason::TextTooLong => 1,
+            Reason::UnusableToken => 2,
+            Reason::LevelTooDeep => 3,
+            Reason::LargeNatural => 4,
+            Reason::TreeTooLarge => 5,
+            Reason::UnclosedComment => 2,
+        }
+    }
+}
 
-// A natural is above the largest.
-pub const LARGE_NATURAL: u64 = 4;
-
-// The tree has more words than the table, or than a table may have.
-pub const TREE_TOO_LARGE: u64 = 5;
-
-// A long comment is not closed.
-pub const UNCLOSED_COMMENT: u64 = 2;
+#[derive(Clone, Copy, PartialEq, Eq, Debug)]
+pub struct Refusal {
+    pub reason: Reason,
+    pub place: usize,
+}

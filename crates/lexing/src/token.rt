@@ -1,44 +1,38 @@
 // Words and signs, with the blanks after them.
-ghost use Rattle.std.specs.Prelude.{◌≡◌, ◌-◌};
+ghost use Rattle.std.specs.Prelude.{◌≡◌, ◌-◌, ◌+◌, ◌*◌};
 ghost use Rattle.lexing.specs.Tokens as tokens;
 ghost use Rattle.lexing.specs.CodeAnswers.{answer_of, number_of};
 
-use crate::blank::{Reach, blanks};
-use crate::bytes::{Class, can_start_identifier_char, run_length, same_bytes, starts_with};
-use crate::refusal::{LARGE_NATURAL, UNCLOSED_COMMENT};
+use crate::blank::blanks;
+use crate::bytes::{
+    can_start_identifier_char, custom_literal_char, identifier_char, is_digit, run_length,
+    same_bytes, starts_with,
+};
+use crate::refusal::{Reason, Refusal};
 
-// The largest natural.
-const MOST_NATURAL: u64 = 18446744073709551615;
-
-// What reading a token answers.
-#[derive(Clone, Copy)]
-pub enum Lexed {
-    // Its value, and how many bytes it takes with the blanks after it.
-    Ok(u64, usize),
-    // It does not stand here.
-    None,
-    // The refusal's number and place.
-    Refused(u64, usize),
+// A token's value, and how many bytes it takes with the blanks after it.
+#[derive(Clone, Copy, PartialEq, Eq, Debug)]
+pub struct Token {
+    pub value: u64,
+    pub size: usize,
 }
 
-// The number that digits stand for.
-#[derive(Clone, Copy)]
-pub(crate) enum Number {
-    Value(u64),
-    // It exceeds the largest natural.
-    TooLarge,
-}
+// What reading a token answers: `None` where it does not stand here.
+pub type Lexed = Result<Option<Token>, Refusal>;
 
 // A token with a value that takes `n` bytes, and the blanks after it.
 pub fn lexeme(text: &[u8], value: u64, n: usize) -> Lexed
     ensures { answer_of result ≡ tokens.lexeme value n text.now }
 {
     if text.len() < n {
-        return Lexed::Ok(value, n);
+        return Ok(Some(Token { value, size: n }));
     }
     match blanks(&text[n..]) {
-        Reach::Passed(k) => Lexed::Ok(value, n + k),
-        Reach::Unclosed(k) => Lexed::Refused(UNCLOSED_COMMENT, n + k),
+        Ok(k) => Ok(Some(Token { value, size: n + k })),
+        Err(open) => Err(Refusal {
+            reason: Reason::UnclosedComment,
+            place: n + open.at,
+        }),
     }
 }
 
@@ -46,12 +40,11 @@ pub fn lexeme(text: &[u8], value: u64, n: usize) -> Lexed
 pub fn identifier_length(text: &[u8]) -> usize
     ensures { result ≡ tokens.identifier_length text.now }
 {
-    if text.len() == 0 {
+    let [first, rest @ ..] = text else {
         return 0;
-    }
-    if can_start_identifier_char(text[0]) {
-        let n = run_length(&text[1..], Class::IdentifierChar);
-        return 1 + n;
+    };
+    if can_start_identifier_char(*first) {
+        return 1 + run_length(rest, identifier_char);
     }
     0
 }
@@ -61,7 +54,7 @@ pub fn parse_id(text: &[u8]) -> Lexed
 {
     let size = identifier_length(text);
     if size == 0 {
-        return Lexed::None;
+        return Ok(None);
     }
     lexeme(text, size as u64, size)
 }
@@ -69,11 +62,14 @@ pub fn parse_id(text: &[u8]) -> Lexed
 pub fn parse_custom_literal(text: &[u8]) -> Lexed
     ensures { answer_of result ≡ tokens.parse_custom_literal text.now }
 {
-    let n = run_length(text, Class::CustomLiteralChar);
+    let n = run_length(text, custom_literal_char);
     if n == 0 {
-        return Lexed::None;
+        return Ok(None);
     }
-    Lexed::Ok(n as u64, n)
+    Ok(Some(Token {
+        value: n as u64,
+        size: n,
+    }))
 }
 
 // `T(word)`.
@@ -84,7 +80,7 @@ pub fn keyword(text: &[u8], word: &[u8]) -> Lexed
     if same_bytes(&text[..n], word) {
         return lexeme(text, 0, n);
     }
-    Lexed::None
+    Ok(None)
 }
 
 pub fn sym(text: &[u8], s: &[u8]) -> Lexed
@@ -93,7 +89,7 @@ pub fn sym(text: &[u8], s: &[u8]) -> Lexed
     if starts_with(text, s) {
         return lexeme(text, 0, s.len());
     }
-    Lexed::None
+    Ok(None)
 }
 
 // `SymNotPrefix(s, [longer])`.
@@ -101,45 +97,41 @@ pub fn sym_not_prefix(text: &[u8], s: &[u8], longer: &[u8]) -> Lexed
     ensures { answer_of result ≡ tokens.sign_not_prefix s.now longer.now text.now }
 {
     if starts_with(text, longer) {
-        return Lexed::None;
+        return Ok(None);
     }
     sym(text, s)
 }
 
-pub(crate) fn digit_value(b: u8) -> u64
-    ensures { result ≡ b - 48 }
+// `value` with one more digit, if it is no larger than the largest natural.
+pub(crate) fn with_digit(value: u64, digit: u8) -> Option<u64>
+    ensures { result ≡ number_of (value * 10 + (digit - 48)) }
 {
-    if b < 48 {
-        return 0;
-    }
-    (b - 48) as u64
+    let tens = value.checked_mul(10)?;
+    tens.checked_add(u64::from(digit.saturating_sub(b'0')))
 }
 
-pub(crate) fn decimal(s: &[u8]) -> Number
+pub(crate) fn decimal(s: &[u8]) -> Option<u64>
     ensures { result ≡ number_of (tokens.decimal 0 s.now) }
 {
-    let mut value: u64 = 0;
-    let mut i = 0;
-    while i < s.len() {
-        let d = digit_value(s[i]);
-        if (MOST_NATURAL - d) / 10 < value {
-            return Number::TooLarge;
-        }
-        value = value * 10 + d;
-        i += 1;
+    let mut value = 0;
+    for digit in s {
+        value = with_digit(value, *digit)?;
     }
-    Number::Value(value)
+    Some(value)
 }
 
 pub fn natural(text: &[u8]) -> Lexed
     ensures { answer_of result ≡ tokens.natural text.now }
 {
-    let n = run_length(text, Class::Digit);
+    let n = run_length(text, is_digit);
     if n == 0 {
-        return Lexed::None;
+        return Ok(None);
     }
     match decimal(&text[..n]) {
-        Number::Value(value) => lexeme(text, value, n),
-        Number::TooLarge => Lexed::Refused(LARGE_NATURAL, 0),
+        Some(value) => lexeme(text, value, n),
+        None => Err(Refusal {
+            reason: Reason::LargeNatural,
+            place: 0,
+        }),
     }
 }

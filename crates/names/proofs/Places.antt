@@ -1,13 +1,6 @@
 -- Elements of a list after a store; whether two places have the same keys, and the first place with some.
-use Prim.Native.Nat.{ℕ, ◌<◌, ◌≤◌}
-use native.Mathlib.Omega.{arith}
-use mathlib.Core.Path.{◌≡◌, refl, sym, ◌∙◌, subst}
-use mathlib.Core.Bool.{Bool, true, false}
-use mathlib.Core.List.{List, ◌++◌}
-use lib.ListN.{length, get_or, set, drop, replicate, length-replicate, get_or-replicate, get_or-append}
-use lib.Seq.{get_or-set_same, get_or-set_other}
-use lib.Dec.{eqb}
-use borrow.Author.Tests.{eqb-true, eqb-false}
+use Rattle.std.proofs.Common.{ℕ, ◌<◌, ◌≤◌, ◌≡◌, refl, sym, subst, Bool, true, false, List, length, get_or, set, get_or-set_same, get_or-set_other, eqb, eqb-true, arith}
+use Rattle.std.proofs.lemmas.Bool.{eqb-false}
 use Rattle.names.specs.Classes.{Same, FirstOf, Class}
 use Rattle.names.specs.ClassLaws.{same-sym, same-trans}
 
@@ -22,11 +15,6 @@ stored P l i j x h same other = by-test (eqb j i) refl
     by-test false e =
         let q = eqb-false j i e in
         subst P (sym (get_or-set_other l i j x 0 q)) (other q)
-
--- an element of the part that was filled
-pub filled : (count value : ℕ) (l : List ℕ) (i : ℕ) → i < count → get_or (replicate count value ++ drop count l) i 0 ≡ value
-filled count value l i h =
-    get_or-append (replicate count value) (drop count l) 0 i (omega (arith, length-replicate count value)) ∙ get_or-replicate count i value 0 h
 
 module _ {first second : List ℕ} where
   -- whether two places have the same keys

@@ -48,43 +48,17 @@ Seen first second n seen =
     (j : ℕ) → j < n
     → (get_or seen (get_or second j 0) 0 < n) × FirstOf first second n (get_or seen (get_or second j 0) 0) (get_or seen (get_or second j 0) 0)
 
--- ---- contracts
+-- ---- what the functions ensure
 
-pub record ChainReady (keys : List ℕ) (n most : ℕ) (heads next : List ℕ) : Type 0 where
-  pub keyed : Keys keys n most
-  pub heads-enough : most ≤ length heads
-  pub next-enough : n ≤ length next
-  pub few : n ≤ 65535
-
-pub record Chained (keys : List ℕ) (n most : ℕ) (heads next heads' next' : List ℕ) : Type 0 where
-  pub heads-length : length heads' ≡ length heads
-  pub next-length : length next' ≡ length next
-  pub firsts : Heads keys n most 0 heads'
-  pub nexts : Nexts keys n 0 next'
-
-pub record PlacesReady (first second : List ℕ) (s at : ℕ) : Type 0 where
-  pub first-has : s < length first
-  pub second-has : s < length second
-  pub first-has-at : at < length first
-  pub second-has-at : at < length second
-  pub few : s ≤ 65535
-  pub few-at : at ≤ 65535
+-- the lists of the places with one key: at a key the first place with it, at a place the next with its key
+pub record Chained (keys : List ℕ) (n most : ℕ) (heads next : List ℕ) : Type 0 where
+  pub firsts : Heads keys n most 0 heads
+  pub nexts : Nexts keys n 0 next
 
 -- of two places the first one where their keys are the same, else the second one
 pub record Class (first second : List ℕ) (s at c : ℕ) : Type 0 where
   pub old : Same first second s at → c ≡ s
   pub new : (Same first second s at → ⊥) → c ≡ at
-
-pub record FollowReady (first second : List ℕ) (n v : ℕ) (heads next seen out : List ℕ) : Type 0 where
-  pub first-enough : n ≤ length first
-  pub keyed : Keys second n (length seen)
-  pub head-there : v < length heads
-  pub next-enough : n ≤ length next
-  pub out-enough : n ≤ length out
-  pub few : n ≤ 65535
-  pub head : NextPlace first n v 0 (get_or heads v 0)
-  pub nexts : Nexts first n 0 next
-  pub seen-firsts : Seen first second n seen
 
 -- the places with the first key v have their classes, and the others keep theirs
 pub record Followed (first second : List ℕ) (n v : ℕ) (seen out seen' out' : List ℕ) : Type 0 where
@@ -93,19 +67,3 @@ pub record Followed (first second : List ℕ) (n v : ℕ) (seen out seen' out' :
   pub seen-firsts : Seen first second n seen'
   pub classed : (j : ℕ) → j < n → get_or first j 0 ≡ v → FirstOf first second n j (get_or out' j 0)
   pub kept : (j : ℕ) → (get_or first j 0 ≡ v → ⊥) → get_or out' j 0 ≡ get_or out j 0
-
-pub record Ready (first second : List ℕ) (n most : ℕ) (heads next seen out : List ℕ) : Type 0 where
-  pub first-keys : Keys first n most
-  pub second-keys : Keys second n most
-  pub heads-enough : most ≤ length heads
-  pub next-enough : n ≤ length next
-  pub seen-enough : most ≤ length seen
-  pub out-enough : n ≤ length out
-  pub few : n ≤ 65535
-
-pub record ClassesMade (first second : List ℕ) (n : ℕ) (heads next seen out heads' next' seen' out' : List ℕ) : Type 0 where
-  pub classed : Classed first second n out'
-  pub heads-length : length heads' ≡ length heads
-  pub next-length : length next' ≡ length next
-  pub seen-length : length seen' ≡ length seen
-  pub out-length : length out' ≡ length out

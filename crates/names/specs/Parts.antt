@@ -114,3 +114,9 @@ name-at = first-at most_spans most_bytes
 pub names-cut : (text spans : List ℕ) → names (take most_bytes text) spans ≡ names text spans
 unfolding names
 names-cut text spans = ap (λ (t : List ℕ). take most_spans (spelt t spans)) (take-take most_bytes most_bytes text (omega arith))
+
+-- what is read of a text, where it is cut at its own length
+pub read-cut : (k : ℕ) (text : List ℕ) → take (min (length text) k) text ≡ take k text
+read-cut k text =
+    ⊎_elim (λ h. let e : min (length text) k ≡ length text = omega arith in rw e (take_all (length text) text (omega arith) ∙ sym (take_all k text (omega arith))))
+    (λ h. let e : min (length text) k ≡ k = omega arith in rw e) (lt-or-le (length text) k)

@@ -1,12 +1,12 @@
 -- Numbers from first equal spans, and the numbers written.
 use Rattle.std.specs.Prelude.{ℕ, suc, ◌+◌, ◌<◌, ◌≤◌, min, ◌≡◌, refl, Bool, true, false, cond, List, [], length, get_or, take, set, eqb}
-use Rattle.std.proofs.Common.{arith, add-one, sym, ap, ◌∙◌, ⊎_elim, length-set, ext_get_or, take_all, get_or-set_same, get_or-set_other, eqb-true}
+use Rattle.std.proofs.Common.{arith, add-one, sym, ap, ◌∙◌, ⊎_elim, length-set, ext_get_or, take_all, get_or-take, get_or-set_same, get_or-set_other, eqb-true, eq-eqb, ne_eqb}
 use Rattle.std.proofs.lemmas.Bool.{eqb-false}
 use Rattle.names.specs.Names.{most_bytes, names, numbering, distinct}
 use Rattle.tree.specs.Outline.{filled}
 use Rattle.tree.specs.OutlineLaws.{filled-length, filled_at, filled-later}
 use Rattle.names.specs.NumberLaws.{lt-or-le, numbering-length, rank-new, rank-old}
-use Rattle.names.specs.Parts.{names-cut}
+use Rattle.names.specs.Parts.{names-cut, read-cut}
 use Rattle.names.specs.Spans.{Written, FirstEqual, Ranked}
 
 ranked-none : (bs : List (List ℕ)) (ranks : List ℕ) → Ranked bs 0 0 ranks
@@ -61,8 +61,29 @@ module _ (classes : List ℕ) (n : ℕ) where
       by-test true = omega (arith, r.few)
       by-test false = omega (arith, r.few)
 
+  -- the first span of its name, and one whose name occurs before
+  pub ranking-first : (i count : ℕ) (ranks : List ℕ) (c count' : ℕ) (ranks' : List ℕ) → Ranking classes n i count ranks → i < n → i < length classes
+      → c ≡ get_or ranks i 0 → c ≡ i → ranks' ≡ set ranks i count → count' ≡ count + 1 → Ranking classes n (i + 1) count' ranks'
+  ranking-first i count ranks c count' ranks' r h k e own s t =
+      rw s (ranking-next i count ranks c count count' r h k e (simp (eq-eqb c i own)) (simp (eq-eqb c i own) t))
+
+  pub ranking-again : (i count : ℕ) (ranks : List ℕ) (c count' : ℕ) (ranks' : List ℕ) → Ranking classes n i count ranks → i < n → i < length classes
+      → c ≡ get_or ranks i 0 → (c ≡ i → ⊥) → ranks' ≡ set ranks i (get_or ranks c 0) → count' ≡ count → Ranking classes n (i + 1) count' ranks'
+  ranking-again i count ranks c count' ranks' r h k e other s t =
+      rw s (ranking-next i count ranks c (get_or ranks c 0) count' r h k e (simp (ne_eqb c i other)) (simp (ne_eqb c i other) t))
+
   pub ranking-end : (i count : ℕ) (ranks : List ℕ) → i ≡ n → Ranking classes n i count ranks → (bs : List (List ℕ)) → FirstEqual bs n classes → n ≤ length bs → Ranked bs n count ranks
   ranking-end i count ranks e r bs f l = rw e at (r.ranked bs f l)
+
+-- the classes of the names alone
+pub first-cut : (bs : List (List ℕ)) (n : ℕ) (classes : List ℕ) → n ≤ length classes → FirstEqual bs n classes → FirstEqual bs n (take n classes)
+first-cut bs n classes h f =
+    let at : (i : ℕ) → i < n → get_or (take n classes) i 0 ≡ get_or classes i 0 = λ i l. get_or-take n classes i 0 l in
+    record {
+      early = λ i l. omega (arith, at i l, f.early i l);
+      equal = λ i l. rw (at i l) (f.equal i l);
+      least = λ i j l m e. omega (arith, at i l, f.least i j l m e);
+    }
 
 -- the numbers copied over a list
 filled-by : (bs : List (List ℕ)) (n count : ℕ) (ranks before after : List ℕ) → n ≡ length bs → Ranked bs n count ranks
@@ -87,3 +108,11 @@ pub numbered-cut : (text spans : List ℕ) (count : ℕ) (before after : List �
     → (count ≡ length (distinct [] (names (take most_bytes text) spans))) × (after ≡ filled (numbering [] (names (take most_bytes text) spans)) before)
     → (count ≡ length (distinct [] (names text spans))) × (after ≡ filled (numbering [] (names text spans)) before)
 numbered-cut text spans count before after h = (h.0 ∙ ap (λ (bs : List (List ℕ)). length (distinct [] bs)) (names-cut text spans), h.1 ∙ ap (λ (bs : List (List ℕ)). filled (numbering [] bs) before) (names-cut text spans))
+
+-- where the text is cut at its own length too
+pub numbered-read : (text spans : List ℕ) (count : ℕ) (before after : List ℕ) (k : ℕ) {text' spans' : List ℕ} → k ≡ min (length text) most_bytes → text' ≡ take k text → spans' ≡ spans
+    → (count ≡ length (distinct [] (names text' spans'))) × (after ≡ filled (numbering [] (names text' spans')) before)
+    → (count ≡ length (distinct [] (names text spans))) × (after ≡ filled (numbering [] (names text spans)) before)
+numbered-read text spans count before after k {text'} {spans'} e read same h =
+    let cut : text' ≡ take most_bytes text = read ∙ ap (λ (k : ℕ). take k text) e ∙ read-cut most_bytes text in
+    numbered-cut text spans count before after (rw (← cut, ← same) h)

@@ -1,6 +1,7 @@
 -- Lists written from the front.
-use Rattle.std.specs.Prelude.{ℕ, ◌+◌, ◌<◌, ◌≡◌, refl, List, length, set}
-use Rattle.std.proofs.Common.{arith, ◌∙◌, ⊎_elim, length-set, get_or-set_same, get_or-set_other}
+use Rattle.std.specs.Prelude.{ℕ, ◌+◌, ◌-◌, ◌<◌, ◌≤◌, ◌≡◌, refl, List, ◌++◌, length, get_or, take, drop, set}
+use Rattle.std.proofs.Common.{arith, ap, ◌∙◌, ⊎_elim, length-append, length-drop, length-set, length-take-le, get_or-take, get_or-drop, get_or-set_same, get_or-set_other}
+use Rattle.std.proofs.lemmas.List.{get_or_append_left, get_or-append_right}
 use Rattle.names.specs.NumberLaws.{lt-or-le}
 use Rattle.names.specs.Spans.{Written}
 
@@ -19,3 +20,15 @@ module _ (value : ℕ → ℕ) where
 
   pub written-to : (i n : ℕ) (before now : List ℕ) → i ≡ n → Written value i before now → Written value n before now
   written-to i n before now e w = rw (← e) w
+
+-- the first n numbers of a list, copied
+pub written_front : (from before front : List ℕ) (n : ℕ) → n ≤ length from → n ≤ length before → front ≡ take n from → Written (λ i. get_or from i 0) n before (front ++ drop n before)
+written_front from before front n f b e =
+    let long : length front ≡ n = ap length e ∙ length-take-le n from f in
+    record {
+      same_length = omega (arith, length-append front (drop n before), length-drop n before);
+      written = λ i h. get_or_append_left front (drop n before) 0 i (omega arith) ∙ ap (λ (l : List ℕ). get_or l i 0) e ∙ get_or-take n from i 0 h;
+      kept = λ i h.
+          let d : n + (i - n) ≡ i = omega arith in
+          get_or-append_right front (drop n before) n i 0 long h ∙ get_or-drop n before (i - n) 0 ∙ ap (λ (k : ℕ). get_or before k 0) d;
+    }

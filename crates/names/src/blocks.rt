@@ -7,12 +7,11 @@ use crate::pairs::pair_classes;
 // The bytes of a text as classes of width 1.
 pub(crate) fn bytes(text: &[u8], classes: &mut [u16])
     requires { length text.now ≤ length classes.old }
-    ensures { Written (λ i. get_or text.now i 0) (length text.now) classes.old classes.new }
+    ensures written { Written (λ i. get_or text.now i 0) (length text.now) classes.old classes.new }
+    ensures blocks { Blocks text.now classes.new 1 256 }
 {
-    let mut i: usize = 0;
-    while i < text.len() {
-        classes[i] = text[i] as u16;
-        i += 1;
+    for (i, byte) in text.iter().enumerate() {
+        classes[i] = u16::from(*byte);
     }
 }
 
@@ -21,8 +20,7 @@ pub(crate) fn widen(text: &[u8], w: usize, longest: usize, most: usize, classes:
     requires { Widens text.now w longest most classes.old }
     ensures { w + w ≤ longest → Blocks text.now classes.new (w + w) most }
 {
-    if longest < w + w {
-        return;
+    if w + w <= longest {
+        pair_classes(classes, w, text.len() - (w + w) + 1, most);
     }
-    pair_classes(classes, w, text.len() - (w + w) + 1, most);
 }

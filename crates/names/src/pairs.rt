@@ -1,54 +1,55 @@
 // Classes of places with two keys in one slice: the keys of the place i stand at i and at i + w.
-ghost use Rattle.names.specs.Spans.{Pairs, PairsIn, PairClasses};
+ghost use Rattle.std.specs.Prelude.{◌≤◌};
+ghost use Rattle.names.specs.Spans.{Pairs, PairClasses};
 
-use crate::cells::{copy, greater};
-use crate::classes::classify;
+use crate::classes::{Classes, Lists, Places};
+
+// How many numbers the arrays have: one for each place, and one for each key.
+const SMALL: usize = 1024;
+
+const MIDDLE: usize = 8192;
+
+const LARGE: usize = 65536;
 
 // Puts the class of each of the first n places, the first place with the same keys, in place of its first key. Small numbers take small arrays.
 pub(crate) fn pair_classes(keys: &mut [u16], w: usize, n: usize, most: usize)
     requires { Pairs keys.old w n most }
     ensures { PairClasses keys.old w n keys.new }
 {
-    let size = greater(most, n);
-    if size <= 1024 {
-        let mut heads = [0u16; 1024];
-        let mut next = [0u16; 1024];
-        let mut seen = [0u16; 1024];
-        let mut out = [0u16; 1024];
-        classes_in(keys, w, n, most, &mut heads, &mut next, &mut seen, &mut out);
-        return;
+    let size = most.max(n);
+    if size <= SMALL {
+        classes_in::<SMALL>(keys, w, n, most);
+    } else if size <= MIDDLE {
+        classes_in::<MIDDLE>(keys, w, n, most);
+    } else {
+        classes_in::<LARGE>(keys, w, n, most);
     }
-    if size <= 8192 {
-        let mut heads = [0u16; 8192];
-        let mut next = [0u16; 8192];
-        let mut seen = [0u16; 8192];
-        let mut out = [0u16; 8192];
-        classes_in(keys, w, n, most, &mut heads, &mut next, &mut seen, &mut out);
-        return;
-    }
-    let mut heads = [0u16; 65536];
-    let mut next = [0u16; 65536];
-    let mut seen = [0u16; 65536];
-    let mut out = [0u16; 65536];
-    classes_in(keys, w, n, most, &mut heads, &mut next, &mut seen, &mut out);
 }
 
-// The same in given arrays.
-fn classes_in(
-    keys: &mut [u16],
-    w: usize,
-    n: usize,
-    most: usize,
-    heads: &mut [u16],
-    next: &mut [u16],
-    seen: &mut [u16],
-    out: &mut [u16],
-)
-    requires { PairsIn keys.old w n most heads.old next.old seen.old out.old }
+// The same in arrays of N numbers.
+fn classes_in<const N: usize>(keys: &mut [u16], w: usize, n: usize, most: usize)
+    requires pairs { Pairs keys.old w n most }
+    requires places { n ≤ N }
+    requires keys { most ≤ N }
+    requires size { N ≤ 65536 }
     ensures { PairClasses keys.old w n keys.new }
 {
-    let firsts = &keys[..];
-    let seconds = &firsts[w..];
-    classify(firsts, seconds, n, most, heads, next, seen, out);
-    copy(out, n, keys);
+    let all = &keys[..];
+    let places = Places::<N> {
+        first: &all[..n],
+        second: &all[w..w + n],
+        most,
+    };
+    // Both are made before a call, as the compilers then make them in place.
+    let mut lists = Lists::<N> {
+        heads: [0; N],
+        next: [0; N],
+    };
+    let mut classes = Classes::<N> {
+        seen: [0; N],
+        out: [0; N],
+    };
+    lists.chain(&places);
+    classes.classify(&places, &lists);
+    keys[..n].copy_from_slice(&classes.out[..n]);
 }

@@ -1,122 +1,135 @@
 // Keys of spans: two spans of one length have the same two keys exactly when their bytes are equal. The keys are the classes of the first
 // and of the last block of a span, whose width is the greatest power of two that is no greater than the span's length.
-ghost use Rattle.std.specs.Prelude.{◌≡◌, ◌+◌, ◌<◌, ◌≤◌, length};
+ghost use Rattle.std.specs.Prelude.{◌≡◌, ◌+◌, ◌<◌, ◌≤◌, min, length};
 ghost use Rattle.names.specs.Names.{most_spans, most_bytes, names};
-ghost use Rattle.names.specs.Spans.{start_of, length_of, Longest, KeyTaken, KeysTaken, Lengths, Room, KeyedAll, Sorts, FirstEqual};
+ghost use Rattle.names.specs.Spans.{start_of, length_of, Longest, KeyTaken, KeysTaken, Lengths, Sized, KeyedAll, FirstEqual};
 
+use crate::MOST_SPANS;
 use crate::blocks::{bytes, widen};
-use crate::cells::{clear, get, greater, lesser};
 use crate::pairs::pair_classes;
 
-// Where a span starts in a text of length len, and how long it is there.
-fn start_of(len: usize, spans: &[u32], i: usize) -> usize
-    requires { i < most_spans }
-    ensures { result ≡ start_of len spans.now i }
-{
-    lesser(tree::get(spans, 2 * i) as usize, len)
+// How many values a byte has.
+const BYTE_VALUES: usize = 256;
+
+// Spans over a text that is read whole: two words each, a start and a length. Their keys are below `most`, and N numbers are enough for
+// the text's bytes, and for two keys of each span.
+#[derive(Drop)]
+pub(crate) struct Spans<'a, const N: usize> {
+    pub(crate) text: &'a [u8],
+    pub(crate) words: &'a [u32],
+    pub(crate) count: usize,
+    pub(crate) most: usize,
+    ghost sized: { Sized text.now words.now count most },
+    ghost bytes_fit: { length text.now ≤ N },
+    ghost keys_fit: { count + count ≤ N },
+    ghost size: { N ≤ 65536 },
 }
 
-fn length_of(len: usize, spans: &[u32], i: usize) -> usize
-    requires { i < most_spans }
-    ensures { result ≡ length_of len spans.now i }
-{
-    let rest = len - start_of(len, spans, i);
-    lesser(tree::get(spans, 2 * i + 1) as usize, rest)
-}
-
-// The greatest length of the first n spans.
-fn longest(len: usize, spans: &[u32], n: usize) -> usize
-    requires { n ≤ most_spans }
-    ensures { Longest len spans.now n result }
-{
-    let mut most: usize = 0;
-    let mut i: usize = 0;
-    while i < n {
-        most = greater(most, length_of(len, spans, i));
-        i += 1;
+impl<'a, const N: usize> Spans<'a, N> {
+    pub(crate) fn new(text: &'a [u8], words: &'a [u32]) -> Self
+        requires few_bytes { length text.now ≤ most_bytes }
+        requires bytes_fit { length text.now ≤ N }
+        requires keys_fit { min (length words.now) (most_spans + most_spans) ≤ N }
+        requires size { N ≤ 65536 }
+        ensures text { result.text.now ≡ text.now }
+        ensures words { result.words.now ≡ words.now }
+    {
+        let count = (words.len() / 2).min(MOST_SPANS);
+        let most = (text.len() + 1).max(count).max(BYTE_VALUES);
+        Spans {
+            text,
+            words,
+            count,
+            most,
+        }
     }
-    most
-}
 
-// The keys of the span i of n, if its length is at least w and below 2 w. Keys stand at i and at i + n.
-fn take_key(
-    len: usize,
-    spans: &[u32],
-    n: usize,
-    i: usize,
-    w: usize,
-    classes: &[u16],
-    keys: &mut [u16],
-)
-    requires { (n ≤ most_spans) × (i < n) × (w ≤ most_bytes) × (n + n ≤ length keys.old) }
-    ensures { KeyTaken len spans.now classes.now n w i keys.old keys.new }
-{
-    let l = length_of(len, spans, i);
-    if l < w {
-        return;
+    // Where a span starts in the text, and how long it is there.
+    fn start(&self, i: usize) -> usize
+        requires { i < self.now.count }
+        ensures { result ≡ start_of (length self.now.text.now) self.now.words.now i }
+    {
+        (tree::get(self.words, 2 * i) as usize).min(self.text.len())
     }
-    if w + w <= l {
-        return;
-    }
-    let s = start_of(len, spans, i);
-    keys[i] = get(classes, s);
-    keys[i + n] = get(classes, s + (l - w));
-}
 
-// The keys of the n spans of these lengths.
-fn take_keys(len: usize, spans: &[u32], n: usize, w: usize, classes: &[u16], keys: &mut [u16])
-    requires { (n ≤ most_spans) × (w ≤ most_bytes) × (n + n ≤ length keys.old) }
-    ensures { KeysTaken len spans.now classes.now n w n keys.old keys.new }
-{
-    let mut i: usize = 0;
-    while i < n {
-        take_key(len, spans, n, i, w, classes, keys);
-        i += 1;
+    fn length(&self, i: usize) -> usize
+        requires { i < self.now.count }
+        ensures { result ≡ length_of (length self.now.text.now) self.now.words.now i }
+    {
+        let rest = self.text.len() - self.start(i);
+        (tree::get(self.words, 2 * i + 1) as usize).min(rest)
     }
-}
 
-// The keys of the n spans, width by width: 1, 2, 4, .. to the longest span's length.
-pub(crate) fn span_keys(
-    text: &[u8],
-    spans: &[u32],
-    n: usize,
-    most: usize,
-    classes: &mut [u16],
-    keys: &mut [u16],
-)
-    requires { Room text.now spans.now n most classes.old keys.old }
-    ensures { KeyedAll text.now spans.now n most keys.new }
-{
-    bytes(text, classes);
-    clear(keys);
-    let most_len = longest(text.len(), spans, n);
-    let mut w: usize = 1;
-    while w <= most_len {
-        take_keys(text.len(), spans, n, w, classes, keys);
-        widen(text, w, most_len, most, classes);
-        w = w + w;
+    // The greatest length of a span.
+    fn longest(&self) -> usize
+        ensures { Longest (length self.now.text.now) self.now.words.now self.now.count result }
+    {
+        let mut most = 0;
+        for i in 0..self.count {
+            most = most.max(self.length(i));
+        }
+        most
     }
-}
 
-// The lengths of the n spans in place of their second keys.
-fn lengths(len: usize, spans: &[u32], n: usize, keys: &mut [u16])
-    requires { (len ≤ most_bytes) × (n ≤ most_spans) × (n + n ≤ length keys.old) }
-    ensures { Lengths len spans.now n n keys.old keys.new }
-{
-    let mut i: usize = 0;
-    while i < n {
-        keys[i + n] = length_of(len, spans, i) as u16;
-        i += 1;
+    // The keys of a span, if its length is at least w and below 2 w. Keys stand at i and at i + count.
+    fn take_key(&self, i: usize, w: usize, classes: &[u16; N], keys: &mut [u16; N])
+        requires span { i < self.now.count }
+        requires positive { 1 ≤ w }
+        requires narrow { w ≤ most_bytes }
+        ensures { KeyTaken (length self.now.text.now) self.now.words.now classes.now self.now.count w i keys.old keys.new }
+    {
+        let length = self.length(i);
+        if w <= length && length < w + w {
+            let start = self.start(i);
+            keys[i] = classes[start];
+            keys[i + self.count] = classes[start + (length - w)];
+        }
     }
-}
 
-// For each of the n spans the first span with the same bytes, in place of its first key: the class of its keys, and then of that class and
-// its length.
-pub(crate) fn first_equal(text: &[u8], spans: &[u32], n: usize, most: usize, keys: &mut [u16])
-    requires { Sorts text.now spans.now n most keys.old }
-    ensures { FirstEqual (names text.now spans.now) n keys.new }
-{
-    pair_classes(keys, n, n, most);
-    lengths(text.len(), spans, n, keys);
-    pair_classes(keys, n, n, most);
+    // The keys of the spans of these lengths.
+    fn take_keys(&self, w: usize, classes: &[u16; N], keys: &mut [u16; N])
+        requires positive { 1 ≤ w }
+        requires narrow { w ≤ most_bytes }
+        ensures { KeysTaken (length self.now.text.now) self.now.words.now classes.now self.now.count w self.now.count keys.old keys.new }
+    {
+        for i in 0..self.count {
+            self.take_key(i, w, classes, keys);
+        }
+    }
+
+    // The keys of the spans, width by width: 1, 2, 4, .. to the longest span's length.
+    pub(crate) fn span_keys(&self, classes: &mut [u16; N], keys: &mut [u16; N])
+        ensures { KeyedAll self.now.text.now self.now.words.now self.now.count self.now.most keys.new }
+    {
+        bytes(self.text, classes);
+        keys.fill(0);
+        let longest = self.longest();
+        let mut w = 1;
+        while w <= longest {
+            self.take_keys(w, classes, keys);
+            widen(self.text, w, longest, self.most, classes);
+            w += w;
+        }
+    }
+
+    // The lengths of the spans in place of their second keys.
+    fn lengths(&self, keys: &mut [u16; N])
+        ensures { Lengths (length self.now.text.now) self.now.words.now self.now.count self.now.count keys.old keys.new }
+    {
+        for i in 0..self.count {
+            keys[i + self.count] = self.length(i) as u16;
+        }
+    }
+
+    // For each span the first span with the same bytes, in place of its first key: the class of its keys, and then of that class and its
+    // length.
+    pub(crate) fn first_equal(&self, keys: &mut [u16; N])
+        requires { KeyedAll self.now.text.now self.now.words.now self.now.count self.now.most keys.old }
+        ensures equal { FirstEqual (names self.now.text.now self.now.words.now) self.now.count keys.new }
+        ensures len { length keys.new ≡ N }
+    {
+        pair_classes(keys, self.count, self.count, self.most);
+        self.lengths(keys);
+        pair_classes(keys, self.count, self.count, self.most);
+    }
 }

@@ -12,10 +12,10 @@ use Rattle.lexing.specs.Answer.{Answer, ok, refused, unclosed_comment, moved}
 use Rattle.lexing.specs.Bytes.{is_digit, can_start_identifier_char, run, starts_with, same_bytes, bytes}
 use Rattle.lexing.specs.Blanks.{Blanks, passed, unclosed, W}
 use Rattle.lexing.specs.Tokens.{closed, lexeme, unless_empty, identifier_length, keyword, sign, parse_id, natural}
-use Rattle.lexing.specs.CodeAnswers.{answer_of}
+use Rattle.parsing.specs.Code.{answer_of}
 use Rattle.lexing.specs.TokenLaws.{Within, natural-within, keyword-is, starts_with-true, parse_id-value, parse_id-keyword}
-use Rattle.lexing.specs.declared.token.Lexed.{Lexed}
-use Rattle.lexing.specs.declared.token.Lexed.TheVariants.{Ok as LexedOk, None as LexedNone, Refused as LexedRefused}
+use Rattle.parsing.specs.declared.step.Lexed.{Lexed}
+use Rattle.parsing.specs.declared.step.Lexed.TheVariants.{Ok as LexedOk, None as LexedNone, Refused as LexedRefused}
 use Rattle.tree.specs.Ast.{Span, Expr, BLiteral, ILiteral, IdExpr}
 use Rattle.grammar.specs.Steps.{Reader, after, ◌or◌, mapped, T, Sym, keyword_at, spanned, parse_name, parse_nat}
 use Rattle.grammar.specs.Rules.{opens_at, opens_expr, parse_expr, parse_equiv_expr, parse_primary_expr, parse_atomic_expr, after_name, after_old}

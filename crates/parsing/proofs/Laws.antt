@@ -9,9 +9,9 @@ use lib.ListN.{length}
 use types.Run.{OneOf}
 use denote.Enum.Declared.{tag_of}
 use Rattle.lexing.specs.Answer.{Answer, ok, refused}
-use Rattle.lexing.specs.declared.token.Lexed.{Lexed}
-use Rattle.lexing.specs.declared.token.Lexed.TheVariants.{Ok as LexedOk, None as LexedNone, Refused as LexedRefused}
-use Rattle.lexing.specs.contracts.token.Lexed.{the_type as lexed-type}
+use Rattle.parsing.specs.declared.step.Lexed.{Lexed}
+use Rattle.parsing.specs.declared.step.Lexed.TheVariants.{Ok as LexedOk, None as LexedNone, Refused as LexedRefused}
+use Rattle.parsing.specs.contracts.step.Lexed.{the_type as lexed-type}
 use Rattle.grammar.specs.Steps.{after, need, mapped}
 use Rattle.parsing.specs.Arena.{Run, Node, Holds, Kept, Found, Agrees, Builds, Stopped, needed_at}
 use Rattle.parsing.specs.Code.{Took, Tells, Stands, Signs, missing_at, untaken_at}

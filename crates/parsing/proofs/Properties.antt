@@ -9,8 +9,8 @@ use borrow.Author.Tests.{leb-true}
 use types.Run.{OneOf}
 use denote.Enum.Declared.{tag_of}
 use Rattle.lexing.specs.Answer.{Answer, ok, refused}
-use Rattle.lexing.specs.declared.token.Lexed.{Lexed}
-use Rattle.lexing.specs.declared.token.Lexed.TheVariants.{Ok as LexedOk, None as LexedNone, Refused as LexedRefused}
+use Rattle.parsing.specs.declared.step.Lexed.{Lexed}
+use Rattle.parsing.specs.declared.step.Lexed.TheVariants.{Ok as LexedOk, None as LexedNone, Refused as LexedRefused}
 use Rattle.tree.specs.Ast.{Span, Expr, Exprs, Patterns, no_patterns, pattern}
 use Rattle.tree.specs.Words.{patterns_words, expr_words}
 use Rattle.grammar.specs.Steps.{Reader, after, need, mapped, keyword_at}

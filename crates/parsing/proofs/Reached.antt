@@ -12,7 +12,7 @@ use borrow.Author.Tests.{leb-true}
 use types.Run.{OneOf}
 use denote.Enum.Declared.{tag_of}
 use Rattle.lexing.specs.Answer.{Answer, ok, refused}
-use Rattle.lexing.specs.declared.token.Lexed.{Lexed}
+use Rattle.parsing.specs.declared.step.Lexed.{Lexed}
 use Rattle.grammar.specs.Steps.{after, need}
 use Rattle.parsing.specs.Arena.{Run, Holds, Kept, Noted, Room, Found, Builds, needed_at}
 use Rattle.parsing.specs.Code.{Took, Four, Choice, missing_at, untaken_at}

@@ -15,9 +15,9 @@ use Rattle.lexing.specs.Answer.{Answer, ok, refused, pick, moved}
 use Rattle.lexing.specs.Bytes.{same_bytes, can_start_identifier_char, bytes}
 use Rattle.lexing.specs.BlankLaws.{W-closed}
 use Rattle.lexing.specs.Tokens.{closed, lexeme, identifier_length}
-use Rattle.lexing.specs.declared.token.Lexed.{Lexed}
-use Rattle.lexing.specs.declared.token.Lexed.TheVariants.{Ok as LexedOk, None as LexedNone, Refused as LexedRefused}
-use Rattle.lexing.specs.contracts.token.Lexed.{the_type as lexed-type}
+use Rattle.parsing.specs.declared.step.Lexed.{Lexed}
+use Rattle.parsing.specs.declared.step.Lexed.TheVariants.{Ok as LexedOk, None as LexedNone, Refused as LexedRefused}
+use Rattle.parsing.specs.contracts.step.Lexed.{the_type as lexed-type}
 use Rattle.tree.specs.Ast.{Span, Expr, Stmt, Exit}
 use Rattle.grammar.specs.Steps.{after, must, mapped, ◌or◌, Sym, parse_name}
 use Rattle.grammar.specs.Statements.{gallery, atomic, mark, word_of, too_deep, simple_words, statement_words, parse_optional_exit_argument}

@@ -7,9 +7,9 @@ use mathlib.Core.Bool.{Bool, true}
 use mathlib.Core.List.{List, ◌∷◌}
 use mathlib.Core.Option.{Option, none, some}
 use Rattle.lexing.specs.Answer.{Answer, ok, refused}
-use Rattle.lexing.specs.CodeAnswers.{answer_of}
-use Rattle.lexing.specs.declared.token.Lexed.{Lexed}
-use Rattle.lexing.specs.declared.token.Lexed.TheVariants.{Ok as LexedOk, None as LexedNone, Refused as LexedRefused}
+use Rattle.parsing.specs.Code.{answer_of}
+use Rattle.parsing.specs.declared.step.Lexed.{Lexed}
+use Rattle.parsing.specs.declared.step.Lexed.TheVariants.{Ok as LexedOk, None as LexedNone, Refused as LexedRefused}
 use Rattle.tree.specs.Ast.{Span, Binding, binding, Expr, Variable, Stmt, VarDecl, Assign, Block, Call, Choose, If, IfCase, LabeledStmt, no_stmts, stmts, case, a_expr, AAssertion}
 use Rattle.tree.specs.Words.{bool_word, name_words, binding_words, option_words, expr_words, stmt_words}
 use Rattle.lexing.specs.Bytes.{bytes}

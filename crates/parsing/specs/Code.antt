@@ -2,8 +2,8 @@
 use Rattle.std.specs.Prelude.{ℕ, suc, ◌+◌, ◌*◌, ◌^◌, ◌≤◌, ◌<◌, ◌≡◌, cond, Bool, true, false, ◌||◌, List, [], ◌∷◌, length, eqb}
 use Rattle.tree.specs.Tags.{operator_expr_tag}
 use Rattle.lexing.specs.Answer.{Answer, ok, refused, unusable_token}
-use Rattle.lexing.specs.declared.token.Lexed.{Lexed}
-use Rattle.lexing.specs.declared.token.Lexed.TheVariants.{Ok as LexedOk, None as LexedNone, Refused as LexedRefused}
+use Rattle.parsing.specs.declared.step.Lexed.{Lexed}
+use Rattle.parsing.specs.declared.step.Lexed.TheVariants.{Ok as LexedOk, None as LexedNone, Refused as LexedRefused}
 use Rattle.tree.specs.Ast.{Span, Expr, BLiteral, ILiteral, Operator, OperatorExpr, no_exprs, ◌then◌, Binding, binding, Exprs, ClosureBindings, ClosureProperties, IfThenElse}
 use Rattle.tree.specs.Ast.{IdExpr, ParameterMode, InOut, Out, CallArgument, FParameter, PParameter}
 use Rattle.tree.specs.Words.{operator_word, expr_words, exprs_words, patterns_words, closure_bindings_words, closure_properties_words, name_words, binding_words, seq_words}
@@ -40,6 +40,12 @@ abbrev pub Tells : {A : Type 0} → (ℕ → A) → List ℕ → ℕ → ℕ →
 Tells f text at least answer (LexedOk v next) = Took f text at least answer v next
 Tells f text at least answer LexedNone = answer ≡ Answer.none
 Tells f text at least answer (LexedRefused number place) = answer ≡ refused number place
+
+-- the definition's answer
+abbrev pub answer_of : Lexed → Answer ℕ
+answer_of (LexedOk v n) = ok v n
+answer_of LexedNone = Answer.none
+answer_of (LexedRefused number place) = refused number place
 
 -- an answer with its places counted from `at` on, and that these fit
 abbrev pub moved_of : ℕ → Lexed → Lexed

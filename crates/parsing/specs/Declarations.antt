@@ -4,8 +4,8 @@ use Prim.Native.String.{String}
 use Rattle.std.proofs.Math.Option.{Option, none, some}
 use Rattle.tree.specs.Tags.{no_more}
 use Rattle.lexing.specs.Answer.{Answer, ok, refused, unusable_token}
-use Rattle.lexing.specs.declared.token.Lexed.{Lexed}
-use Rattle.lexing.specs.declared.token.Lexed.TheVariants.{Ok as LexedOk, None as LexedNone, Refused as LexedRefused}
+use Rattle.parsing.specs.declared.step.Lexed.{Lexed}
+use Rattle.parsing.specs.declared.step.Lexed.TheVariants.{Ok as LexedOk, None as LexedNone, Refused as LexedRefused}
 use Rattle.tree.specs.Ast.{Span, Stmt, Tagger, Function, Axiom, Procedure, Program}
 use Rattle.tree.specs.Words.{seq_words, name_words, tagger_words, function_words, axiom_words, procedure_words}
 use Rattle.lexing.specs.Bytes.{bytes}

@@ -5,8 +5,8 @@ use Prim.Native.String.{String}
 use Rattle.lexing.specs.Answer.{Answer, ok, refused, pick, level_too_deep}
 use Rattle.lexing.specs.Bytes.{same_bytes, bytes}
 use Rattle.lexing.specs.Tokens.{identifier_length}
-use Rattle.lexing.specs.declared.token.Lexed.{Lexed}
-use Rattle.lexing.specs.declared.token.Lexed.TheVariants.{Ok as LexedOk, None as LexedNone, Refused as LexedRefused}
+use Rattle.parsing.specs.declared.step.Lexed.{Lexed}
+use Rattle.parsing.specs.declared.step.Lexed.TheVariants.{Ok as LexedOk, None as LexedNone, Refused as LexedRefused}
 use Rattle.tree.specs.Ast.{Span, Expr, Stmt, Check, Assume, Reach, Assert, Probe, Return, Loop}
 use Rattle.grammar.specs.Steps.{Reader, need, must, mapped, parse_name}
 use Rattle.grammar.specs.Statements.{the_expr, parse_a_expr_seq, parse_variable_declaration, after_forall, after_choose, parse_if_cont}

@@ -4,9 +4,9 @@ use Rattle.std.proofs.Math.Option.{Option, none, some}
 use Rattle.tree.specs.Tags.{var_decl_tag}
 use Rattle.lexing.specs.Answer.{Answer, ok, level_too_deep}
 use Rattle.lexing.specs.Bytes.{bytes}
-use Rattle.lexing.specs.CodeAnswers.{answer_of}
-use Rattle.lexing.specs.declared.token.Lexed.{Lexed}
-use Rattle.lexing.specs.declared.token.Lexed.TheVariants.{Ok as LexedOk, None as LexedNone, Refused as LexedRefused}
+use Rattle.parsing.specs.Code.{answer_of}
+use Rattle.parsing.specs.declared.step.Lexed.{Lexed}
+use Rattle.parsing.specs.declared.step.Lexed.TheVariants.{Ok as LexedOk, None as LexedNone, Refused as LexedRefused}
 use Rattle.tree.specs.Ast.{Span, Expr, Exprs, Variable, Stmt, Reinit, Exit, If, Stmts, Cases, AExpr, AExprs}
 use Rattle.tree.specs.Words.{option_words, variable_words, expr_words, exprs_words, stmt_words, stmts_words, cases_words, a_expr_words, a_exprs_words}
 use Rattle.grammar.specs.Steps.{Reader, after, need, must, mapped, ◌or◌, Sym, parse_name}

@@ -11,10 +11,9 @@ use crate::build::{four, over};
 use crate::expr::expr;
 use crate::expr::seq::{Kind, items, list};
 use crate::leaf::{identifier, missing, needed, typed};
-use crate::step::{keyword, sym};
+use crate::refusal::UNUSABLE_TOKEN;
+use crate::step::{Lexed, keyword, sym};
 use crate::stmt::{Repeated, block, many};
-use lexing::Lexed;
-use lexing::refusal::UNUSABLE_TOKEN;
 use tree::word::MORE;
 
 // After `type`.

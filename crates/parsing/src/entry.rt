@@ -6,8 +6,8 @@ ghost use Rattle.parsing.specs.Parse.{roomy, whole_rule, ended_as, Parses};
 use crate::arena::{Built, EMPTY, END, ONE, node};
 use crate::expr::expr;
 use crate::program::program;
-use lexing::refusal::{TREE_TOO_LARGE, UNCLOSED_COMMENT, UNUSABLE_TOKEN};
-use lexing::{Reach, blanks};
+use crate::refusal::{TREE_TOO_LARGE, UNCLOSED_COMMENT, UNUSABLE_TOKEN};
+use lexing::blanks;
 use tree::MOST_TEXT;
 
 // What a text is read as.
@@ -82,8 +82,8 @@ pub fn parse(text: &[u8], arena: &mut [u32], whole: Whole) -> Parsed
         return Parsed::Refused(TREE_TOO_LARGE, 0);
     }
     match blanks(text) {
-        Reach::Unclosed(at) => Parsed::Refused(UNCLOSED_COMMENT, at),
-        Reach::Passed(at) => {
+        Err(open) => Parsed::Refused(UNCLOSED_COMMENT, open.at),
+        Ok(at) => {
             node(arena, 0, EMPTY, 0, 0, 0);
             node(arena, END as usize, ONE, 0, 0, 0);
             let built = rule(text, at, arena, whole);

@@ -14,9 +14,8 @@ use crate::build::{choice, combine, fold, four, over};
 use crate::expr::seq::Kind;
 use crate::leaf::{missing, needed};
 use crate::sign::{Level, Sign, operator, unary_operator};
-use crate::step::{Word, is_word, sym};
+use crate::step::{Lexed, Word, is_word, sym};
 use crate::{leaf, step};
-use lexing::Lexed;
 use tree::word::{FALSE, FUNCTION_CALL_EXPR, LABELED_EXPR, LET_EXPR, TRUE};
 
 // `parseExpr`, with `depth` levels left.

@@ -13,9 +13,9 @@ ghost use Rattle.grammar.specs.Declarations.{parse_function_formal, parse_moded}
 
 use crate::arena::{Built, END, HEADED, IDENT, PAIR, THREE, TWO, node};
 use crate::build::over;
-use crate::step::{Word, is_word, keyword, literal_text, name, sym, sym_not_prefix};
-use lexing::refusal::{LEVEL_TOO_DEEP, UNUSABLE_TOKEN};
-use lexing::{Lexed, identifier_length, natural};
+use crate::refusal::{LEVEL_TOO_DEEP, UNUSABLE_TOKEN};
+use crate::step::{Lexed, Word, is_word, keyword, literal_text, name, sym, sym_not_prefix, told};
+use lexing::{identifier_length, natural};
 use tree::word::{B_LITERAL, CUSTOM_LITERAL, FALSE, I_LITERAL, IN, IN_OUT, MORE, OUT, TRUE};
 
 // A rule that must follow at `at`: refusal 2 there where it keeps nothing.
@@ -286,7 +286,7 @@ fn number(text: &[u8], at: usize, arena: &mut [u32], top: usize) -> Built
     requires { Room text.now arena.old at top 0 }
     ensures { Builds tree_words text.now arena.old arena.new at top 1 0 (mapped ILiteral (parse_nat text.now at)) result }
 {
-    match natural(&text[at..]) {
+    match told(natural(&text[at..])) {
         Lexed::Ok(v, n) => over(
             arena,
             top,

@@ -10,6 +10,7 @@ mod expr;
 mod lead;
 mod leaf;
 mod program;
+mod refusal;
 mod sign;
 mod simple;
 mod step;

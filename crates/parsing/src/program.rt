@@ -12,8 +12,8 @@ use crate::arena::{Built, ITEM, PAIR, node};
 use crate::build::{close, four};
 use crate::decl::{axiom_decl, function_decl, proc_decl, tagger_decl, type_decl};
 use crate::leaf::needed;
-use crate::step::{after_word, word_length};
-use lexing::{Lexed, same_bytes};
+use crate::step::{Lexed, after_word, word_length};
+use lexing::same_bytes;
 
 // The kinds of declarations.
 #[derive(Clone, Copy)]

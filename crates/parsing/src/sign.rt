@@ -5,8 +5,7 @@ ghost use Rattle.parsing.specs.Code.{Signs, where_read, word_of, swap_of, no_swa
 ghost use Rattle.grammar.specs.Rules.{unary_operator, equality_operator, less_operator, more_operator, parse_comparison_operator, term_operator, factor_operator, operator_of};
 
 use crate::leaf::peek;
-use crate::step::{keyword, sym, sym_not_prefix};
-use lexing::Lexed;
+use crate::step::{Lexed, keyword, sym, sym_not_prefix};
 use tree::word::{
     AT_MOST, DIV, EQ, EQUIV, LESS, LOGICAL_AND, LOGICAL_IMP, LOGICAL_NOT, LOGICAL_OR, MINUS, MOD,
     NEQ, PLUS, TIMES, UNARY_MINUS,

@@ -16,10 +16,9 @@ use crate::expr::expr;
 use crate::expr::seq::{Kind, items, list};
 use crate::lead::{Lead, Simple, lead_at};
 use crate::leaf::{missing, needed, optional_type, untaken};
+use crate::refusal::LEVEL_TOO_DEEP;
 use crate::step;
-use crate::step::{Word, after_word, keyword, mark, sym, word_length};
-use lexing::Lexed;
-use lexing::refusal::LEVEL_TOO_DEEP;
+use crate::step::{Lexed, Word, after_word, keyword, mark, sym, word_length};
 use tree::word::{
     ASSERT, ASSIGN, ASSUME, CALL, CHECK, EXIT, MORE, NO_MORE, PROBE, REACH, REINIT, RETURN,
     VAR_DECL,

@@ -13,10 +13,9 @@ use crate::arena::{Built, HEADED, ITEM, PAIR, THREE, node};
 use crate::build::{close, over};
 use crate::lead::{Lead, lead_at};
 use crate::leaf::{missing, needed, untaken};
-use crate::step::{Word, after_word, keyword, sym, word_length};
+use crate::refusal::LEVEL_TOO_DEEP;
+use crate::step::{Lexed, Word, after_word, keyword, sym, word_length};
 use crate::{leaf, simple};
-use lexing::Lexed;
-use lexing::refusal::LEVEL_TOO_DEEP;
 use tree::word::{A_ASSERTION, A_EXPR, A_FORALL, BLOCK, FALSE, LABELED_STMT, LOOP, TRUE};
 
 // What is repeated.

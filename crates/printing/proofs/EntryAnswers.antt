@@ -10,10 +10,12 @@ use borrow.Author.Tests.{leb-true, leb-false, le-leb, lt-leb}
 use Rattle.tree.specs.Clash.{impossible}
 use Rattle.lexing.specs.Answer.{pick}
 use Rattle.lexing.specs.RunLaws.{pick-cases}
-use Rattle.rendering.specs.declared.Rendered.{Rendered}
-use Rattle.rendering.specs.declared.Rendered.TheVariants.{Bytes, Refused}
+use Rattle.std.specs.Prelude.{Result, Ok, Err}
+use Rattle.rendering.specs.declared.PrintError.{PrintError}
+use Rattle.rendering.specs.declared.PrintError.TheVariants.{TooLong}
+use Rattle.rendering.specs.Errors.{print_too_long, print_error_number, print_error_place}
 use Rattle.rendering.specs.Tables.{Printable, Held, held, refused, held_by}
-use Rattle.rendering.specs.Render.{print_too_long, Made, Gives, Renders}
+use Rattle.rendering.specs.Render.{Made, Gives, Renders}
 use Rattle.printing.specs.Entries.{most_print, Outcome, written, refusal, stored, print_held, print_table}
 use Rattle.printing.specs.Delivery.{delivered}
 
@@ -41,7 +43,7 @@ too_long n l h = by-test (leb n l) refl
     by-test false e = refl
 
 -- a print's length, where it is answered
-made-length : {print b b' : List ℕ} {n : ℕ} → Made print b (Bytes n) b' → (n ≡ length print) × (n ≤ length b)
+made-length : {print b b' : List ℕ} {n : ℕ} → Made print b (Ok n) b' → (n ≡ length print) × (n ≤ length b)
 made-length {print} {b} {n = n} m =
     pick-cases (leb (length print) (length b)) (sym m.answers)
     (λ t e. let l : n ≡ length print = cc in let h : length print ≤ length b = leb-true _ _ t in (l, omega arith))
@@ -49,17 +51,17 @@ made-length {print} {b} {n = n} m =
 
 module _ (P : Printable) (b b' : List ℕ) where
   -- the bytes of a print are there
-  bytes-there : (n : ℕ) (h : Held P.Tree) → Gives P b (Bytes n) b' h → n ≤ length b'
+  bytes-there : (n : ℕ) (h : Held P.Tree) → Gives P b (Ok n) b' h → n ≤ length b'
   bytes-there n (held t) m =
       let l : n ≡ length (P.print t) = (made-length m).0 in
       let e : length (take n b') ≡ length (P.print t) = ap length (m.bytes n refl) in
       let f = length-take n b' in
       omega arith
-  bytes-there n (refused number place) e = impossible cc
+  bytes-there n (refused number place) e = let f = e.answers in impossible cc
 
   module _ (out : List ℕ) (h : length b ≤ most_print) (k : min (length out) most_print ≤ length b) where
     -- a print in the buffer is stored
-    print-stored : (n : ℕ) (x : Held P.Tree) → Gives P b (Bytes n) b' x → delivered b' n out ≡ print_held P x out
+    print-stored : (n : ℕ) (x : Held P.Tree) → Gives P b (Ok n) b' x → delivered b' n out ≡ print_held P x out
     unfolding delivered stored
     print-stored n (held t) m =
         let l : n ≤ length b = (made-length m).1 in
@@ -70,36 +72,41 @@ module _ (P : Printable) (b b' : List ℕ) where
             ≡ pick (v && true) (written n (P.print t ++ drop n out)) (refusal print_too_long 0 out)
         by-test true = refl
         by-test false = refl
-    print-stored n (refused number place) e = impossible cc
+    print-stored n (refused number place) e = let f = e.answers in impossible cc
 
     -- a refusal is the print's
-    print-refused : (number place : ℕ) (x : Held P.Tree) → Gives P b (Refused number place) b' x → refusal number place out ≡ print_held P x out
+    print-refused : (error : PrintError) (x : Held P.Tree) → Gives P b (Err error) b' x
+        → refusal (print_error_number error) (print_error_place error) out ≡ print_held P x out
     unfolding stored
-    print-refused number place (held t) m =
+    print-refused error (held t) m =
         pick-cases (leb (length (P.print t)) (length b)) (sym m.answers)
         (λ v e. impossible cc)
         (λ v e. let l : length b < length (P.print t) = leb-false _ _ v in
-        let f : refusal number place out ≡ refusal print_too_long 0 out = cc in
+        let s : error ≡ TooLong = cc in
+        let f : refusal (print_error_number error) (print_error_place error) out ≡ refusal print_too_long 0 out = rw s in
         f ∙ sym (simp (too_long (length (P.print t)) (length out) (omega arith))))
-    print-refused number place (refused m q) e = cc
+    print-refused error (refused m q) e =
+        let h = e.answers in
+        let k : error ≡ e.error = cc in
+        rw (k, e.numbered, e.placed)
 
 -- ---- by what `render` ensures
 
-module _ {P : Printable} {text words b b' : List ℕ} {r : Rendered} (x : Renders P text words b r b') where
-  by_answer : {q : Rendered} → r ≡ q → Gives P b q b' (held_by P text words)
-  by_answer e = subst (λ (q : Rendered). Gives P b q b' (held_by P text words)) e x.gives
+module _ {P : Printable} {text words b b' : List ℕ} {r : Result ℕ PrintError} (x : Renders P text words b r b') where
+  by_answer : {q : Result ℕ PrintError} → r ≡ q → Gives P b q b' (held_by P text words)
+  by_answer e = subst (λ (q : Result ℕ PrintError). Gives P b q b' (held_by P text words)) e x.gives
 
   -- the first n bytes of the buffer are the print
-  pub there : {n : ℕ} → r ≡ Bytes n → n ≤ length b'
+  pub there : {n : ℕ} → r ≡ Ok n → n ≤ length b'
   there {n} e = bytes-there P b b' n (held_by P text words) (by_answer e)
 
   module _ (out : List ℕ) (h : length b ≤ most_print) (k : min (length out) most_print ≤ length b) where
     -- they are handed over
-    pub handed : {n : ℕ} {o : Outcome} → r ≡ Bytes n → o ≡ delivered b' n out → o ≡ print_table P text words out
+    pub handed : {n : ℕ} {o : Outcome} → r ≡ Ok n → o ≡ delivered b' n out → o ≡ print_table P text words out
     unfolding print_table
     handed {n} e d = d ∙ print-stored P b b' out h k n (held_by P text words) (by_answer e)
 
     -- so is a refusal
-    pub refused-too : {number place : ℕ} → r ≡ Refused number place → refusal number place out ≡ print_table P text words out
+    pub refused-too : {error : PrintError} → r ≡ Err error → refusal (print_error_number error) (print_error_place error) out ≡ print_table P text words out
     unfolding print_table
-    refused-too {number} {place} e = print-refused P b b' out h k number place (held_by P text words) (by_answer e)
+    refused-too {error} e = print-refused P b b' out h k error (held_by P text words) (by_answer e)

@@ -1,7 +1,7 @@
 -- From a buffer to the output.
 use Rattle.std.specs.Prelude.{ℕ, List, ◌++◌, length, take, drop, leb}
 use Rattle.lexing.specs.Answer.{pick}
-use Rattle.rendering.specs.Render.{print_too_long}
+use Rattle.rendering.specs.Errors.{print_too_long}
 use Rattle.printing.specs.Entries.{Outcome, written, refusal}
 
 -- the first n bytes of a buffer and then the output's old bytes, or refusal 8

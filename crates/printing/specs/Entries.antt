@@ -3,9 +3,9 @@ use Rattle.std.specs.Prelude.{ℕ, ◌≤◌, ◌≡◌, ◌&&◌, List, ◌++�
 use Rattle.lexing.specs.Answer.{pick}
 use Rattle.layout.specs.declared.format.ExprFormatOption.{ExprFormatOption}
 use Rattle.rendering.specs.Tables.{Printable, expressions, programs, Held, held, refused, held_by}
-use Rattle.rendering.specs.Render.{print_too_long}
-use Rattle.printing.specs.declared.Printed.{Printed}
-use Rattle.printing.specs.declared.Printed.TheVariants.{Written, Refused}
+use Rattle.rendering.specs.Errors.{print_too_long, print_error_number, print_error_place}
+use Rattle.std.specs.Prelude.{Result, Ok, Err}
+use Rattle.rendering.specs.declared.PrintError.{PrintError}
 
 -- the most bytes of a print (REFERENCE, "Limits")
 abbrev pub most_print : ℕ
@@ -17,9 +17,9 @@ pub data Outcome : Type 0 where
   refusal : ℕ → ℕ → List ℕ → Outcome
 
 -- the code's answer and the output as an outcome
-abbrev pub outcome_of : Printed → List ℕ → Outcome
-outcome_of (Written n) out = written n out
-outcome_of (Refused number place) out = refusal number place out
+abbrev pub outcome_of : Result ℕ PrintError → List ℕ → Outcome
+outcome_of (Ok n) out = written n out
+outcome_of (Err e) out = refusal (print_error_number e) (print_error_place e) out
 
 -- the print and then the output's old bytes, or refusal 8
 unfoldable pub stored : List ℕ → List ℕ → Outcome
@@ -38,7 +38,7 @@ module _ (P : Printable) where
   print_table text words out = print_held (held_by P text words) out
 
   -- the contract of a print: its answer r and the output afterwards
-  abbrev pub Answered : (text words out : List ℕ) → Printed → (out' : List ℕ) → Type 0
+  abbrev pub Answered : (text words out : List ℕ) → Result ℕ PrintError → (out' : List ℕ) → Type 0
   Answered text words out r out' = outcome_of r out' ≡ print_table text words out
 
 -- print expression
@@ -50,11 +50,11 @@ abbrev pub print_program : ℕ → List ℕ → List ℕ → List ℕ → Outcom
 print_program step text words out = print_table (programs step text) text words out
 
 -- The contract of `print_expression` (one line) and of `print_expression_lines` (broken lines from a start indent).
-abbrev pub PrintAnswered : (text words : List ℕ) → ExprFormatOption → (out : List ℕ) → Printed → (out' : List ℕ) → Type 0
+abbrev pub PrintAnswered : (text words : List ℕ) → ExprFormatOption → (out : List ℕ) → Result ℕ PrintError → (out' : List ℕ) → Type 0
 PrintAnswered text words format out r out' = Answered (expressions 2 text format) text words out r out'
 
 -- The contract of `print_program`.
-abbrev pub ProgramAnswered : (text words out : List ℕ) → Printed → (out' : List ℕ) → Type 0
+abbrev pub ProgramAnswered : (text words out : List ℕ) → Result ℕ PrintError → (out' : List ℕ) → Type 0
 ProgramAnswered text words out r out' = Answered (programs 2 text) text words out r out'
 
 -- the limits that refusal 8 is about

@@ -1,7 +1,7 @@
 -- What a print answers, by cases: the refusals 6, 7 and 8 (REFERENCE, "The refusals"), and the print of the table's tree.
 use Rattle.std.specs.Prelude.{ℕ, ◌↔◌, ◌⊎◌, Bool, ◌&&◌, List, ◌++◌, length, drop}
 use Rattle.std.proofs.Common.{arith, ap, ◌∙◌, subst, inl, inr}
-use Rattle.std.proofs.Math.Path.{◌≡◌, sym}
+use Rattle.std.proofs.Math.Path.{◌≡◌, refl, sym}
 use Rattle.std.proofs.Math.Bool.{true, false}
 use Rattle.std.proofs.Math.Option.{Option, some}
 use Rattle.std.proofs.Math.Dec.{leb}
@@ -12,33 +12,33 @@ use Rattle.tree.specs.Check.{Refusal, oversized, misfitting}
 use Rattle.rendering.specs.Tables.{Printable, Held, Within}
 use Rattle.rendering.specs.TableLaws as tables
 use Rattle.rendering.specs.TableLaws.{Lawful, Table, table}
-use Rattle.rendering.specs.Render.{print_too_long}
-use Rattle.printing.specs.declared.Printed.{Printed}
-use Rattle.printing.specs.declared.Printed.TheVariants.{Written, Refused}
+use Rattle.rendering.specs.Errors.{print_too_long, print_error_number, print_error_place, Refuses}
+use Rattle.std.specs.Prelude.{Result, Ok, Err}
+use Rattle.rendering.specs.declared.PrintError.{PrintError}
 use Rattle.printing.specs.Entries.{most_print, written, refusal, outcome_of, stored, print_held, print_table, Answered, Fits}
 
 -- one of the four cases holds of the answer r and of the output afterwards
-pub data Answer (P : Printable) (text words out : List ℕ) (r : Printed) (out' : List ℕ) : Type 0 where
-  over : (Within P text words → ⊥) → r ≡ Refused oversized 0 → out' ≡ out → Answer P text words out r out'
-  misfit : Within P text words → (place : ℕ) → P.refused words ≡ some (record { number = misfitting; place = place }) → r ≡ Refused misfitting place → out' ≡ out
+pub data Answer (P : Printable) (text words out : List ℕ) (r : Result ℕ PrintError) (out' : List ℕ) : Type 0 where
+  over : (Within P text words → ⊥) → Refuses r oversized 0 → out' ≡ out → Answer P text words out r out'
+  misfit : Within P text words → (place : ℕ) → P.refused words ≡ some (record { number = misfitting; place = place }) → Refuses r misfitting place → out' ≡ out
       → Answer P text words out r out'
-  long : Within P text words → (t : P.Tree) → P.words t ≡ words → (Fits (P.print t) out → ⊥) → r ≡ Refused print_too_long 0 → out' ≡ out
+  long : Within P text words → (t : P.Tree) → P.words t ≡ words → (Fits (P.print t) out → ⊥) → Refuses r print_too_long 0 → out' ≡ out
       → Answer P text words out r out'
   printed : Within P text words → (t : P.Tree) → P.words t ≡ words → Fits (P.print t) out
-      → r ≡ Written (length (P.print t)) → out' ≡ P.print t ++ drop (length (P.print t)) out
+      → r ≡ Ok (length (P.print t)) → out' ≡ P.print t ++ drop (length (P.print t)) out
       → Answer P text words out r out'
 
 -- an outcome and the code's answer
-is-refused : (r : Printed) {number place : ℕ} {out out' : List ℕ} → outcome_of r out' ≡ refusal number place out → (r ≡ Refused number place) × (out' ≡ out)
-is-refused (Written n) e = impossible cc
-is-refused (Refused number place) e = (cc, cc)
+is-refused : (r : Result ℕ PrintError) {number place : ℕ} {out out' : List ℕ} → outcome_of r out' ≡ refusal number place out → (Refuses r number place) × (out' ≡ out)
+is-refused (Ok n) e = impossible cc
+is-refused (Err error) e = (record { error = error; answers = refl; numbered = cc; placed = cc }, cc)
 
 -- a print and the code's answer
-is-written : (r : Printed) {n : ℕ} {after out' : List ℕ} → outcome_of r out' ≡ written n after → (r ≡ Written n) × (out' ≡ after)
-is-written (Written n) e = (cc, cc)
-is-written (Refused number place) e = impossible cc
+is-written : (r : Result ℕ PrintError) {n : ℕ} {after out' : List ℕ} → outcome_of r out' ≡ written n after → (r ≡ Ok n) × (out' ≡ after)
+is-written (Ok n) e = (cc, cc)
+is-written (Err error) e = impossible cc
 
-module _ (P : Printable) (L : Lawful P) (text words out : List ℕ) (r : Printed) (out' : List ℕ) where
+module _ (P : Printable) (L : Lawful P) (text words out : List ℕ) (r : Result ℕ PrintError) (out' : List ℕ) where
   -- the cases of a table with a tree's words
   of_tree : Within P text words → (t : P.Tree) → P.words t ≡ words → stored (P.print t) out ≡ outcome_of r out'
       → Answer P text words out r out'
@@ -71,16 +71,23 @@ same_place {p = p} {p' = p'} e f =
     let h : ◌≡◌ {A = Refusal} (record { number = misfitting; place = p }) (record { number = misfitting; place = p' }) = cc in ap (λ (r : Refusal). r.place) h
 
 -- two refusals have one number, and no refusal is a print
-one_number : {r : Printed} {m n p q : ℕ} → r ≡ Refused m p → r ≡ Refused n q → m ≡ n
-one_number e f = cc
+one_number : {r : Result ℕ PrintError} {m n p q : ℕ} → Refuses r m p → Refuses r n q → m ≡ n
+one_number {m = m} {n = n} e f = let h : ◌≡◌ {A = Result ℕ PrintError} (Err e.error) (Err f.error) = sym e.answers ∙ f.answers in let k : e.error ≡ f.error = cc in sym e.numbered ∙ ap print_error_number k ∙ f.numbered
+
+-- and one place
+one_place : {r : Result ℕ PrintError} {m n p q : ℕ} → Refuses r m p → Refuses r n q → p ≡ q
+one_place e f =
+    let h : ◌≡◌ {A = Result ℕ PrintError} (Err e.error) (Err f.error) = sym e.answers ∙ f.answers in
+    let k : e.error ≡ f.error = cc in
+    sym e.placed ∙ ap print_error_place k ∙ f.placed
 
 -- no refusal is a print
-not_written : {Q : Type 0} {r : Printed} {n m p : ℕ} → r ≡ Written n → r ≡ Refused m p → Q
-not_written e f = impossible cc
+not_written : {Q : Type 0} {r : Result ℕ PrintError} {n m p : ℕ} → r ≡ Ok n → Refuses r m p → Q
+not_written e f = let h = f.answers in impossible cc
 
 -- ---- what the claims cite
 
-module _ (P : Printable) (L : Lawful P) (text words out : List ℕ) (r : Printed) (out' : List ℕ) (a : Answered P text words out r out') where
+module _ (P : Printable) (L : Lawful P) (text words out : List ℕ) (r : Result ℕ PrintError) (out' : List ℕ) (a : Answered P text words out r out') where
   abbrev T : Type 0
   T = P.Tree
 
@@ -100,18 +107,18 @@ module _ (P : Printable) (L : Lawful P) (text words out : List ℕ) (r : Printed
 
   -- a tree whose print fits is printed
   pub tree-printed : (t : T) → P.words t ≡ words → Within P text words → Fits (print t) out
-      → (r ≡ Written (length (print t))) × (out' ≡ print t ++ drop (length (print t)) out)
+      → (r ≡ Ok (length (print t))) × (out' ≡ print t ++ drop (length (print t)) out)
   tree-printed t h w f =
       elim answer [
         | over n e k ↦ absurd (n w)
         | misfit v place m e k ↦ absurd (held t h w m)
         | long v u i n e k ↦ absurd (n (fits-too t u h i f))
         | printed v u i g e k ↦
-            subst (λ (x : T). (r ≡ Written (length (print x))) × (out' ≡ print x ++ drop (length (print x)) out)) (L.same words u t i h) (e, k)
+            subst (λ (x : T). (r ≡ Ok (length (print x))) × (out' ≡ print x ++ drop (length (print x)) out)) (L.same words u t i h) (e, k)
       ]
 
   -- what is written is such a print
-  pub written-tree : (n : ℕ) → r ≡ Written n → Within P text words × ((t : T) × ((P.words t ≡ words) × Fits (print t) out))
+  pub written-tree : (n : ℕ) → r ≡ Ok n → Within P text words × ((t : T) × ((P.words t ≡ words) × Fits (print t) out))
   written-tree n e =
       elim answer [
         | over m f k ↦ not_written e f
@@ -121,7 +128,7 @@ module _ (P : Printable) (L : Lawful P) (text words out : List ℕ) (r : Printed
       ]
 
   -- refusal 6 exactly past the limits
-  pub refused-6 : (r ≡ Refused oversized 0) ↔ (Within P text words → ⊥)
+  pub refused-6 : (Refuses r oversized 0) ↔ (Within P text words → ⊥)
   refused-6 = (
     λ e w. elim answer [
       | over n f k ↦ n w
@@ -134,24 +141,24 @@ module _ (P : Printable) (L : Lawful P) (text words out : List ℕ) (r : Printed
 
   -- refusal 7 exactly where the check refuses by 7, at its place
   pub refused-7-place : (place : ℕ)
-      → (r ≡ Refused misfitting place) ↔ (Within P text words × (P.refused words ≡ some (record { number = misfitting; place = place })))
+      → (Refuses r misfitting place) ↔ (Within P text words × (P.refused words ≡ some (record { number = misfitting; place = place })))
   refused-7-place place = (
     λ e. elim answer [
       | over n f k ↦ let z : ◌≡◌ {A = ℕ} 7 6 = one_number e f in absurd (omega arith)
-      | misfit v at m f k ↦ (v, m ∙ cc)
+      | misfit v at m f k ↦ (v, m ∙ ap (λ (p : ℕ). some (record { number = misfitting; place = p })) (one_place f e))
       | long v u i n f k ↦ let z : ◌≡◌ {A = ℕ} 7 8 = one_number e f in absurd (omega arith)
       | printed v u i g f k ↦ not_written f e
     ],
     λ h. elim answer [
       | over n f k ↦ absurd (n h.0)
-      | misfit v at m f k ↦ f ∙ ap (Refused misfitting) (same_place m h.1)
+      | misfit v at m f k ↦ subst (Refuses r misfitting) (same_place m h.1) f
       | long v u i n f k ↦ absurd (held u i v h.1)
       | printed v u i g f k ↦ absurd (held u i v h.1)
     ],
   )
 
   -- and exactly where the table holds no tree
-  pub refused-7 : ((place : ℕ) × (r ≡ Refused misfitting place)) ↔ (Within P text words × ((t : T) → P.words t ≡ words → ⊥))
+  pub refused-7 : ((place : ℕ) × (Refuses r misfitting place)) ↔ (Within P text words × ((t : T) → P.words t ≡ words → ⊥))
   refused-7 = (
     λ e. let h = (refused-7-place e.0).0 e.1 in (h.0, λ t i. held t i h.0 h.1),
     λ h. elim answer [
@@ -163,7 +170,7 @@ module _ (P : Printable) (L : Lawful P) (text words out : List ℕ) (r : Printed
   )
 
   -- refusal 8 exactly where the print does not fit
-  pub refused-8 : (r ≡ Refused print_too_long 0) ↔ (Within P text words × ((t : T) × ((P.words t ≡ words) × (Fits (print t) out → ⊥))))
+  pub refused-8 : (Refuses r print_too_long 0) ↔ (Within P text words × ((t : T) × ((P.words t ≡ words) × (Fits (print t) out → ⊥))))
   refused-8 = (
     λ e. elim answer [
       | over n f k ↦ let z : ◌≡◌ {A = ℕ} 8 6 = one_number e f in absurd (omega arith)
@@ -180,11 +187,11 @@ module _ (P : Printable) (L : Lawful P) (text words out : List ℕ) (r : Printed
   )
 
   -- no other refusal, and the output stays
-  pub refusal-keeps : (number place : ℕ) → r ≡ Refused number place → ((r ≡ Refused oversized 0) ⊎ (r ≡ Refused misfitting place) ⊎ (r ≡ Refused print_too_long 0)) × (out' ≡ out)
+  pub refusal-keeps : (number place : ℕ) → Refuses r number place → ((Refuses r oversized 0) ⊎ (Refuses r misfitting place) ⊎ (Refuses r print_too_long 0)) × (out' ≡ out)
   refusal-keeps number place e =
       elim answer [
         | over n f k ↦ (inl f, k)
-        | misfit v at m f k ↦ (inr (inl cc), k)
+        | misfit v at m f k ↦ (inr (inl (subst (Refuses r misfitting) (one_place f e) f)), k)
         | long v u i n f k ↦ (inr (inr f), k)
         | printed v u i g f k ↦ not_written f e
       ]

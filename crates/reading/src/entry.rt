@@ -8,7 +8,7 @@ ghost use Rattle.reading.specs.Flat.{Rooted};
 ghost use Rattle.reading.specs.TreeRead.{outcome_of, Answered, ProgramAnswered};
 
 use crate::flat::flatten;
-use lexing::refusal::{TEXT_TOO_LONG, TREE_TOO_LARGE};
+use lexing::refusal::Reason;
 use parsing::{Parsed, Whole, parse};
 use tree::{MOST_TEXT, MOST_WORDS};
 
@@ -51,7 +51,7 @@ fn store(arena: &[u32], root: u32, stack: &mut [u32], table: &mut [u32]) -> Read
         return Reading::Words(n);
     }
     clear(table);
-    Reading::Refused(TREE_TOO_LARGE, 0)
+    Reading::Refused(Reason::TreeTooLarge.number(), 0)
 }
 
 // Reads a text over an arena of 44 words and eight for each byte, and a stack of eleven words and two for each byte.
@@ -117,7 +117,7 @@ fn read(text: &[u8], table: &mut [u32], whole: Whole) -> Reading
 {
     clear(table);
     if MOST_TEXT < text.len() {
-        return Reading::Refused(TEXT_TOO_LONG, MOST_TEXT);
+        return Reading::Refused(Reason::TextTooLong.number(), MOST_TEXT);
     }
     if text.len() <= 512 {
         return read_small(text, table, whole);

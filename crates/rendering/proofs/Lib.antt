@@ -4,3 +4,4 @@ pub mod Walk
 pub mod Words
 pub mod ExprPrints
 pub mod StmtPrints
+pub mod EntryAnswers

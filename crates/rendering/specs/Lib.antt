@@ -1,8 +1,12 @@
--- The code that prints.
+-- The code that prints, held to the prints of the crate `layout`: what is asked of each function, and what is proved of `render`.
 pub mod Tables
+pub mod TableLaws
+pub mod Errors
+pub mod Render
+pub mod Claims
 pub mod Wrote
+pub mod OperatorWords
 pub mod Parts
 pub mod ExprParts
-pub mod OperatorWords
 pub mod StmtParts
 pub mod DeclParts

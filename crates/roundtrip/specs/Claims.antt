@@ -1,6 +1,6 @@
 -- Demand 3, entire. The contracts of the functions are `Answered` (`read_expression`), `PrintAnswered` (`print_expression` on one line,
 -- `print_expression_lines` from any start indent) and `ProgramAnswered` (`print_program`).
-use Rattle.std.specs.Prelude.{ℕ, ◌≤◌, ◌<◌, ◌≡◌, ◌↔◌, List, length, take}
+use Rattle.std.specs.Prelude.{ℕ, ◌≤◌, ◌<◌, ◌≡◌, ◌↔◌, List, length, take, Result, Ok}
 use Rattle.tree.specs.Ast.{Expr}
 use Rattle.tree.specs.Limits.{most_text}
 use Rattle.tree.specs.Check.{NameIn}
@@ -12,8 +12,7 @@ use Rattle.reading.specs.TreeRead.{Answered, Leaves}
 use Rattle.reading.specs.Claims as Reader
 use Rattle.reading.specs.declared.entry.Reading.{Reading}
 use Rattle.layout.specs.declared.format.ExprFormatOption.{ExprFormatOption}
-use Rattle.printing.specs.declared.Printed.{Printed}
-use Rattle.printing.specs.declared.Printed.TheVariants.{Written}
+use Rattle.rendering.specs.declared.PrintError.{PrintError}
 use Rattle.layout.specs.PrintUtil.{Init}
 use Rattle.rendering.specs.Tables.{Holds}
 use Rattle.printing.specs.Entries.{PrintAnswered, ProgramAnswered}
@@ -35,13 +34,13 @@ reading-is-deriving = Reader.read-expression-exact
 -- Third: where the words are those of a faithful operator tree e over the text and a print, in either form and from any start indent, is not
 -- refused, what it writes has a derivation with that same tree: of each depth beyond the nesting of the print's brackets ..
 pub print-is-derived : (text words out out' : List ℕ) (format : ExprFormatOption) (n : ℕ) (e : Expr (NameIn (length text)))
-    → Holds text words e → Faithful (tree_in text e) → PrintAnswered text words format out (Written n) out'
+    → Holds text words e → Faithful (tree_in text e) → PrintAnswered text words format out (Ok n) out'
     → (d : ℕ) → nesting (tree_in text e) Init < d → Derives d (take n out') (tree_in text e)
 print-is-derived = written-derives
 
 -- .. and where the print keeps the reading limits, `read_expression` reads it back as that tree.
 pub print-is-read-back : (text words out out' : List ℕ) (format : ExprFormatOption) (n : ℕ) (e : Expr (NameIn (length text)))
-    → Holds text words e → Faithful (tree_in text e) → PrintAnswered text words format out (Written n) out'
+    → Holds text words e → Faithful (tree_in text e) → PrintAnswered text words format out (Ok n) out'
     → (m : ℕ) (t : Tree) → DerivesWithin m (take n out') t → (r : Reading) (table : List ℕ) → Answered (take n out') m r table
     → Leaves (take n out') m (tree_in text e) r table
 print-is-read-back = written_read
@@ -49,13 +48,13 @@ print-is-read-back = written_read
 -- The last claim in plain limits: a print of at most 32,768 bytes whose brackets nest below 200 is read back from a table of as many words as the
 -- printed one, or more.
 pub short-print-is-read-back : (text words out out' : List ℕ) (format : ExprFormatOption) (n : ℕ) (e : Expr (NameIn (length text)))
-    → Holds text words e → Faithful (tree_in text e) → PrintAnswered text words format out (Written n) out'
+    → Holds text words e → Faithful (tree_in text e) → PrintAnswered text words format out (Ok n) out'
     → Words32 words → n ≤ most_text → nesting (tree_in text e) Init < most_depth
     → (m : ℕ) → length words ≤ m → (r : Reading) (table : List ℕ) → Answered (take n out') m r table
     → Leaves (take n out') m (tree_in text e) r table
 short-print-is-read-back = written-read-plainly
 
 -- What is read of a program's text is refused by `print_program` neither by 6 nor by 7, into any output: r is the answer over the k words read.
-pub read-program-unrefused : (text : List ℕ) (n k : ℕ) (table out out' : List ℕ) (r : Printed) → read_program text n ≡ words k table
+pub read-program-unrefused : (text : List ℕ) (n k : ℕ) (table out out' : List ℕ) (r : Result ℕ PrintError) → read_program text n ≡ words k table
     → ProgramAnswered text (take k table) out r out' → Unrefused r
 read-program-unrefused = program-unrefused

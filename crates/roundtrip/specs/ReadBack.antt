@@ -17,7 +17,7 @@ use Rattle.grammar.proofs.Claims.{derivations-agree}
 use Rattle.reading.specs.TreeRead.{Answered, Leaves}
 use Rattle.reading.specs.Claims.{read-expression-exact}
 use Rattle.reading.specs.declared.entry.Reading.{Reading}
-use Rattle.printing.specs.declared.Printed.TheVariants.{Written}
+use Rattle.std.specs.Prelude.{Ok}
 use Rattle.layout.specs.declared.format.ExprFormatOption.{ExprFormatOption}
 use Rattle.layout.specs.PrintUtil.{Init}
 use Rattle.layout.specs.Printer.{Expression}
@@ -62,15 +62,15 @@ abbrev pub tree_in : (text : List ℕ) → Expr (NameIn (length text)) → Tree
 tree_in text e = map_expr (name_in text) e
 
 module _ (text words out out' : List ℕ) (format : ExprFormatOption) (n : ℕ) (e : Expr (NameIn (length text))) (holds : Holds text words e)
-    (x : Faithful (tree_in text e)) (a : PrintAnswered text words format out (Written n) out') where
+    (x : Faithful (tree_in text e)) (a : PrintAnswered text words format out (Ok n) out') where
   -- what was written is the print of the tree that the table holds, with its names as bytes
   is-print : print 2 format (tree_in text e) ≡ take n out'
   unfolding print_of print
   is-print =
-      let w = written-tree (expressions 2 text format) (expression-laws 2 text format) text words out (Written n) out' a n refl in
+      let w = written-tree (expressions 2 text format) (expression-laws 2 text format) text words out (Ok n) out' a n refl in
       let t : Expr (NameIn (length text)) = w.1.0 in
       let p = print_of 2 text format t in
-      let q = tree-printed (expressions 2 text format) (expression-laws 2 text format) text words out (Written n) out' a t w.1.1.0 w.0 w.1.1.1 in
+      let q = tree-printed (expressions 2 text format) (expression-laws 2 text format) text words out (Ok n) out' a t w.1.1.0 w.0 w.1.1.1 in
       let k : length p ≡ n = cc q.0 in
       let same : t ≡ e = same-tree text words t e w.1.1.0 holds in
       sym (print-named (name_in text) 2 e Init format [])
@@ -101,7 +101,7 @@ module _ (text words out out' : List ℕ) (format : ExprFormatOption) (n : ℕ) 
     keeps m h =
         let t = tree_in text e in
         let c : word_count t ≡ length words = counted in
-        let few : length words ≤ most_words = (written-tree (expressions 2 text format) (expression-laws 2 text format) text words out (Written n) out' a n refl).0.words-fit in
+        let few : length words ≤ most_words = (written-tree (expressions 2 text format) (expression-laws 2 text format) text words out (Ok n) out' a n refl).0.words-fit in
         let k : length (print 2 format t) ≤ most_text = rw is-print (omega (arith, length-take n out')) in
         subst (λ p. DerivesWithin m p t) is-print
         (print-keeps 2 format m t x (words_small (name_in text) e [] (subst Words32 (sym holds) w)) k flat (omega arith) (omega arith))

@@ -1,5 +1,5 @@
 -- The table of a text that was read is refused by its print neither by 6 nor by 7: one law over the kind of tree.
-use Rattle.std.specs.Prelude.{ℕ, ◌≤◌, ◌≡◌, refl, Bool, true, false, List, [], length, take, leb}
+use Rattle.std.specs.Prelude.{ℕ, ◌≤◌, ◌≡◌, refl, Bool, true, false, List, [], length, take, leb, Result}
 use Rattle.std.proofs.Math.Option.{none}
 use Rattle.std.proofs.Common.{lit≤, leb-true}
 use Rattle.tree.specs.Check.{oversized, misfitting}
@@ -9,17 +9,17 @@ use Rattle.tree.specs.Limits.{most_text}
 use Rattle.tree.specs.Words.{program_words}
 use Rattle.grammar.specs.Reading.{words, unless_long, outcome_by, read_tree_of_program, parse_program, read_program}
 use Rattle.grammar.proofs.Claims as Grammar
-use Rattle.printing.specs.declared.Printed.{Printed}
-use Rattle.printing.specs.declared.Printed.TheVariants.{Refused}
+use Rattle.rendering.specs.declared.PrintError.{PrintError}
+use Rattle.rendering.specs.Errors.{Refuses}
 use Rattle.rendering.specs.Tables.{most_indent, Printable, Within, programs}
 use Rattle.printing.specs.Entries.{Answered, ProgramAnswered}
 use Rattle.rendering.specs.TableLaws.{Lawful, program-laws}
 use Rattle.printing.specs.Claims as Printer
 
 -- an answer that is no refusal by 6 and none by 7
-pub record Unrefused (r : Printed) : Type 0 where
-  pub within : r ≡ Refused oversized 0 → ⊥
-  pub one-tree : (place : ℕ) → r ≡ Refused misfitting place → ⊥
+pub record Unrefused (r : Result ℕ PrintError) : Type 0 where
+  pub within : Refuses r oversized 0 → ⊥
+  pub one-tree : (place : ℕ) → Refuses r misfitting place → ⊥
 
 -- a text that was read is not too long
 pub read_fits : {A : Type 0} (words_of : A → List ℕ) (text : List ℕ) (a : Answer A) (n : ℕ) {k : ℕ} {l : List ℕ} → outcome_by words_of n (unless_long text a) ≡ words k l
@@ -31,7 +31,7 @@ read_fits words_of text a n {k} {l} p = by_length (leb (length text) most_text) 
     by_length false q p = impossible cc
 
 -- a table that the check accepts, over a text that is not too long
-pub accepted-unrefused : (P : Printable) (L : Lawful P) (text table out out' : List ℕ) (r : Printed) → Answered P text table out r out' → length text ≤ most_text → P.indent ≤ most_indent
+pub accepted-unrefused : (P : Printable) (L : Lawful P) (text table out out' : List ℕ) (r : Result ℕ PrintError) → Answered P text table out r out' → length text ≤ most_text → P.indent ≤ most_indent
     → P.refused table ≡ none → Unrefused r
 accepted-unrefused P L text table out out' r a t i e =
     let w : Within P text table = record { text-fits = t; words-fit = ((P.unrefused table).0 e).0; indent-fits = i } in
@@ -41,7 +41,7 @@ accepted-unrefused P L text table out out' r a t i e =
     }
 
 -- the table of a program
-pub program-unrefused : (text : List ℕ) (n k : ℕ) (table out out' : List ℕ) (r : Printed) → read_program text n ≡ words k table → ProgramAnswered text (take k table) out r out'
+pub program-unrefused : (text : List ℕ) (n k : ℕ) (table out out' : List ℕ) (r : Result ℕ PrintError) → read_program text n ≡ words k table → ProgramAnswered text (take k table) out r out'
     → Unrefused r
 unfolding read_program read_tree_of_program
 program-unrefused text n k table out out' r e a =

@@ -3,25 +3,21 @@
 
 #![tactic(auto)]
 
-ghost use Rattle.std.specs.Prelude.{◌≡◌, ◌≤◌, length, IfOk};
+ghost use Rattle.std.specs.Prelude.{◌≡◌, length};
 
 use std::io;
 use std::io::Read;
 use tidy::tidy;
 
-fn main(rt: HostRuntime) -> io::Result<()> {
-    let mut input = input_buffer();
-    let mut out = output_buffer();
-    let n = read_full(&mut rt.reader(), &mut input)?;
-    let answer = tidy(&input[..n], &mut out);
-    show(&rt, answer, &out)
-}
+// One byte more than is accepted.
+const MOST_READ: u64 = 32769;
 
-// One byte more than is accepted. Callers know its length alone, so no proof computes the array.
-fn input_buffer() -> [u8; 32769]
-    ensures { 32769 ≡ length result }
-{
-    [0; 32769]
+fn main(rt: HostRuntime) -> io::Result<()> {
+    let mut input = Vec::new(rt.alloc());
+    rt.reader().take(MOST_READ).read_to_end(&mut input)?;
+    let mut out = output_buffer();
+    let answer = tidy(&input, &mut out);
+    show(&rt, answer, &out)
 }
 
 // As many bytes as a print has at most.
@@ -29,21 +25,6 @@ fn output_buffer() -> [u8; 65536]
     ensures { 65536 ≡ length result }
 {
     [0; 65536]
-}
-
-// Reads until the buffer is full or the input ends, and answers how many bytes stand at its start.
-fn read_full(input: &mut impl Read, buffer: &mut [u8]) -> io::Result<usize>
-    ensures { IfOk result (λ n. n ≤ length buffer.new) }
-{
-    let mut done = 0;
-    while done < buffer.len() {
-        let n = input.read(&mut buffer[done..])?;
-        if n == 0 {
-            break;
-        }
-        done += n;
-    }
-    Ok(done)
 }
 
 // The print, or the refusal's line.

@@ -1,9 +1,7 @@
 -- What the proofs of several functions cite.
-mod Digits
-mod Numbers
+mod RowLaws
 mod RunSteps
-mod Entries
-mod Marks
+mod FrameLaws
 mod Stack
 mod Outlines
 mod AcceptedOutline

@@ -1,38 +1,33 @@
--- What the functions of the outline do at one place: a kind is noted, fields are passed, a number is copied.
-use Prim.Native.Nat.{ℕ, zero, suc, ◌+◌, ◌-◌, ◌/◌, ◌^◌, ◌≤◌, ◌<◌}
+-- What the functions of the outline do at one place: a kind is noted, fields are passed.
+use Prim.Native.Nat.{ℕ, zero, suc, min, ◌+◌, ◌-◌, ◌≤◌, ◌<◌}
 use native.Mathlib.Nat.{le_of_suc-le-suc, not-suc-le-zero}
 use native.Mathlib.Omega.{arith}
 use mathlib.Core.Path.{◌≡◌, refl, sym, ap, ◌∙◌}
-use mathlib.Core.Bool.{true, false}
-use mathlib.Core.List.{List, [], ◌∷◌}
-use lib.ListN.{length, get_or, take, set, length-set, get_or-map}
-use lib.Dec.{ltb}
-use borrow.Author.Tests.{eq-eqb, ne_eqb, le-leb, lt-leb, lt-ltb, le-ltb}
-use Rattle.tree.specs.Kind.{Kind, bool, Turn, turn}
-use Rattle.tree.specs.KindNumbers.{kind_number, kinds, kind_of}
-use Rattle.tree.specs.Rows.{kinds_of}
-use Rattle.tree.specs.Outline.{filled}
-use Rattle.tree.specs.OutlineLaws.{filled-length}
+use mathlib.Core.Bool.{Bool, true, false, ◌||◌}
+use mathlib.Core.Logic.{◌⊎◌, inl, inr}
+use mathlib.Core.List.{List, [], ◌∷◌, ◌++◌}
+use lib.ListN.{length, get_or, take, drop, set, length-set}
+use lib.Dec.{eqb, ltb}
+use borrow.Author.Tests.{eqb-false, ltb-false, lt-ltb, le-ltb}
+use Rattle.std.specs.Prelude.{Option, Some, None}
+use Rattle.tree.specs.Clash.{impossible}
+use Rattle.tree.specs.Kind.{Kind, by_row}
+use Rattle.tree.specs.KindNumbers.{second_word, natural_kind, kind_of}
+use Rattle.tree.specs.KindCodes.{as_kind, kind_code}
+use Rattle.tree.specs.Codes.{Decodes}
 use Rattle.tree.specs.Limits.{most_words}
+use Rattle.tree.specs.Outline.{filled}
 use Rattle.tree.specs.Notes.{note_kind, field_count, fields_at, fields_end, end_at, end_notes}
-use Rattle.tree.proofs.Entries.{row_cons, row-none}
+use Rattle.tree.specs.Trees.{◌▸◌}
+use Rattle.tree.specs.declared.kind.Kind.{Kind as KindCode}
+use Rattle.tree.specs.declared.kind.Kind.TheVariants as kind
+use Rattle.tree.proofs.RowLaws.{in-turn}
+
+or-false : (a b : Bool) → (a || b) ≡ false → (a ≡ false) × (b ≡ false)
+or-false true b e = impossible cc
+or-false false b e = (refl, e)
 
 -- ---- the kinds
-
--- the numbers that are noted for the digits of a row
-abbrev pub noted_numbers : List ℕ
-noted_numbers =
-    1 ∷ 1 ∷ 2 ∷ 3 ∷ 4 ∷ 5 ∷ 6 ∷ 7 ∷ 8 ∷ 9 ∷ 10 ∷ 11 ∷ 12 ∷ 13 ∷ 14 ∷ 15 ∷ 16 ∷ 17 ∷ 18 ∷ 19 ∷ 20 ∷ 21 ∷ 22 ∷ 23 ∷ 24 ∷ 25 ∷ 26 ∷ 27 ∷ 28 ∷ 28 ∷ 28 ∷ 28 ∷ []
-
--- a number in range doesn't depend on the default
-get_d-in : (l : List ℕ) (i d e : ℕ) → i < length l → get_or l i d ≡ get_or l i e
-get_d-in [] i d e h = absurd (not-suc-le-zero h)
-get_d-in (x ∷ l) zero d e h = refl
-get_d-in (x ∷ l) (suc i) d e h = get_d-in l i d e (le_of_suc-le-suc h)
-
-pub noted-number : (n : ℕ) → n < 32 → get_or noted_numbers n 0 ≡ kind_number (kind_of n)
-unfolding kind_of
-noted-number n h = get_d-in noted_numbers n 0 1 h ∙ get_or-map kind_number kinds n bool
 
 -- the notes after one word, and after two
 module _ (at next : ℕ) (notes : List ℕ) {v number : ℕ} {notes₁ : List ℕ} (e : notes₁ ≡ set notes at v) (n : v ≡ number) where
@@ -46,41 +41,85 @@ module _ (at next : ℕ) (notes : List ℕ) {v number : ℕ} {notes₁ : List �
 
 -- ---- the ends
 
--- one field is passed, and none is left
-pub field-passed : (ends : List ℕ) (row at : ℕ) {end : ℕ} → row < 2 ^ 32 → 0 < row → end ≡ get_or ends at 0
-    → fields_end (length (kinds_of (row / 32))) ends end ≡ fields_end (length (kinds_of row)) ends at
-field-passed ends row at h n e =
-    ap (fields_end (length (kinds_of (row / 32))) ends) e
-    ∙ sym (ap (λ (ks : List Kind). fields_end (length ks) ends at) (row_cons row (λ z. omega arith) h))
+-- the loop over a row's kinds: as many fields are passed as kinds
+pub field-passed : (ends : List ℕ) (row : List Kind) (i at : ℕ) {end r : ℕ} → i < length row → end ≡ get_or ends at 0
+    → fields_end (length row - i) ends at ≡ r → fields_end (length row - (i + 1)) ends end ≡ r
+field-passed ends row i at h e f =
+    let n : length row - i ≡ suc (length row - (i + 1)) = omega arith in
+    ap (fields_end (length row - (i + 1)) ends) e ∙ sym (ap (λ (k : ℕ). fields_end k ends at) n) ∙ f
 
-pub fields-passed : (ends : List ℕ) (row at : ℕ) → row ≤ 0 → fields_end (length (kinds_of row)) ends at ≡ at
-fields-passed ends row at h = ap (λ (ks : List Kind). fields_end (length ks) ends at) (row-none row (omega arith))
+pub fields-passed : (ends : List ℕ) (row : List Kind) (i at : ℕ) {r : ℕ} → length row ≤ i → fields_end (length row - i) ends at ≡ r → at ≡ r
+fields-passed ends row i at h f = let n : length row - i ≡ 0 = omega arith in sym (ap (λ (k : ℕ). fields_end k ends at) n) ∙ f
 
--- the fields of a second word, of what two words say, and of a row
+-- ---- the fields of what has a kind's number, and of what has none
+
+all_kinds : List KindCode
+all_kinds = kind.Bool ∷ kind.Operator ∷ kind.Mode ∷ kind.Expr ∷ kind.Stmt ∷ kind.AExpr ∷ kind.OptionName ∷ kind.OptionExpr ∷ kind.OptionStmt ∷ kind.OptionDefinition ∷ kind.Names ∷ kind.Exprs ∷ kind.Bindings ∷ kind.Patterns ∷ kind.ClosureBindings ∷ kind.ClosureProperties ∷ kind.Stmts ∷ kind.CallArguments ∷ kind.Cases ∷ kind.AExprs ∷ kind.Taggers ∷ kind.FParameters ∷ kind.Functions ∷ kind.Axioms ∷ kind.PParameters ∷ kind.Procedures ∷ kind.Name ∷ kind.Natural ∷ []
+
+-- a number from 1 to 28 is a kind's
+kind-with : (n : ℕ) → 0 < n → n ≤ 28 → (k : KindCode) × (kind_code k ≡ n)
+unfolding all_kinds
+kind-with n h l =
+    let m : length all_kinds ≡ 28 = refl in
+    let r = in-turn kind_code 1 all_kinds (refl ▸ refl ▸ refl ▸ refl ▸ refl ▸ refl ▸ refl ▸ refl ▸ refl ▸ refl ▸ refl ▸ refl ▸ refl ▸ refl ▸ refl ▸ refl ▸ refl ▸ refl ▸ refl ▸ refl ▸ refl ▸ refl ▸ refl ▸ refl ▸ refl ▸ refl ▸ refl ▸ refl ▸ tt) (n - 1) (omega arith) in
+    (r.0, omega (arith, r.1))
+
 module _ (number w : ℕ) where
-  pub fields-second : number ≡ 0 → fields_at number w ≡ 0
-  fields-second e = simp (eq-eqb number 0 e)
+  -- a number without a kind has no fields
+  pub fields-none : Decodes kind_code number None → fields_at number w ≡ 0
+  fields-none d = by-test (eqb number second_word || ltb natural_kind number) refl
+    where
+      by-test : (b : Bool) → (eqb number second_word || ltb natural_kind number) ≡ b → fields_at number w ≡ 0
+      by-test true e = rw e
+      by-test false e =
+          let o = or-false (eqb number second_word) (ltb natural_kind number) e in
+          let z = eqb-false number second_word o.0 in
+          let l = ltb-false natural_kind number o.1 in
+          let k = kind-with number (omega arith) (omega arith) in
+          let f : ◌≡◌ {A = Option KindCode} None (Some k.0) = (d k.0).1 k.1 in
+          impossible cc
 
-  pub fields-pair : 27 ≤ number → fields_at number w ≡ 1
-  fields-pair h = simp (ne_eqb number 0 (λ z. omega arith), le-leb 27 number h)
+-- a name and a natural have one
+pub fields-pair : (k : KindCode) (w : ℕ) → (k ≡ kind.Name) ⊎ (k ≡ kind.Natural) → fields_at (kind_code k) w ≡ 1
+fields-pair k w (inl e) = rw e
+fields-pair k w (inr e) = rw e
 
-  pub fields-row : (number ≡ 0 → ⊥) → number < 27 → {u : Turn} → u ≡ turn (λ s l. true) (kind_of number) w → fields_at number w ≡ field_count u
-  fields-row n h e = simp (ne_eqb number 0 n, lt-leb 27 number h) (ap field_count (sym e))
+-- another those of its row
+pub fields-row : (k : KindCode) (w : ℕ) → (k ≡ kind.Name → ⊥) → (k ≡ kind.Natural → ⊥) → fields_at (kind_code k) w ≡ field_count (by_row (as_kind k) w)
+unfolding kind_of
+fields-row kind.Bool w n m = refl
+fields-row kind.Operator w n m = refl
+fields-row kind.Mode w n m = refl
+fields-row kind.Expr w n m = refl
+fields-row kind.Stmt w n m = refl
+fields-row kind.AExpr w n m = refl
+fields-row kind.OptionName w n m = refl
+fields-row kind.OptionExpr w n m = refl
+fields-row kind.OptionStmt w n m = refl
+fields-row kind.OptionDefinition w n m = refl
+fields-row kind.Names w n m = refl
+fields-row kind.Exprs w n m = refl
+fields-row kind.Bindings w n m = refl
+fields-row kind.Patterns w n m = refl
+fields-row kind.ClosureBindings w n m = refl
+fields-row kind.ClosureProperties w n m = refl
+fields-row kind.Stmts w n m = refl
+fields-row kind.CallArguments w n m = refl
+fields-row kind.Cases w n m = refl
+fields-row kind.AExprs w n m = refl
+fields-row kind.Taggers w n m = refl
+fields-row kind.FParameters w n m = refl
+fields-row kind.Functions w n m = refl
+fields-row kind.Axioms w n m = refl
+fields-row kind.PParameters w n m = refl
+fields-row kind.Procedures w n m = refl
+fields-row kind.Name w n m = absurd (n refl)
+fields-row kind.Natural w n m = absurd (m refl)
 
 -- so what begins at a place ends after its fields
-module _ (words kinds ends : List ℕ) (at : ℕ) {r kind : ℕ} (k : kind ≡ get_or kinds at 0) where
-  end_by : (count : ℕ) → fields_at kind (get_or words at 0) ≡ count → r ≡ fields_end count ends (at + 1) → r ≡ end_at words kinds at ends
+module _ (words kinds ends : List ℕ) (at : ℕ) {r number : ℕ} (k : number ≡ get_or kinds at 0) where
+  pub end_by : (count : ℕ) → fields_at number (get_or words at 0) ≡ count → r ≡ fields_end count ends (at + 1) → r ≡ end_at words kinds at ends
   end_by count e h = h ∙ sym (ap (λ (n : ℕ). fields_end n ends (at + 1)) (ap (λ (x : ℕ). fields_at x (get_or words at 0)) (sym k) ∙ e))
-
-  pub end-second : kind ≡ 0 → r ≡ at + 1 → r ≡ end_at words kinds at ends
-  end-second z h = end_by 0 (fields-second kind (get_or words at 0) z) h
-
-  pub end-pair : 27 ≤ kind → r ≡ get_or ends (at + 1) 0 → r ≡ end_at words kinds at ends
-  end-pair l h = end_by 1 (fields-pair kind (get_or words at 0) l) h
-
-  pub end_row : (u : Turn) {w : ℕ} → (kind ≡ 0 → ⊥) → kind < 27 → w ≡ get_or words at 0 → u ≡ turn (λ s l. true) (kind_of kind) w
-      → r ≡ fields_end (field_count u) ends (at + 1) → r ≡ end_at words kinds at ends
-  end_row u n l v e h = end_by (field_count u) (fields-row kind (get_or words at 0) n l (e ∙ ap (turn (λ s l. true) (kind_of kind)) v)) h
 
 -- the loop over the places: the ends from i on are found
 pub record Ending (words kinds ends₀ ends : List ℕ) (i : ℕ) : Type 0 where
@@ -113,36 +152,11 @@ ending-ends {words} {kinds} {ends₀} {ends} {i} e h = let z : 0 ≡ i = omega a
 
 -- ---- copies
 
--- one number more is copied
-pub filled_more : (from before : List ℕ) (i : ℕ) → i < length from → set (filled (take i from) before) i (get_or from i 0) ≡ filled (take (suc i) from) before
-filled_more [] before i h = absurd (not-suc-le-zero h)
-filled_more (x ∷ from) [] zero h = refl
-filled_more (x ∷ from) [] (suc i) h = refl
-filled_more (x ∷ from) (b ∷ before) zero h = refl
-filled_more (x ∷ from) (b ∷ before) (suc i) h = ap (λ (l : List ℕ). x ∷ l) (filled_more from before i (le_of_suc-le-suc h))
-
--- the loop of a copy: the first i numbers are copied
-pub record Filling (from before after : List ℕ) (n i : ℕ) : Type 0 where
-  pub inside : n ≤ length from
-  pub passed : i ≤ n
-  pub copied : after ≡ filled (take i from) before
-
-pub filling-starts : (from before : List ℕ) (n : ℕ) → n ≤ length from → Filling from before before n 0
-filling-starts from before n h = record { inside = h; passed = omega arith; copied = refl }
-
-pub filling-more : {from before after after₁ : List ℕ} {n i v : ℕ} → Filling from before after n i → i < n → after₁ ≡ set after i v → v ≡ get_or from i 0
-    → Filling from before after₁ n (i + 1)
-filling-more {from} {before} {after} {after₁} {n} {i} {v} f h e g =
-    let m : i + 1 ≡ suc i = omega arith in
-    let s : i < length from = omega (arith, f.inside) in
-    record {
-      inside = f.inside;
-      passed = omega arith;
-      copied = e ∙ (λ j. set (f.copied j) i (g j)) ∙ filled_more from before i s ∙ sym (ap (λ (k : ℕ). filled (take k from) before) m);
-    }
-
-pub filling-length : {from before after : List ℕ} {n i : ℕ} → Filling from before after n i → length after ≡ length before
-filling-length {from} {before} {after} {n} {i} f = ap length f.copied ∙ filled-length (take i from) before
-
-pub filling-ends : {from before after : List ℕ} {n i : ℕ} → Filling from before after n i → n ≤ i → after ≡ filled (take n from) before
-filling-ends {from} {before} {after} {n} {i} f h = let e : i ≡ n = omega (arith, f.passed) in f.copied ∙ ap (λ (k : ℕ). filled (take k from) before) e
+-- the first n numbers, as far as there is a place for them, and what stands behind
+pub filled-cut : (from before : List ℕ) (n m : ℕ) → m ≡ min n (length before) → n ≤ length from → take m from ++ drop m before ≡ filled (take n from) before
+filled-cut from before zero m e h = let z : m ≡ 0 = omega arith in rw z
+filled-cut [] before (suc n) m e h = absurd (not-suc-le-zero h)
+filled-cut (x ∷ from) [] (suc n) m e h = let z : m ≡ 0 = omega arith in rw z
+filled-cut (x ∷ from) (b ∷ before) (suc n) m e h =
+    let z : m ≡ suc (min n (length before)) = omega arith in
+    rw z (ap (λ (l : List ℕ). x ∷ l) (filled-cut from before n (min n (length before)) refl (le_of_suc-le-suc h)))

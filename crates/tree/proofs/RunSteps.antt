@@ -13,7 +13,7 @@ use lib.Seq.{drop-cons}
 use borrow.Author.Tests.{le-leb, lt-leb, lt-ltb, le-ltb}
 use Rattle.tree.specs.Kind.{Kind, name, natural, low, length_from, Turn, fits, misfit, turn}
 use Rattle.tree.specs.Check.{Checked, run, within}
-use Rattle.tree.specs.Rows.{digits, kinds_of, Went, Stopped}
+use Rattle.tree.specs.Rows.{Went, Stopped}
 use Rattle.tree.specs.KindNumbers.{kind_number, second_word}
 use Rattle.tree.specs.Notes.{note_kind, kind_notes}
 use Rattle.tree.specs.Tally.{Mark, Expected, sequence, opened, mark_at, more, marked, noted, tally}
@@ -99,16 +99,16 @@ module _ (len : ℕ) (ws : List ℕ) (at : ℕ) where
   -- ---- one word
 
   -- a word that fits goes on
-  one-fits : (k : Kind) (row : ℕ) → at < length ws → turn (within len) k (get_or ws at 0) ≡ fits (kinds_of row) → Went ws len at k (at + 1) row
-  one-fits k row h e =
+  one-fits : (k : Kind) (fs : List Kind) → at < length ws → turn (within len) k (get_or ws at 0) ≡ fits fs → Went ws len at k (at + 1) fs
+  one-fits k fs h e =
       record {
         forward = omega arith;
         inside = omega arith;
-        goes = step_fits k (kinds_of row) h e;
+        goes = step_fits k fs h e;
         counts = λ m es c. count_turn k m es c h ∙ ap (counting k m es c) e;
         kinds = λ ks n.
             kind-turn k ks n h ∙ ap (noting k ks n) e
-            ∙ ap (kind_notes (within len) (kinds_of row ++ ks) (at + 1) (drop (at + 1) ws)) (note-one k ks n);
+            ∙ ap (kind_notes (within len) (fs ++ ks) (at + 1) (drop (at + 1) ws)) (note-one k ks n);
       }
 
   -- a word that misfits ends the walk
@@ -132,8 +132,7 @@ unmarked k m at c e = ap (λ (b : Bool). noted [] (cond b (some (opened m at)) n
 module _ (len : ℕ) (ws : List ℕ) (at : ℕ) (k k' : Kind) where
   -- two words, each with its turn
   step-two : at + 1 < length ws → turn (within len) k (get_or ws at 0) ≡ fits (k' ∷ []) → turn (within len) k' (get_or ws (at + 1) 0) ≡ fits []
-      → sequence k ≡ false → sequence k' ≡ false → kind_number k' ≡ second_word → Went ws len at k (at + 2) 0
-  unfolding kinds_of digits
+      → sequence k ≡ false → sequence k' ≡ false → kind_number k' ≡ second_word → Went ws len at k (at + 2) []
   step-two h e e' q q' z =
       let two : (at + 1) + 1 ≡ at + 2 = omega arith in
       record {
@@ -171,7 +170,7 @@ module _ (len : ℕ) (ws : List ℕ) (at : ℕ) (k k' : Kind) where
 
 module _ (len : ℕ) (ws : List ℕ) (at : ℕ) where
   -- a name's two words
-  pub name-fits : at + 1 < length ws → get_or ws at 0 + get_or ws (at + 1) 0 ≤ len → Went ws len at name (at + 2) 0
+  pub name-fits : at + 1 < length ws → get_or ws at 0 + get_or ws (at + 1) 0 ≤ len → Went ws len at name (at + 2) []
   name-fits h i = step-two len ws at name (length_from (get_or ws at 0)) h refl (simp (le-leb (get_or ws at 0 + get_or ws (at + 1) 0) len i)) refl refl refl
 
   pub name-outside : at + 1 < length ws → len < get_or ws at 0 + get_or ws (at + 1) 0 → Stopped ws len at name (Misfit at)
@@ -181,12 +180,12 @@ module _ (len : ℕ) (ws : List ℕ) (at : ℕ) where
       step-second len ws at name (length_from (get_or ws at 0)) (Misfit at) (omega arith) refl (subst (λ (n : ℕ). Stopped ws len (at + 1) (length_from (get_or ws at 0)) (Misfit n)) back s)
 
   -- a natural's two words
-  pub natural-fits : at + 1 < length ws → get_or ws (at + 1) 0 < 2 ^ 32 → Went ws len at natural (at + 2) 0
+  pub natural-fits : at + 1 < length ws → get_or ws (at + 1) 0 < 2 ^ 32 → Went ws len at natural (at + 2) []
   natural-fits h b = step-two len ws at natural low h refl (simp (lt-ltb (get_or ws (at + 1) 0) (2 ^ 32) b)) refl refl refl
 
   -- one word that is not the first of two
-  pub row_fits : (k : Kind) (row w : ℕ) → at < length ws → w ≡ get_or ws at 0 → fits (kinds_of row) ≡ turn (within len) k w → Went ws len at k (at + 1) row
-  row_fits k row w h e f = one-fits len ws at k row h (ap (turn (within len) k) (sym e) ∙ sym f)
+  pub row_fits : (k : Kind) (fs : List Kind) (w : ℕ) → at < length ws → w ≡ get_or ws at 0 → fits fs ≡ turn (within len) k w → Went ws len at k (at + 1) fs
+  row_fits k fs w h e f = one-fits len ws at k fs h (ap (turn (within len) k) (sym e) ∙ sym f)
 
   pub row-misfits : (k : Kind) (w : ℕ) → at < length ws → w ≡ get_or ws at 0 → misfit 0 ≡ turn (within len) k w → Stopped ws len at k (Misfit at)
   row-misfits k w h e f =

@@ -9,6 +9,7 @@ pub mod Kind
 pub mod Limits
 pub mod Check
 pub mod KindNumbers
+pub mod KindCodes
 pub mod Outline
 pub mod Tally
 pub mod Counted

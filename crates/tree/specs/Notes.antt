@@ -1,8 +1,8 @@
 -- What the code notes for the outline of a table: the kinds from the first word on, the ends from the last word back. Only contracts of private
 -- functions cite this file.
-use Rattle.std.specs.Prelude.{ℕ, zero, suc, ◌+◌, Bool, true, cond, List, [], ◌∷◌, ◌++◌, length, get_or, set, eqb, leb, ltb}
+use Rattle.std.specs.Prelude.{ℕ, zero, suc, ◌+◌, Bool, true, cond, ◌||◌, List, [], ◌∷◌, ◌++◌, length, get_or, set, eqb, leb, ltb}
 use Rattle.tree.specs.Kind.{Kind, Turn, fits, misfit, turn}
-use Rattle.tree.specs.KindNumbers.{kind_number, second_word, name_kind, kind_of}
+use Rattle.tree.specs.KindNumbers.{kind_number, second_word, name_kind, natural_kind, kind_of}
 
 -- the notes after a step from a place to the next, with a second word between them where the next is not the very next
 abbrev pub note_kind : ℕ → ℕ → ℕ → List ℕ → List ℕ
@@ -22,7 +22,7 @@ field_count (fits fs) = length fs
 field_count (misfit back) = 0
 
 abbrev pub fields_at : ℕ → ℕ → ℕ
-fields_at number w = cond (eqb number second_word) 0 (cond (leb name_kind number) 1 (field_count (turn (λ s l. true) (kind_of number) w)))
+fields_at number w = cond (eqb number second_word || ltb natural_kind number) 0 (cond (leb name_kind number) 1 (field_count (turn (λ s l. true) (kind_of number) w)))
 
 -- where so many trees end, the first of which begins at a place: each begins where the one before it ends
 abbrev pub fields_end : ℕ → List ℕ → ℕ → ℕ

@@ -1,80 +1,113 @@
--- The numbers that the check's code has for lists of kinds. Only contracts of private functions cite this file.
-use Rattle.std.specs.Prelude.{ℕ, zero, suc, ◌+◌, ◌/◌, ◌%◌, ◌^◌, ◌<◌, ◌≤◌, ◌≡◌, cond, List, [], ◌∷◌, ◌++◌, length, drop, set, eqb, Result, Ok, Err, Option, Some, None}
+-- The rows and the stack of the check's code. Only contracts of private functions cite this file.
+use Rattle.std.specs.Prelude.{ℕ, Bool, ◌+◌, ◌<◌, ◌≤◌, ◌≡◌, cond, List, [], ◌∷◌, ◌++◌, length, drop, set, leb, Result, Ok, Err, Option, Some, None}
 use Rattle.std.proofs.Math.Option.{Option as Maybe, none, some}
-use Rattle.tree.specs.Kind.{Kind}
-use Rattle.tree.specs.Kind.{expr_rows, stmt_rows, aexpr_rows, Turn, fits, misfit}
-use Rattle.tree.specs.KindNumbers.{kind_number, kind_of}
+use Rattle.tree.specs.Kind.{Kind, bool, operator, mode, natural, low, name, length_from, expr, stmt, aexpr, option, seq, fields, contents, program_fields, Turn, fits, misfit, by_row, turn}
+use Rattle.tree.specs.KindNumbers.{kind_number}
+use Rattle.tree.specs.KindCodes.{as_kind}
+use Rattle.tree.specs.Codes.{expr_code, stmt_code, aexpr_code}
 use Rattle.tree.specs.Check.{run, within}
 use Rattle.tree.specs.Tally.{Mark, Expected, opened, mark_at, more, marked, noted, tally}
 use Rattle.tree.specs.Notes.{note_kind, kind_notes}
+use Rattle.tree.specs.declared.rows.Row.{Row}
+use Rattle.tree.specs.declared.rows.Row.TheVariants as row
+use Rattle.tree.specs.declared.kind.Kind.{Kind as KindCode}
+use Rattle.tree.specs.declared.frames.Mark.{Mark as MarkCode}
+use Rattle.tree.specs.declared.frames.Frame.{Frame}
 use Rattle.tree.specs.declared.walk.Step.{Step}
 use Rattle.tree.specs.declared.CheckError.{CheckError}
 
--- the kinds of a row: its digits to the base 32, from the lowest; a number of 32 bits has at most seven
-unfoldable pub digits : ℕ → ℕ → List Kind
-digits zero row = []
-digits (suc n) row = cond (eqb row 0) [] (kind_of (row % 32) ∷ digits n (row / 32))
+-- the fields of a word where that kind is expected, none where it misfits
+abbrev pub word_fields : Kind → ℕ → List Kind
+word_fields k w = elim (by_row k w) [ fits fs ↦ fs | misfit back ↦ [] ]
 
--- the kinds of a row that the code holds
-unfoldable pub kinds_of : ℕ → List Kind
-kinds_of row = digits 7 row
+-- what stands after a 1 in an option or a sequence
+abbrev pub content_fields : Kind → List Kind
+content_fields bool = []
+content_fields operator = []
+content_fields mode = []
+content_fields natural = []
+content_fields low = []
+content_fields name = []
+content_fields (length_from s) = []
+content_fields expr = []
+content_fields stmt = []
+content_fields aexpr = []
+content_fields (option c) = contents c
+content_fields (seq i) = fields i ++ (seq i ∷ [])
 
--- the rows of the kinds whose constructors have fields
-abbrev pub constructor_rows : List (List Kind)
-constructor_rows = expr_rows ++ (stmt_rows ++ aexpr_rows)
+-- a kind of one word, or one that a word begins; of the code's kinds all but `name` and `natural`
+abbrev pub OneWord : Kind → Type 0
+OneWord k = (inside : ℕ → ℕ → Bool) (w : ℕ) → turn inside k w ≡ by_row k w
+
+-- the kinds of a row
+unfoldable pub row_kinds : Row → List Kind
+row_kinds row.Empty = []
+row_kinds row.Expression = expr ∷ []
+row_kinds row.Program = program_fields
+row_kinds (row.Expr t) = word_fields expr (expr_code t)
+row_kinds (row.Stmt t) = word_fields stmt (stmt_code t)
+row_kinds (row.AExpr t) = word_fields aexpr (aexpr_code t)
+row_kinds (row.After k) = content_fields (as_kind k)
 
 -- what the code's answer says of a word
-abbrev pub as_turn : Option ℕ → Turn
-as_turn (Some row) = fits (kinds_of row)
+abbrev pub as_turn : Option Row → Turn
+as_turn (Some r) = fits (row_kinds r)
 as_turn None = misfit 0
 
--- ---- the entries of the walk's stack
+-- ---- the frames of the walk's stack
 
--- the mark that a number stands for: 0 for none, else 1, the start and 65,536 for each item passed
-abbrev pub as_mark : ℕ → Maybe Mark
-as_mark zero = none
-as_mark (suc m) = some (record { start = m % 65536; passed = m / 65536 })
+-- the mark that is meant
+abbrev pub as_mark : Option MarkCode → Maybe Mark
+as_mark None = none
+as_mark (Some m) = some (record { start = m.start; passed = m.passed })
 
--- what an entry expects: the kinds of its low half, the last with the mark of its high half
-unfoldable pub expected_of : ℕ → List Expected
-expected_of frame = marked (kinds_of (frame % 2 ^ 32)) (as_mark (frame / 2 ^ 32))
+-- how many items it says are passed
+abbrev pub passed_of : Option MarkCode → ℕ
+passed_of None = 0
+passed_of (Some m) = m.passed
 
--- the mark of a sequence at a place, behind which the kinds of a row follow, as a number that is no greater than what bounds both
-pub record Opens (mark after at r : ℕ) : Type 0 where
-  pub is : as_mark r ≡ some (opened (cond (eqb after 0) (as_mark mark) none) at)
-  pub small : (b : ℕ) → mark ≤ b → at + 1 ≤ b → r ≤ b
+-- what a frame expects: the kinds of its row from the next on, the last with its mark
+abbrev pub left : Frame → List Kind
+left f = drop f.next (row_kinds f.row)
 
--- the mark of the first kind of an entry, which is the entry's where no other follows
-abbrev pub own_mark : ℕ → Maybe Mark
-own_mark frame = cond (eqb (frame % 2 ^ 32 / 32) 0) (as_mark (frame / 2 ^ 32)) none
+abbrev pub expected_of : Frame → List Expected
+expected_of f = marked (left f) (as_mark f.mark)
 
--- the mark of the first kind of an entry at a place
-pub record MarkIs (frame at r : ℕ) : Type 0 where
-  pub is : as_mark r ≡ mark_at (kind_of (frame % 2 ^ 32 % 32)) (own_mark frame) at
-  pub small : (b : ℕ) → frame / 2 ^ 32 ≤ b → at + 1 ≤ b → r ≤ b
+-- the first of them, where there is one
+abbrev pub FirstIs : Frame → Option KindCode → Type 0
+FirstIs f None = left f ≡ []
+FirstIs f (Some k) = (f.next < length (row_kinds f.row)) × (left f ≡ as_kind k ∷ drop (f.next + 1) (row_kinds f.row))
 
--- the entry of a word's fields, one item more of the marked sequence being passed
-pub record FrameIs (fields mark r : ℕ) : Type 0 where
-  pub row : r % 2 ^ 32 ≡ fields
-  pub mark-is : as_mark (r / 2 ^ 32) ≡ more (as_mark mark)
-  pub small : r / 2 ^ 32 ≤ mark + 65536
+-- the mark of the first kind of a frame, which is the frame's where no other follows
+abbrev pub own_mark : Frame → Maybe Mark
+own_mark f = cond (leb (length (row_kinds f.row)) (f.next + 1)) (as_mark f.mark) none
 
--- an entry is put on the first `top` of a stack, unless its row has run out
-pub record Pushed (stack : List ℕ) (top frame : ℕ) (stack' : List ℕ) (r : ℕ) : Type 0 where
-  pub dropped : frame % 2 ^ 32 ≡ 0 → (r ≡ top) × (stack' ≡ stack)
-  pub put : (frame % 2 ^ 32 ≡ 0 → ⊥) → (r ≡ top + 1) × (stack' ≡ set stack top frame)
+-- the mark of a frame's first kind at a place, of which no more is passed than of the frame's
+pub record MarkIs (f : Frame) (k : KindCode) (at : ℕ) (r : Option MarkCode) : Type 0 where
+  pub is : as_mark r ≡ mark_at (as_kind k) (own_mark f) at
+  pub small : passed_of r ≤ passed_of f.mark
+
+-- one item more
+pub record MoreIs (m r : Option MarkCode) : Type 0 where
+  pub is : as_mark r ≡ more (as_mark m)
+  pub small : passed_of r ≤ passed_of m + 1
+
+-- a frame is put on the first `top` of a stack, unless its row has run out
+pub record Pushed (stack : List Frame) (top : ℕ) (frame : Frame) (stack' : List Frame) (r : ℕ) : Type 0 where
+  pub dropped : left frame ≡ [] → (r ≡ top) × (stack' ≡ stack)
+  pub put : (left frame ≡ [] → ⊥) → (r ≡ top + 1) × (stack' ≡ set stack top frame)
 
 -- ---- a step of the walk
 
--- the words from a place on fit the kind k: the check, and the count of items, go on behind them where the row's kinds are expected
-pub record Went (words : List ℕ) (len at : ℕ) (k : Kind) (next row : ℕ) : Type 0 where
+-- the words from a place on fit the kind k: the check, and the count of items, go on behind them where the kinds of the fields are expected
+pub record Went (words : List ℕ) (len at : ℕ) (k : Kind) (next : ℕ) (fs : List Kind) : Type 0 where
   pub forward : at < next
   pub inside : next ≤ length words
-  pub goes : (ks : List Kind) → run (within len) (k ∷ ks) at (drop at words) ≡ run (within len) (kinds_of row ++ ks) next (drop next words)
+  pub goes : (ks : List Kind) → run (within len) (k ∷ ks) at (drop at words) ≡ run (within len) (fs ++ ks) next (drop next words)
   pub counts : (m : Maybe Mark) (es : List Expected) (c : List ℕ) → tally (within len) (record { kind = k; mark = m } ∷ es) at (drop at words) c
-      ≡ tally (within len) (marked (kinds_of row) (more (mark_at k m at)) ++ es) next (drop next words) (noted (kinds_of row) (mark_at k m at) c)
+      ≡ tally (within len) (marked fs (more (mark_at k m at)) ++ es) next (drop next words) (noted fs (mark_at k m at) c)
   pub kinds : (ks : List Kind) (n : List ℕ) → kind_notes (within len) (k ∷ ks) at (drop at words) n
-      ≡ kind_notes (within len) (kinds_of row ++ ks) next (drop next words) (note_kind at next (kind_number k) n)
+      ≡ kind_notes (within len) (fs ++ ks) next (drop next words) (note_kind at next (kind_number k) n)
 
 -- they misfit: the check ends with that error, and nothing more is noted
 pub record Stopped (words : List ℕ) (len at : ℕ) (k : Kind) (e : CheckError) : Type 0 where
@@ -83,5 +116,5 @@ pub record Stopped (words : List ℕ) (len at : ℕ) (k : Kind) (e : CheckError)
 
 -- what a step says of the words from a place on where the kind k is expected
 abbrev pub Stepped : List ℕ → ℕ → ℕ → Kind → Result Step CheckError → Type 0
-Stepped words len at k (Ok s) = Went words len at k s.next s.fields
+Stepped words len at k (Ok s) = Went words len at k s.next (row_kinds s.fields)
 Stepped words len at k (Err e) = Stopped words len at k e

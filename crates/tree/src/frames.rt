@@ -1,68 +1,100 @@
-// The entries of the walk's stack. The low half of one is a row, whose kinds are expected; the high half is the mark of the row's last
-// kind: 0 for none, else of a sequence its start and 1, and 65,536 for each item of it that is passed.
-ghost use Rattle.std.specs.Prelude.{◌≡◌, ◌+◌, ◌*◌, ◌/◌, ◌%◌, ◌^◌, ◌<◌, ◌≤◌, length};
-ghost use Rattle.tree.specs.Tally.{noted};
-ghost use Rattle.tree.specs.Rows.{kinds_of, as_mark, Opens, MarkIs, FrameIs, Pushed};
+// The frames of the walk's stack.
+ghost use Rattle.std.specs.Prelude.{◌≡◌, ◌+◌, ◌<◌, length};
+ghost use Rattle.tree.specs.Tally.{noted, more as more_of};
+ghost use Rattle.tree.specs.KindCodes.{as_kind};
+ghost use Rattle.tree.specs.Rows.{row_kinds, as_mark, passed_of, FirstIs, MarkIs, MoreIs, Pushed};
 
-use crate::rows::{BASE, is_sequence};
+use crate::kind::Kind;
+use crate::outline::put;
+use crate::rows::Row;
 
-// An entry's row.
-pub(crate) fn row_of(frame: u64) -> u32
-    ensures { result ≡ frame % 2 ^ 32 }
-{
-    (frame % 4294967296) as u32
+// The mark of a sequence of which items are passed: where it starts, and how many are.
+#[derive(Clone, Copy)]
+pub(crate) struct Mark {
+    start: u16,
+    passed: u16,
 }
 
-// An entry without the first kind of its row.
-pub(crate) fn rest(frame: u64) -> u64
-    ensures { result ≡ frame / 2 ^ 32 * 2 ^ 32 + frame % 2 ^ 32 / 32 }
-{
-    frame / 4294967296 * 4294967296 + frame % 4294967296 / BASE as u64
+// What is expected: of the kinds of a row those from the next on, the last with the mark.
+#[derive(Clone, Copy)]
+pub(crate) struct Frame {
+    row: Row,
+    next: u8,
+    mark: Option<Mark>,
 }
 
-// The mark of the first kind of an entry's row at a place.
-pub(crate) fn mark_at(frame: u64, at: usize) -> u64
-    requires { at < 65535 }
-    ensures { MarkIs frame at result }
-{
-    let row = row_of(frame);
-    if is_sequence(row % BASE) {
-        return sequence_mark(frame / 4294967296, row / BASE, at);
+impl Frame {
+    // No kinds.
+    pub(crate) const EMPTY: Frame = Frame {
+        row: Row::Empty,
+        next: 0,
+        mark: None,
+    };
+
+    // All kinds of a row.
+    pub(crate) fn of(row: Row, mark: Option<Mark>) -> Frame
+        ensures { result ≡ record { row = row; next = 0; mark = mark } }
+    {
+        Frame { row, next: 0, mark }
     }
-    0
+
+    // The kind that is expected first, where the row has not run out.
+    pub(crate) fn first(self) -> Option<Kind>
+        ensures { FirstIs self result }
+    {
+        self.row.kinds().get(self.next as usize).copied()
+    }
+
+    // What is expected after it.
+    pub(crate) fn rest(self) -> Frame
+        requires { self.next < length (row_kinds self.row) }
+        ensures { result ≡ record { row = self.row; next = self.next + 1; mark = self.mark } }
+    {
+        Frame {
+            next: self.next + 1,
+            ..self
+        }
+    }
+
+    // The mark of the kind that is expected first, at a place: of a sequence that stands last the frame's own, where it has one.
+    pub(crate) fn mark_at(self, kind: Kind, at: usize) -> Option<Mark>
+        requires { at < 65536 }
+        ensures { MarkIs self kind at result }
+    {
+        if !kind.is_sequence() {
+            return None;
+        }
+        let start = Mark {
+            start: at as u16,
+            passed: 0,
+        };
+        let last = self.row.kinds().len() <= self.next as usize + 1;
+        if last {
+            Some(self.mark.unwrap_or(start))
+        } else {
+            Some(start)
+        }
+    }
 }
 
-// The mark of a sequence with the row `after` behind it: the entry's own where it stands last and the entry has one.
-fn sequence_mark(mark: u64, after: u32, at: usize) -> u64
-    requires { at < 65535 }
-    ensures { Opens mark after at result }
+// One item more is passed.
+pub(crate) fn more(mark: Option<Mark>) -> Option<Mark>
+    requires { passed_of mark < 65535 }
+    ensures { MoreIs mark result }
 {
-    if 0 < after {
-        return at as u64 + 1;
-    }
-    if mark == 0 {
-        return at as u64 + 1;
-    }
-    mark
+    let mark = mark?;
+    Some(Mark {
+        passed: mark.passed + 1,
+        ..mark
+    })
 }
 
-// The entry of a word's fields, whose last kind is the rest of the marked sequence where there is one.
-pub(crate) fn frame_of(fields: u32, mark: u64) -> u64
-    requires { mark < 65535 * 65536 }
-    ensures { FrameIs fields mark result }
-{
-    if mark == 0 {
-        return fields as u64;
-    }
-    (mark + 65536) * 4294967296 + fields as u64
-}
-
-// Puts an entry on the first `top` of a stack, unless its row has run out; answers how many there are then.
-pub(crate) fn push(stack: &mut [u64], top: usize, frame: u64) -> usize
+// Puts a frame on the first `top` of a stack, unless its row has run out; answers how many there are then.
+pub(crate) fn push(stack: &mut [Frame], top: usize, frame: Frame) -> usize
     requires { top < length stack.old }
     ensures { Pushed stack.old top frame stack.new result }
 {
-    if row_of(frame) == 0 {
+    if frame.first().is_none() {
         return top;
     }
     stack[top] = frame;
@@ -70,16 +102,13 @@ pub(crate) fn push(stack: &mut [u64], top: usize, frame: u64) -> usize
 }
 
 // Notes the number of a sequence that ends, where the table of numbers has its place.
-pub(crate) fn note(counts: &mut [u16], fields: u32, mark: u64)
-    requires { mark < 65535 * 65536 }
-    ensures { counts.new ≡ noted (kinds_of fields) (as_mark mark) counts.old }
+pub(crate) fn note(counts: &mut [u16], fields: Row, mark: Option<Mark>)
+    ensures { counts.new ≡ noted (row_kinds fields) (as_mark mark) counts.old }
 {
-    if fields == 0 {
-        if 0 < mark {
-            let at = ((mark - 1) % 65536) as usize;
-            if at < counts.len() {
-                counts[at] = ((mark - 1) / 65536) as u16;
-            }
-        }
+    if !fields.kinds().is_empty() {
+        return;
+    }
+    if let Some(mark) = mark {
+        put(counts, mark.start as usize, mark.passed);
     }
 }

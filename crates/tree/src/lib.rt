@@ -13,14 +13,14 @@ pub mod word;
 ghost use Rattle.std.specs.Prelude.{◌≡◌, ◌+◌, ◌*◌, ◌^◌, get_or};
 ghost use Rattle.tree.specs.Resolve.{part};
 ghost use Rattle.tree.specs.Check.{within, check as check_of, error_number, error_place, refusal, expression_refusal, program_refusal};
-ghost use Rattle.tree.specs.Rows.{kinds_of};
+ghost use Rattle.tree.specs.Rows.{row_kinds};
 ghost use Rattle.tree.specs.Outline.{program_kinds, program_ends};
 ghost use Rattle.tree.specs.Notes.{kind_notes};
 ghost use Rattle.tree.specs.Tally.{counts as counts_of, expression_counts, program_counts};
 
-use kind::EXPR;
+use frames::Frame;
 use outline::{blank, fill, find_ends};
-use rows::PROGRAM;
+use rows::Row;
 use walk::walk;
 
 // The limits of a table's words and of a text's bytes.
@@ -68,16 +68,14 @@ impl CheckError {
 pub fn check_expression(words: &[u32], text_len: usize) -> Result<(), CheckError>
     ensures { refusal result ≡ expression_refusal words.now text_len }
 {
-    let mut counts = [0u16; 1];
-    count_expression(words, text_len, &mut counts)
+    count_expression(words, text_len, &mut [])
 }
 
 // Whether the words are one program over a text of that length.
 pub fn check_program(words: &[u32], text_len: usize) -> Result<(), CheckError>
     ensures { refusal result ≡ program_refusal words.now text_len }
 {
-    let mut counts = [0u16; 1];
-    count_program(words, text_len, &mut counts)
+    count_program(words, text_len, &mut [])
 }
 
 // The same; and at the place where a sequence of the expression starts, `counts` gets the number of its items.
@@ -88,16 +86,14 @@ pub fn count_expression(
 ) -> Result<(), CheckError>
     ensures { (refusal result ≡ expression_refusal words.now text_len) × (counts.new ≡ expression_counts words.now text_len counts.old) }
 {
-    let mut kinds = [0u16; 1];
-    count(words, text_len, EXPR, counts, &mut kinds)
+    count(words, text_len, Row::Expression, counts, &mut [])
 }
 
 // The same of a program.
 pub fn count_program(words: &[u32], text_len: usize, counts: &mut [u16]) -> Result<(), CheckError>
     ensures { (refusal result ≡ program_refusal words.now text_len) × (counts.new ≡ program_counts words.now text_len counts.old) }
 {
-    let mut kinds = [0u16; 1];
-    count(words, text_len, PROGRAM, counts, &mut kinds)
+    count(words, text_len, Row::Program, counts, &mut [])
 }
 
 // Whether the words are one program over a text of that length; where they are, `kinds` gets for each word the number of the kind that is
@@ -110,9 +106,8 @@ pub fn outline_program(
 ) -> Result<(), CheckError>
     ensures { (refusal result ≡ program_refusal words.now text_len) × (kinds.new ≡ program_kinds words.now text_len kinds.old) × (ends.new ≡ program_ends words.now text_len ends.old) }
 {
-    let mut counts = [0u16; 1];
     let mut noted = blank();
-    count(words, text_len, PROGRAM, &mut counts, &mut noted)?;
+    count(words, text_len, Row::Program, &mut [], &mut noted)?;
     let mut found = blank();
     find_ends(words, &noted, &mut found);
     fill(&noted, words.len(), kinds);
@@ -120,22 +115,25 @@ pub fn outline_program(
     Ok(())
 }
 
-// A small table takes a small stack.
+// A table of fewer words takes a small stack.
+const SMALL_TABLE: usize = 256;
+
+// What the check finds where the kinds of a row are expected, with what is noted of it.
 fn count(
     words: &[u32],
     text_len: usize,
-    first: u32,
+    first: Row,
     counts: &mut [u16],
     kinds: &mut [u16],
 ) -> Result<(), CheckError>
-    ensures { (result ≡ check_of (kinds_of first) words.now text_len) × (counts.new ≡ counts_of (kinds_of first) words.now text_len counts.old) × (result ≡ Ok tt → kinds.new ≡ kind_notes (within text_len) (kinds_of first) 0 words.now kinds.old) }
+    ensures { (result ≡ check_of (row_kinds first) words.now text_len) × (counts.new ≡ counts_of (row_kinds first) words.now text_len counts.old) × (result ≡ Ok tt → kinds.new ≡ kind_notes (within text_len) (row_kinds first) 0 words.now kinds.old) }
 {
-    if words.len() < 256 {
-        let mut stack = [0u64; 256];
+    if words.len() < SMALL_TABLE {
+        let mut stack = [Frame::EMPTY; SMALL_TABLE];
         return walk(words, text_len, first, &mut stack, counts, kinds);
     }
     if words.len() <= MOST_WORDS {
-        let mut stack = [0u64; MOST_WORDS + 1];
+        let mut stack = [Frame::EMPTY; MOST_WORDS + 1];
         return walk(words, text_len, first, &mut stack, counts, kinds);
     }
     Err(CheckError::TooLong)
@@ -145,19 +143,16 @@ fn count(
 pub fn get(words: &[u32], at: usize) -> u32
     ensures { result ≡ get_or words.now at 0 }
 {
-    if at < words.len() { words[at] } else { 0 }
+    words.get(at).copied().unwrap_or(0)
 }
 
 // The natural whose high word stands at a place; a word past the end is 0.
 pub fn natural(words: &[u32], at: usize) -> u64
     ensures { result ≡ get_or words.now at 0 * 2 ^ 32 + get_or words.now (at + 1) 0 }
 {
-    if words.len() <= at {
-        return 0;
-    }
     let high = get(words, at) as u64;
-    let low = get(words, at + 1) as u64;
-    high * 4294967296 + low
+    let low = get(words, at.saturating_add(1)) as u64;
+    high << 32 | low
 }
 
 // The part of the text that a name occupies. A name that lies inside the text is `&text[start..start + len]`; of another, what of it
@@ -165,13 +160,7 @@ pub fn natural(words: &[u32], at: usize) -> u64
 pub fn name(text: &[u8], start: u32, len: u32) -> &[u8]
     ensures { result.now ≡ part text.now start len }
 {
-    let s = start as usize;
-    let n = len as usize;
-    if text.len() < s {
-        return &text[..0];
-    }
-    if text.len() - s < n {
-        return &text[s..];
-    }
-    &text[s..s + n]
+    let start = text.len().min(start as usize);
+    let end = text.len().min(start + len as usize);
+    &text[start..end]
 }

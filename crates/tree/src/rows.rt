@@ -1,198 +1,206 @@
-// The rows: the kinds of a constructor's fields as the digits of a number to the base 32, the first field lowest. 0 is the row of no
-// fields; no row has the digits 29 to 31, which are taken for 28.
-ghost use Rattle.std.specs.Prelude.{◌≡◌, Bool, [], ℕ, ◌+◌, ◌<◌, ◌≤◌, replicate, take, drop};
-ghost use Rattle.tree.specs.Kind.{tagged, turn as turn_of};
-ghost use Rattle.tree.specs.KindNumbers.{kind_of};
-ghost use Rattle.tree.specs.Rows.{as_turn, constructor_rows};
-ghost use Rattle.tree.specs.Tally.{sequence};
+// The rows: the kinds of a constructor's fields, and of what stands after a 1 in an option or a sequence.
+ghost use Rattle.std.specs.Prelude.{◌≡◌, [], ◌∷◌, map};
+ghost use Rattle.tree.specs.Kind.{expr, stmt, aexpr, second, tagged, by_row};
+ghost use Rattle.tree.specs.KindCodes.{as_kind};
+ghost use Rattle.tree.specs.Codes.{expr_code, stmt_code, aexpr_code};
+ghost use Rattle.tree.specs.Rows.{word_fields, content_fields, row_kinds, as_turn};
 
-use crate::kind::{
-    AEXPR, AEXPRS, AXIOMS, BINDINGS, BOOL, CALL_ARGUMENTS, CASES, CLOSURE_BINDINGS,
-    CLOSURE_PROPERTIES, EXPR, EXPRS, FPARAMETERS, FUNCTIONS, MODE, NAME, NAMES, NATURAL, OPERATOR,
-    OPTION_DEFINITION, OPTION_EXPR, OPTION_NAME, OPTION_STMT, PATTERNS, PPARAMETERS, PROCEDURES,
-    STMT, STMTS, TAGGERS,
-};
-use crate::word::{A_EXPR, B_LITERAL, FALSE, IF_THEN_ELSE, IN, MORE, NO_MORE, VAR_DECL};
+use crate::kind::Kind;
+use crate::word::{AExprTag, ExprTag, MORE, Mode, NO_MORE, Operator, StmtTag, TRUE};
 
-pub(crate) const BASE: u32 = 32;
-
-const B1: u32 = 32;
-
-const B2: u32 = 32 * B1;
-
-const B3: u32 = 32 * B2;
-
-const B4: u32 = 32 * B3;
-
-const B5: u32 = 32 * B4;
-
-// The row of a program's five sequences.
-pub(crate) const PROGRAM: u32 = NAMES
-    + TAGGERS * B1
-    + FUNCTIONS * B2
-    + AXIOMS * B3
-    + PROCEDURES * B4;
-
-// The rows of the constructors: of Expr from 0 on, of Stmt from 10, of AExpr from 28.
-const ROWS: [u32; 30] = [
-    // BLiteral
-    BOOL,
-    // ILiteral
-    NATURAL,
-    // CustomLiteral
-    NAME + NAME * B1,
-    // IdExpr
-    NAME + BOOL * B1,
-    // OperatorExpr
-    OPERATOR + EXPRS * B1,
-    // FunctionCallExpr
-    NAME + EXPRS * B1,
-    // LabeledExpr
-    NAME + EXPR * B1,
-    // LetExpr
-    NAME + OPTION_NAME * B1 + EXPR * B2 + EXPR * B3,
-    // QuantifierExpr
-    BOOL + BINDINGS * B1 + PATTERNS * B2 + EXPR * B3,
-    // ClosureExpr
-    CLOSURE_BINDINGS + NAME * B1 + NAME * B2 + CLOSURE_PROPERTIES * B3,
-    // VarDecl
-    NAME + BOOL * B1 + OPTION_NAME * B2 + OPTION_EXPR * B3 + OPTION_EXPR * B4 + STMT * B5,
-    // Assign
-    NAME + EXPR * B1,
-    // Reinit
-    NAMES,
-    // Block
-    STMTS,
-    // Call
-    NAME + CALL_ARGUMENTS * B1,
-    // Check
-    EXPR,
-    // Assume
-    EXPR,
-    // Reach
-    EXPR,
-    // Assert
-    EXPR,
-    // AForall
-    NAME + NAME * B1 + STMT * B2,
-    // Choose
-    STMTS,
-    // If
-    EXPR + STMT * B1 + STMT * B2,
-    // IfCase
-    CASES,
-    // Loop
-    AEXPRS + STMT * B1,
-    // LabeledStmt
-    NAME + STMT * B1,
-    // Exit
-    OPTION_NAME,
-    // Return
-    0,
-    // Probe
-    EXPR,
-    // AExpr
-    EXPR,
-    // AAssertion
-    STMT,
-];
-
-// The rows after a 1 in an option or a sequence, for the kinds from OPTION_NAME on. A sequence stands last in its own row.
-const CONTENT_ROWS: [u32; 20] = [
-    NAME,
-    EXPR,
-    STMT,
-    EXPRS + EXPR * B1,
-    NAME + NAMES * B1,
-    EXPR + EXPRS * B1,
-    NAME + NAME * B1 + BINDINGS * B2,
-    EXPRS + PATTERNS * B1,
-    NAME + BINDINGS * B1 + EXPR * B2 + CLOSURE_BINDINGS * B3,
-    PATTERNS + EXPR * B1 + CLOSURE_PROPERTIES * B2,
-    STMT + STMTS * B1,
-    MODE + EXPR * B1 + CALL_ARGUMENTS * B2,
-    EXPR + STMT * B1 + CASES * B2,
-    AEXPR + AEXPRS * B1,
-    NAME + NAME * B1 + TAGGERS * B2,
-    NAME + BOOL * B1 + NAME * B2 + FPARAMETERS * B3,
-    NAME + FPARAMETERS * B1
-        + NAME * B2
-        + OPTION_NAME * B3
-        + OPTION_DEFINITION * B4
-        + FUNCTIONS * B5,
-    NAMES + EXPR * B1 + AXIOMS * B2,
-    NAME + MODE * B1 + NAME * B2 + OPTION_EXPR * B3 + PPARAMETERS * B4,
-    NAME + PPARAMETERS * B1 + AEXPRS * B2 + AEXPRS * B3 + OPTION_STMT * B4 + PROCEDURES * B5,
-];
-
-// Whether a kind is a sequence.
-pub(crate) fn is_sequence(kind: u32) -> bool
-    ensures { result ≡ sequence (kind_of kind) }
-{
-    if kind < NAMES {
-        return false;
-    }
-    kind <= PROCEDURES
+// Which kinds are expected in turn.
+#[derive(Clone, Copy)]
+pub(crate) enum Row {
+    // None.
+    Empty,
+    // An expression.
+    Expression,
+    // A program's five sequences.
+    Program,
+    // The fields of a constructor.
+    Expr(ExprTag),
+    Stmt(StmtTag),
+    AExpr(AExprTag),
+    // What an option holds, or an item of a sequence and the rest of the sequence.
+    After(Kind),
 }
 
-// The row of a word's fields at a kind of those before NAME, where the word fits; 0, which no row holds, is taken for BOOL.
-pub(crate) fn turn(kind: u32, word: u32) -> Option<u32>
-    requires { kind < 27 }
-    ensures { (inside : ℕ → ℕ → Bool) → as_turn result ≡ turn_of inside (kind_of kind) word }
-{
-    if AEXPR < kind {
-        return content_turn(kind, word);
+impl Row {
+    // Its kinds.
+    #[tactic(auto, unfolding(crate::specs::Rows::row_kinds))]
+    pub(crate) fn kinds(self) -> &'static [Kind]
+        ensures { map as_kind result.now ≡ row_kinds self }
+    {
+        match self {
+            Row::Empty => &[],
+            Row::Expression => &[Kind::Expr],
+            Row::Program => &[
+                Kind::Names,
+                Kind::Taggers,
+                Kind::Functions,
+                Kind::Axioms,
+                Kind::Procedures,
+            ],
+            Row::Expr(tag) => expr_row(tag),
+            Row::Stmt(tag) => stmt_row(tag),
+            Row::AExpr(tag) => aexpr_row(tag),
+            Row::After(kind) => content_row(kind),
+        }
     }
+}
+
+// The fields of Expr's constructors.
+fn expr_row(tag: ExprTag) -> &'static [Kind]
+    ensures { map as_kind result.now ≡ word_fields expr (expr_code tag) }
+{
+    match tag {
+        ExprTag::BLiteral => &[Kind::Bool],
+        ExprTag::ILiteral => &[Kind::Natural],
+        ExprTag::CustomLiteral => &[Kind::Name, Kind::Name],
+        ExprTag::IdExpr => &[Kind::Name, Kind::Bool],
+        ExprTag::OperatorExpr => &[Kind::Operator, Kind::Exprs],
+        ExprTag::FunctionCallExpr => &[Kind::Name, Kind::Exprs],
+        ExprTag::LabeledExpr => &[Kind::Name, Kind::Expr],
+        ExprTag::LetExpr => &[Kind::Name, Kind::OptionName, Kind::Expr, Kind::Expr],
+        ExprTag::QuantifierExpr => &[Kind::Bool, Kind::Bindings, Kind::Patterns, Kind::Expr],
+        ExprTag::ClosureExpr => &[
+            Kind::ClosureBindings,
+            Kind::Name,
+            Kind::Name,
+            Kind::ClosureProperties,
+        ],
+    }
+}
+
+// The fields of Stmt's constructors; the variable of a VarDecl is its four fields.
+fn stmt_row(tag: StmtTag) -> &'static [Kind]
+    ensures { map as_kind result.now ≡ word_fields stmt (stmt_code tag) }
+{
+    match tag {
+        StmtTag::VarDecl => &[
+            Kind::Name,
+            Kind::Bool,
+            Kind::OptionName,
+            Kind::OptionExpr,
+            Kind::OptionExpr,
+            Kind::Stmt,
+        ],
+        StmtTag::Assign => &[Kind::Name, Kind::Expr],
+        StmtTag::Reinit => &[Kind::Names],
+        StmtTag::Block => &[Kind::Stmts],
+        StmtTag::Call => &[Kind::Name, Kind::CallArguments],
+        StmtTag::Check => &[Kind::Expr],
+        StmtTag::Assume => &[Kind::Expr],
+        StmtTag::Reach => &[Kind::Expr],
+        StmtTag::Assert => &[Kind::Expr],
+        StmtTag::AForall => &[Kind::Name, Kind::Name, Kind::Stmt],
+        StmtTag::Choose => &[Kind::Stmts],
+        StmtTag::If => &[Kind::Expr, Kind::Stmt, Kind::Stmt],
+        StmtTag::IfCase => &[Kind::Cases],
+        StmtTag::Loop => &[Kind::AExprs, Kind::Stmt],
+        StmtTag::LabeledStmt => &[Kind::Name, Kind::Stmt],
+        StmtTag::Exit => &[Kind::OptionName],
+        StmtTag::Return => &[],
+        StmtTag::Probe => &[Kind::Expr],
+    }
+}
+
+// The fields of AExpr's constructors.
+fn aexpr_row(tag: AExprTag) -> &'static [Kind]
+    ensures { map as_kind result.now ≡ word_fields aexpr (aexpr_code tag) }
+{
+    match tag {
+        AExprTag::AExpr => &[Kind::Expr],
+        AExprTag::AAssertion => &[Kind::Stmt],
+    }
+}
+
+// What stands after a 1 in an option or a sequence of that kind, in a sequence with its rest; nothing of another kind.
+fn content_row(kind: Kind) -> &'static [Kind]
+    ensures { map as_kind result.now ≡ content_fields (as_kind kind) }
+{
     match kind {
-        OPERATOR => leaf_turn(word, IF_THEN_ELSE, 16),
-        MODE => leaf_turn(word, IN, 3),
-        EXPR => row_turn(word, B_LITERAL, 10, 0),
-        STMT => row_turn(word, VAR_DECL, 18, 10),
-        AEXPR => row_turn(word, A_EXPR, 2, 28),
-        _ => leaf_turn(word, FALSE, 2),
+        Kind::OptionName => &[Kind::Name],
+        Kind::OptionExpr => &[Kind::Expr],
+        Kind::OptionStmt => &[Kind::Stmt],
+        Kind::OptionDefinition => &[Kind::Exprs, Kind::Expr],
+        Kind::Names => &[Kind::Name, Kind::Names],
+        Kind::Exprs => &[Kind::Expr, Kind::Exprs],
+        Kind::Bindings => &[Kind::Name, Kind::Name, Kind::Bindings],
+        Kind::Patterns => &[Kind::Exprs, Kind::Patterns],
+        Kind::ClosureBindings => &[
+            Kind::Name,
+            Kind::Bindings,
+            Kind::Expr,
+            Kind::ClosureBindings,
+        ],
+        Kind::ClosureProperties => &[Kind::Patterns, Kind::Expr, Kind::ClosureProperties],
+        Kind::Stmts => &[Kind::Stmt, Kind::Stmts],
+        Kind::CallArguments => &[Kind::Mode, Kind::Expr, Kind::CallArguments],
+        Kind::Cases => &[Kind::Expr, Kind::Stmt, Kind::Cases],
+        Kind::AExprs => &[Kind::AExpr, Kind::AExprs],
+        Kind::Taggers => &[Kind::Name, Kind::Name, Kind::Taggers],
+        Kind::FParameters => &[Kind::Name, Kind::Bool, Kind::Name, Kind::FParameters],
+        Kind::Functions => &[
+            Kind::Name,
+            Kind::FParameters,
+            Kind::Name,
+            Kind::OptionName,
+            Kind::OptionDefinition,
+            Kind::Functions,
+        ],
+        Kind::Axioms => &[Kind::Names, Kind::Expr, Kind::Axioms],
+        Kind::PParameters => &[
+            Kind::Name,
+            Kind::Mode,
+            Kind::Name,
+            Kind::OptionExpr,
+            Kind::PParameters,
+        ],
+        Kind::Procedures => &[
+            Kind::Name,
+            Kind::PParameters,
+            Kind::AExprs,
+            Kind::AExprs,
+            Kind::OptionStmt,
+            Kind::Procedures,
+        ],
+        _ => &[],
     }
 }
 
-// A kind of `count` words from `first` on, none with fields.
-fn leaf_turn(word: u32, first: u32, count: u32) -> Option<u32>
-    ensures { as_turn result ≡ tagged first (replicate count []) word }
+// The row that a word of that kind begins, where there is such a word; a name and a natural, whose words may be any, have none.
+pub(crate) fn row_of(kind: Kind, word: u32) -> Option<Row>
+    ensures { as_turn result ≡ by_row (as_kind kind) word }
 {
-    if word < first {
-        return None;
+    match kind {
+        Kind::Bool => leaf(word <= TRUE),
+        Kind::Operator => leaf(Operator::from_word(word).is_some()),
+        Kind::Mode => leaf(Mode::from_word(word).is_some()),
+        Kind::Expr => Some(Row::Expr(ExprTag::from_word(word)?)),
+        Kind::Stmt => Some(Row::Stmt(StmtTag::from_word(word)?)),
+        Kind::AExpr => Some(Row::AExpr(AExprTag::from_word(word)?)),
+        Kind::Name | Kind::Natural => None,
+        _ => mark_row(kind, word),
     }
-    if word - first < count {
-        return Some(0);
-    }
-    None
 }
 
-// A kind of `count` words from `first` on, whose rows are those from `base` on.
-fn row_turn(word: u32, first: u32, count: u32, base: u32) -> Option<u32>
-    requires { base + count ≤ 30 }
-    ensures { as_turn result ≡ tagged first (take count (drop base constructor_rows)) word }
+// That of a word without fields, where it fits.
+#[tactic(auto, unfolding(crate::specs::Rows::row_kinds))]
+fn leaf(fits: bool) -> Option<Row>
+    ensures { as_turn result ≡ second fits 0 }
 {
-    if word < first {
-        return None;
-    }
-    let n = word - first;
-    if count <= n {
-        return None;
-    }
-    let i = (base + n) as usize;
-    Some(ROWS[i])
+    fits.then_some(Row::Empty)
 }
 
-// An option or a sequence: 0 at its end, 1 before what it holds.
-fn content_turn(kind: u32, word: u32) -> Option<u32>
-    requires { (6 < kind) × (kind < 27) }
-    ensures { (inside : ℕ → ℕ → Bool) → as_turn result ≡ turn_of inside (kind_of kind) word }
+// That of an option's or a sequence's mark: nothing follows 0, and its content follows 1.
+#[tactic(auto, unfolding(crate::specs::Rows::row_kinds))]
+fn mark_row(kind: Kind, word: u32) -> Option<Row>
+    ensures { as_turn result ≡ tagged 0 ([] ∷ content_fields (as_kind kind) ∷ []) word }
 {
-    if word == NO_MORE {
-        return Some(0);
+    match word {
+        NO_MORE => Some(Row::Empty),
+        MORE => Some(Row::After(kind)),
+        _ => None,
     }
-    if MORE < word {
-        return None;
-    }
-    let i = (kind - 7) as usize;
-    Some(CONTENT_ROWS[i])
 }

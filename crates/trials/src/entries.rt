@@ -1,14 +1,13 @@
 // The cases of `reading` and `printing`. Before a case every word of a table that is read into is 4294967295, and every byte of an output is `~`;
 // where a word after the tree's is not 0 in the end, on a refusal any word, the answer ends in `not cleared`, and where a byte after the print is
 // another, on a refusal any byte, in `touched`.
-ghost use Rattle.std.specs.Prelude.{◌≤◌, length};
-
 use crate::lines::{tail, until};
-use crate::numbers::{number, wide};
-use crate::pieces::{TEXT, WORDS, build, build_table};
+use crate::numbers::number;
+use crate::pieces::{DIGITS, TEXT, WORDS, build, build_words};
 use crate::show::{
     cleared, print, print_bytes, print_count, print_refusal, print_words, untouched,
 };
+use crate::slices::most;
 use printing::{Printed, print_expression, print_expression_lines, print_program};
 use reading::{Reading, read_expression, read_program};
 use std::io;
@@ -108,8 +107,7 @@ pub(crate) fn read_case(to: &mut impl Write, run: Run, rest: &[u8]) -> io::Resul
     let mut table = [4294967295u32; WORDS];
     let size = number(rest);
     let n = build(tail(rest, size.digits), &mut text);
-    let words = most_words(size.value, &table);
-    read_into(to, run, &text[..n], &mut table[..words])
+    read_into(to, run, &text[..n], most(size.value, &mut table))
 }
 
 fn read_into(to: &mut impl Write, run: Run, text: &[u8], table: &mut [u32]) -> io::Result<()> {
@@ -127,7 +125,7 @@ pub(crate) fn print_case(to: &mut impl Write, run: Run, rest: &[u8]) -> io::Resu
     let size = number(rest);
     let parts = tail(rest, size.digits);
     let n = until(parts, b'/');
-    let words = build_table(&parts[..n], &mut table);
+    let words = build_words::<DIGITS>(&parts[..n], &mut table);
     print_over(to, run, size.value, tail(parts, n), &mut table[..words])
 }
 
@@ -142,8 +140,7 @@ fn print_over(
     let mut text = [0u8; TEXT];
     let mut out = [b'~'; OUTPUT];
     let bytes = build(line, &mut text);
-    let room = most_bytes(size, &out);
-    print_into(to, run, &text[..bytes], table, &mut out[..room])
+    print_into(to, run, &text[..bytes], table, most(size, &mut out))
 }
 
 fn print_into(
@@ -166,31 +163,7 @@ pub(crate) fn print_lines_case(to: &mut impl Write, run: Run, rest: &[u8]) -> io
     let lines = Run {
         entry: run.entry,
         times: run.times,
-        indent: wide(indent.value),
+        indent: indent.value as usize,
     };
     print_case(to, lines, tail(rest, indent.digits))
-}
-
-// So many words of the table, or all.
-fn most_words(n: u32, table: &[u32]) -> usize
-    ensures { result ≤ length table.now }
-{
-    let wished = wide(n);
-    if wished < table.len() {
-        wished
-    } else {
-        table.len()
-    }
-}
-
-// So many bytes of the output, or all.
-fn most_bytes(n: u32, out: &[u8]) -> usize
-    ensures { result ≤ length out.now }
-{
-    let wished = wide(n);
-    if wished < out.len() {
-        wished
-    } else {
-        out.len()
-    }
 }

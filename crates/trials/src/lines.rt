@@ -5,20 +5,15 @@ ghost use Rattle.std.specs.Prelude.{◌≤◌, ◌<◌, length};
 pub(crate) fn until(s: &[u8], b: u8) -> usize
     ensures { result ≤ length s.now }
 {
-    for (i, x) in s.iter().enumerate() {
-        if *x == b {
-            return i;
-        }
-    }
-    s.len()
+    s.iter().position(|x| *x == b).unwrap_or(s.len())
 }
 
 // What stands after the byte at `n`, nothing where the text ends before.
 pub(crate) fn tail(s: &[u8], n: usize) -> &[u8] {
-    if n < s.len() {
-        return &s[n + 1..];
+    match s.get(n..) {
+        Some([_, rest @ ..]) => rest,
+        _ => &s[..0],
     }
-    &s[..0]
 }
 
 // A byte, and how many bytes of a line stand for it.
@@ -34,24 +29,19 @@ fn escaped(s: &[u8]) -> Glyph
     requires { 0 < length s.now }
     ensures { (0 < result.width) × (result.width ≤ length s.now) }
 {
-    if s.len() < 2 {
-        return Glyph {
+    match s {
+        [b'\\', b'x', high, low, ..] => Glyph {
+            byte: hex_digit(*high) * 16 + hex_digit(*low),
+            width: 4,
+        },
+        [b'\\', b, ..] => Glyph {
+            byte: control(*b),
+            width: 2,
+        },
+        _ => Glyph {
             byte: s[0],
             width: 1,
-        };
-    }
-    if s[0] != b'\\' {
-        return Glyph {
-            byte: s[0],
-            width: 1,
-        };
-    }
-    if s[1] == b'x' {
-        return hexadecimal(s);
-    }
-    Glyph {
-        byte: control(s[1]),
-        width: 2,
+        },
     }
 }
 
@@ -64,56 +54,28 @@ fn control(b: u8) -> u8 {
     }
 }
 
-fn hexadecimal(s: &[u8]) -> Glyph
-    requires { 2 ≤ length s.now }
-    ensures { (0 < result.width) × (result.width ≤ length s.now) }
-{
-    if s.len() < 4 {
-        return Glyph {
-            byte: b'x',
-            width: 2,
-        };
-    }
-    let high = hex_digit(s[2]);
-    let low = hex_digit(s[3]);
-    Glyph {
-        byte: high * 16 + low,
-        width: 4,
-    }
-}
-
 fn hex_digit(b: u8) -> u8
     ensures { result < 16 }
 {
-    if b < b'0' {
-        return 0;
+    match b {
+        b'0'..=b'9' => b - b'0',
+        b'a'..=b'f' => b - b'a' + 10,
+        _ => 0,
     }
-    if b <= b'9' {
-        return b - b'0';
-    }
-    if b < b'a' {
-        return 0;
-    }
-    if b <= b'f' {
-        return b - b'a' + 10;
-    }
-    0
 }
 
 // Puts the bytes that a line stands for at the start of `out`, as many as fit, and answers how many there are.
 pub(crate) fn decode(line: &[u8], out: &mut [u8]) -> usize
     ensures { result ≤ length out.new }
 {
-    let mut n = 0;
-    let mut i = 0;
-    while i < line.len() {
-        if n == out.len() {
+    let mut rest = line;
+    for (n, place) in out.iter_mut().enumerate() {
+        if rest.is_empty() {
             return n;
         }
-        let e = escaped(&line[i..]);
-        out[n] = e.byte;
-        n += 1;
-        i += e.width;
+        let e = escaped(rest);
+        *place = e.byte;
+        rest = &rest[e.width..];
     }
-    n
+    out.len()
 }

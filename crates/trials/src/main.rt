@@ -32,10 +32,8 @@ mod spans;
 mod tables;
 mod tokens;
 
-ghost use Rattle.std.specs.Prelude.{◌≡◌, ◌≤◌, length, IfOk};
-
 use entries::{Run, print_case, print_lines_case, read_case};
-use lines::{tail, until};
+use lines::tail;
 use numbers::number;
 use outlines::outline_case;
 use show::print;
@@ -46,41 +44,16 @@ use tables::{name_case, table_case};
 use tokens::token_case;
 
 fn main(rt: HostRuntime) -> io::Result<()> {
-    let mut input = input_buffer();
-    let n = read_full(&mut rt.reader(), &mut input)?;
+    let mut input = Vec::new(rt.alloc());
+    rt.reader().read_to_end(&mut input)?;
     let mut to = BufWriter::new(rt.alloc(), io::writer(&rt))?;
-    cases(&mut to, &input[..n])?;
+    cases(&mut to, &input)?;
     to.flush()
 }
 
-// More bytes than the cases have. Callers know its length alone, so no proof computes the array.
-fn input_buffer() -> [u8; 655360]
-    ensures { 655360 ≡ length result }
-{
-    [0; 655360]
-}
-
-// Reads until the buffer is full or the input ends, and answers how many bytes stand at its start.
-fn read_full(input: &mut impl Read, buffer: &mut [u8]) -> io::Result<usize>
-    ensures { IfOk result (λ n. n ≤ length buffer.new) }
-{
-    let mut done = 0;
-    while done < buffer.len() {
-        let n = input.read(&mut buffer[done..])?;
-        if n == 0 {
-            break;
-        }
-        done += n;
-    }
-    Ok(done)
-}
-
 fn cases(to: &mut impl Write, input: &[u8]) -> io::Result<()> {
-    let mut at: usize = 0;
-    while at < input.len() {
-        let n = until(&input[at..], b'\n');
-        case(to, &input[at..at + n])?;
-        at += n + 1;
+    for line in input.split_inclusive(|b| *b == b'\n') {
+        case(to, line.strip_suffix(b"\n").unwrap_or(line))?;
     }
     Ok(())
 }
@@ -88,8 +61,8 @@ fn cases(to: &mut impl Write, input: &[u8]) -> io::Result<()> {
 // One line: printed as it stands, and its answer after it.
 fn case(to: &mut impl Write, line: &[u8]) -> io::Result<()> {
     print(to, line)?;
-    if 0 < line.len() {
-        answer(to, line[0], &line[1..])?;
+    if let [entry, rest @ ..] = line {
+        answer(to, *entry, rest)?;
     }
     print(to, b"\n")
 }

@@ -2,14 +2,14 @@
 // slash and the ends, as the case leaves them.
 use crate::entries::Run;
 use crate::lines::tail;
-use crate::numbers::{number, wide};
-use crate::pieces::{WORDS, build_table};
+use crate::numbers::number;
+use crate::pieces::{DIGITS, WORDS, build_words};
 use crate::show::{print, print_count};
-use crate::slices::{most_numbers, print_numbers};
+use crate::slices::{most, print_numbers};
 use crate::tables::print_checked;
 use std::io;
 use std::io::Write;
-use tree::{Checked, outline_program};
+use tree::{CheckError, outline_program};
 
 // How many kinds and how many ends, the length of the text, and a table.
 pub(crate) fn outline_case(to: &mut impl Write, run: Run, rest: &[u8]) -> io::Result<()> {
@@ -19,13 +19,13 @@ pub(crate) fn outline_case(to: &mut impl Write, run: Run, rest: &[u8]) -> io::Re
     let ends = number(after);
     let last = tail(after, ends.digits);
     let length = number(last);
-    let n = build_table(tail(last, length.digits), &mut table);
+    let n = build_words::<DIGITS>(tail(last, length.digits), &mut table);
     outline_into(
         to,
         run,
         kinds.value,
         ends.value,
-        wide(length.value),
+        length.value as usize,
         &table[..n],
     )
 }
@@ -41,9 +41,9 @@ fn outline_into(
 ) -> io::Result<()> {
     let mut kinds = [255u16; WORDS];
     let mut ends = [65535u16; WORDS];
-    let k = most_numbers(most_kinds, &kinds);
-    let e = most_numbers(most_ends, &ends);
-    outlined(to, run, words, text_len, &mut kinds[..k], &mut ends[..e])
+    let kinds = most(most_kinds, &mut kinds);
+    let ends = most(most_ends, &mut ends);
+    outlined(to, run, words, text_len, kinds, ends)
 }
 
 // Prints the answer; of repeated runs only how many words the table has.
@@ -74,9 +74,9 @@ fn repeated(
     text_len: usize,
     kinds: &mut [u16],
     ends: &mut [u16],
-) -> Checked {
+) -> Result<(), CheckError> {
     for _ in 1..run.times {
-        outline_program(words, text_len, kinds, ends);
+        let _ = outline_program(words, text_len, kinds, ends);
     }
     outline_program(words, text_len, kinds, ends)
 }

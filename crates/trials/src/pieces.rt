@@ -1,7 +1,7 @@
 // Texts and tables of repeated pieces. A piece is a number, a byte and what stands up to the next `;`, with the escapes of `lines`; it means so
 // many times these bytes: `2 (;1 a;2 )` is `((a))`. A table's bytes are its words in decimal with a byte between them: `2 7 0 1 ;1 1 0` is the
 // table 7 0 1 7 0 1 1 0.
-ghost use Rattle.std.specs.Prelude.{◌≤◌, length};
+ghost use Rattle.std.specs.Prelude.{◌≤◌, ◌<◌, ◌^◌, length};
 
 use crate::lines::{decode, tail, until};
 use crate::numbers::number;
@@ -12,25 +12,22 @@ pub(crate) const TEXT: usize = 32772;
 pub(crate) const WORDS: usize = 16400;
 
 // Ten digits and a byte for each word.
-const DIGITS: usize = 180400;
+pub(crate) const DIGITS: usize = 180400;
 
 // More bytes and words of spans than `names` takes, and five digits and a byte for each word.
 pub(crate) const LONG_TEXT: usize = 65540;
 
 pub(crate) const SPANS: usize = 65540;
 
-const SPAN_DIGITS: usize = 393240;
+pub(crate) const SPAN_DIGITS: usize = 393240;
 
 // Puts the text of a line of pieces at the start of `text`, as much as fits, and answers how long it is.
 pub(crate) fn build(line: &[u8], text: &mut [u8]) -> usize
     ensures { result ≤ length text.new }
 {
     let mut end = 0;
-    let mut at = 0;
-    while at < line.len() {
-        let n = until(&line[at..], b';');
-        end = repeat(&line[at..at + n], text, end);
-        at += n + 1;
+    for piece in line.split(|b| *b == b';') {
+        end = repeat(piece, text, end);
     }
     end
 }
@@ -49,8 +46,10 @@ fn repeat(piece: &[u8], text: &mut [u8], at: usize) -> usize
     place
 }
 
-// Puts the table of a line of pieces at the start of `table`, as many words as fit, and answers how many there are.
-pub(crate) fn build_table(line: &[u8], table: &mut [u32]) -> usize
+// Puts the words of a line of pieces at the start of `table`, as many as fit, by way of their digits, of which there may be so many; answers
+// how many words there are.
+pub(crate) fn build_words<const DIGITS: usize>(line: &[u8], table: &mut [u32]) -> usize
+    requires { DIGITS < 2 ^ 63 }
     ensures { result ≤ length table.new }
 {
     let mut digits = [0u8; DIGITS];
@@ -58,28 +57,17 @@ pub(crate) fn build_table(line: &[u8], table: &mut [u32]) -> usize
     words(&digits[..n], table)
 }
 
-// The same of the words of spans.
-pub(crate) fn build_spans(line: &[u8], spans: &mut [u32]) -> usize
-    ensures { result ≤ length spans.new }
-{
-    let mut digits = [0u8; SPAN_DIGITS];
-    let n = build(line, &mut digits);
-    words(&digits[..n], spans)
-}
-
 fn words(digits: &[u8], table: &mut [u32]) -> usize
     ensures { result ≤ length table.new }
 {
-    let mut n = 0;
-    let mut at = 0;
-    while at < digits.len() {
-        if n == table.len() {
+    let mut rest = digits;
+    for (n, place) in table.iter_mut().enumerate() {
+        if rest.is_empty() {
             return n;
         }
-        let word = number(&digits[at..]);
-        table[n] = word.value;
-        n += 1;
-        at += word.digits + 1;
+        let word = number(rest);
+        *place = word.value;
+        rest = tail(rest, word.digits);
     }
-    n
+    table.len()
 }

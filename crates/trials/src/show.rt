@@ -14,16 +14,12 @@ pub(crate) fn print_number(to: &mut impl Write, n: u64) -> io::Result<()> {
 }
 
 pub(crate) fn print_refusal(to: &mut impl Write, number: u64, place: usize) -> io::Result<()> {
-    print(to, b" => refused ")?;
-    print_number(to, number)?;
-    print(to, b" at ")?;
-    print_number(to, place as u64)
+    write!(to, " => refused {number} at {place}")
 }
 
 // How many, and of what.
 pub(crate) fn print_count(to: &mut impl Write, n: usize, unit: &[u8]) -> io::Result<()> {
-    print(to, b" => ")?;
-    print_number(to, n as u64)?;
+    write!(to, " => {n}")?;
     print(to, unit)
 }
 
@@ -41,8 +37,7 @@ fn print_each(to: &mut impl Write, table: &[u32], n: usize) -> io::Result<()> {
 }
 
 pub(crate) fn print_word(to: &mut impl Write, word: u32) -> io::Result<()> {
-    print(to, b" ")?;
-    print_number(to, word as u64)
+    write!(to, " {word}")
 }
 
 // Whether the words from `n` on are 0.

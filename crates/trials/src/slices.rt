@@ -1,8 +1,5 @@
 // Prints slices of numbers, each number after a space; one of more than `MOST_NUMBERS` by how many it has and their CRC-32.
-ghost use Rattle.std.specs.Prelude.{◌≤◌, length};
-
-use crate::numbers::wide;
-use crate::show::{crc_byte, print, print_number, print_word};
+use crate::show::{crc_byte, print, print_word};
 use std::io;
 use std::io::Write;
 
@@ -27,10 +24,9 @@ fn print_short(to: &mut impl Write, number: u16) -> io::Result<()> {
 }
 
 fn print_checksum(to: &mut impl Write, n: usize, unit: &[u8], sum: u32) -> io::Result<()> {
-    print(to, b" ")?;
-    print_number(to, n as u64)?;
+    write!(to, " {n}")?;
     print(to, unit)?;
-    print_number(to, sum as u64)
+    write!(to, "{sum}")
 }
 
 // The checksum of numbers, each as two bytes, the high one first.
@@ -48,14 +44,8 @@ fn crc_pair(sum: u32, number: u16) -> u32 {
     crc_byte(crc_byte(sum, high), low)
 }
 
-// So many numbers of the slice, or all.
-pub(crate) fn most_numbers(n: u32, numbers: &[u16]) -> usize
-    ensures { result ≤ length numbers.now }
-{
-    let wished = wide(n);
-    if wished < numbers.len() {
-        wished
-    } else {
-        numbers.len()
-    }
+// The first `n` items of a slice, or all.
+pub(crate) fn most<T>(n: u32, items: &mut [T]) -> &mut [T] {
+    let room = items.len().min(n as usize);
+    &mut items[..room]
 }

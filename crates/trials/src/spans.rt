@@ -2,9 +2,9 @@
 use crate::entries::Run;
 use crate::lines::{tail, until};
 use crate::numbers::number;
-use crate::pieces::{LONG_TEXT, SPANS, build, build_spans};
+use crate::pieces::{LONG_TEXT, SPAN_DIGITS, SPANS, build, build_words};
 use crate::show::print_count;
-use crate::slices::{most_numbers, print_numbers};
+use crate::slices::{most, print_numbers};
 use names::number_spans;
 use std::io;
 use std::io::Write;
@@ -18,7 +18,7 @@ pub(crate) fn names_case(to: &mut impl Write, run: Run, rest: &[u8]) -> io::Resu
     let size = number(rest);
     let parts = tail(rest, size.digits);
     let n = until(parts, b'/');
-    let words = build_spans(&parts[..n], &mut spans);
+    let words = build_words::<SPAN_DIGITS>(&parts[..n], &mut spans);
     number_over(to, run, size.value, tail(parts, n), &spans[..words])
 }
 
@@ -33,8 +33,7 @@ fn number_over(
     let mut text = [0u8; LONG_TEXT];
     let mut numbers = [65535u16; NUMBERS];
     let bytes = build(line, &mut text);
-    let room = most_numbers(size, &numbers);
-    numbered(to, run, &text[..bytes], spans, &mut numbers[..room])
+    numbered(to, run, &text[..bytes], spans, most(size, &mut numbers))
 }
 
 // Prints the answer; of repeated runs only how many names there are.

@@ -1,19 +1,19 @@
 // The cases of `tree`.
 use crate::lines::tail;
-use crate::numbers::{number, wide};
-use crate::pieces::{WORDS, build_table};
+use crate::numbers::number;
+use crate::pieces::{DIGITS, WORDS, build_words};
 use crate::show::{print, print_number};
 use std::io;
 use std::io::Write;
-use tree::Checked;
+use tree::CheckError;
 
 // A number, and a table.
 pub(crate) fn table_case(to: &mut impl Write, entry: u8, rest: &[u8]) -> io::Result<()> {
     let mut table = [0u32; WORDS];
     let first = number(rest);
-    let n = build_table(tail(rest, first.digits), &mut table);
+    let n = build_words::<DIGITS>(tail(rest, first.digits), &mut table);
     print(to, b" => ")?;
-    table_answer(to, entry, wide(first.value), &table[..n])
+    table_answer(to, entry, first.value as usize, &table[..n])
 }
 
 fn table_answer(to: &mut impl Write, entry: u8, n: usize, words: &[u32]) -> io::Result<()> {
@@ -25,14 +25,11 @@ fn table_answer(to: &mut impl Write, entry: u8, n: usize, words: &[u32]) -> io::
     }
 }
 
-pub(crate) fn print_checked(to: &mut impl Write, answer: Checked) -> io::Result<()> {
+pub(crate) fn print_checked(to: &mut impl Write, answer: Result<(), CheckError>) -> io::Result<()> {
     match answer {
-        Checked::Tree => print(to, b"tree"),
-        Checked::Misfit(place) => {
-            print(to, b"misfit ")?;
-            print_number(to, place as u64)
-        }
-        Checked::TooLong => print(to, b"too long"),
+        Ok(()) => print(to, b"tree"),
+        Err(CheckError::Misfit(place)) => write!(to, "misfit {place}"),
+        Err(CheckError::TooLong) => print(to, b"too long"),
     }
 }
 

@@ -1,8 +1,8 @@
 // The cases of `lexing`.
 use crate::lines::{decode, tail, until};
-use crate::show::{print, print_number, print_refusal};
+use crate::show::{print, print_refusal};
 use lexing::{
-    Lexed, Reach, blanks, keyword, natural, parse_custom_literal, parse_id, sym, sym_not_prefix,
+    Lexed, Unclosed, blanks, keyword, natural, parse_custom_literal, parse_id, sym, sym_not_prefix,
 };
 use std::io;
 use std::io::Write;
@@ -46,28 +46,17 @@ fn with_two_signs(to: &mut impl Write, s: &[u8]) -> io::Result<()> {
     print_lexed(to, sym_not_prefix(tail(rest, m), &s[..n], &rest[..m]))
 }
 
-fn print_reach(to: &mut impl Write, r: Reach) -> io::Result<()> {
+fn print_reach(to: &mut impl Write, r: Result<usize, Unclosed>) -> io::Result<()> {
     match r {
-        Reach::Passed(n) => {
-            print(to, b" => passed ")?;
-            print_number(to, n as u64)
-        }
-        Reach::Unclosed(n) => {
-            print(to, b" => unclosed at ")?;
-            print_number(to, n as u64)
-        }
+        Ok(n) => write!(to, " => passed {n}"),
+        Err(Unclosed { at }) => write!(to, " => unclosed at {at}"),
     }
 }
 
 fn print_lexed(to: &mut impl Write, r: Lexed) -> io::Result<()> {
     match r {
-        Lexed::Ok(value, next) => {
-            print(to, b" => ok ")?;
-            print_number(to, value)?;
-            print(to, b" ")?;
-            print_number(to, next as u64)
-        }
-        Lexed::None => print(to, b" => none"),
-        Lexed::Refused(code, place) => print_refusal(to, code, place),
+        Ok(Some(token)) => write!(to, " => ok {} {}", token.value, token.size),
+        Ok(None) => print(to, b" => none"),
+        Err(refusal) => print_refusal(to, refusal.reason.number(), refusal.place),
     }
 }

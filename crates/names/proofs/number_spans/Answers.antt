@@ -1,21 +1,10 @@
 -- `number_spans` meets its contract: a longer text has the names of what is read of it.
-use native.Mathlib.Omega.{arith}
-use Rattle.names.specs.Names.{most_bytes}
-use Rattle.names.specs.RoomLaws.{cut-length, cut-few}
-use Rattle.names.specs.RankLaws.{numbered-cut}
+use Rattle.names.specs.RankLaws.{numbered-read}
 use Rattle.names.proofs.number_spans.Goals as goal
 
-pub slice_bounds-by_size-end : goal.slice_bounds-by_size-end
-slice_bounds-by_size-end c = cut-length most_bytes c.args.text.now (omega arith)
+pub returns-then-max-le-SMALL : goal.returns-then-max-le-SMALL
+returns-then-max-le-SMALL c = numbered-read c.args.text.now _ _ _ _ _ c.min.ensures c.new.ensures.text c.new.ensures.words c.number_in.ensures
 
-pub by_size-requires : goal.by_size-requires
-by_size-requires c = cut-few most_bytes c.args.text.now
-
-pub returns-then-text-gt-MOST_BYTES : goal.returns-then-text-gt-MOST_BYTES
-returns-then-text-gt-MOST_BYTES c = numbered-cut c.args.text.now c.args.spans.now _ _ _ c.by_size.ensures
-
-pub by_size-requires-2 : goal.by_size-requires-2
-by_size-requires-2 c = c.if-text-gt-MOST_BYTES.false
-
-pub returns : goal.returns
-returns c = c.by_size-2.ensures
+pub returns-else-max-le-SMALL : goal.returns-else-max-le-SMALL
+returns-else-max-le-SMALL c =
+    numbered-read c.args.text.now _ _ _ _ _ c.min.ensures c.new-else-max-le-SMALL.ensures.text c.new-else-max-le-SMALL.ensures.words c.number_in-else-max-le-SMALL.ensures

@@ -12,8 +12,9 @@ use Rattle.lexing.specs.Answer.{Answer, ok, refused, unclosed_comment, pick}
 use Rattle.lexing.specs.Blanks.{Blanks, W, passed, unclosed}
 use Rattle.lexing.specs.BlankLaws.{reach, W-inside}
 use Rattle.lexing.specs.CodeAnswers.{reach_of}
-use Rattle.lexing.specs.declared.blank.Reach.{Reach}
-use Rattle.lexing.specs.declared.blank.Reach.TheVariants.{Passed, Unclosed}
+use Rattle.std.specs.Prelude.{Result, Err}
+use Rattle.std.specs.Prelude as prelude
+use Rattle.lexing.specs.declared.blank.Unclosed.{Unclosed}
 use Rattle.tree.specs.Limits.{most_text}
 use Rattle.tree.specs.Words.{program_words}
 use Rattle.grammar.specs.OperatorTrees.{most_depth}
@@ -79,18 +80,18 @@ no_room k text n e = rw e
 -- ---- a text that is read
 
 -- what is read, by how `blanks` reached the text's first token
-module _ (k : Whole) (text : List ℕ) (n : ℕ) (room : roomy (length text) n ≡ true) (r : Reach) (passes : reach_of r ≡ W text) where
+module _ (k : Whole) (text : List ℕ) (n : ℕ) (room : roomy (length text) n ≡ true) (r : Result ℕ Unclosed) (passes : reach_of r ≡ W text) where
   read_whole : parsed k text n ≡ whole_text text (whole_rule k text)
   read_whole = rw room (sym (whole_run_lem k text))
 
   -- a comment that is not closed
-  pub unclosed-refused : {at : ℕ} → r ≡ Unclosed at → parsed k text n ≡ refused unclosed_comment at
+  pub unclosed-refused : {unclosed-at : Unclosed} → r ≡ Err unclosed-at → parsed k text n ≡ refused unclosed_comment unclosed-at.at
   unfolding after
-  unclosed-refused {at} p =
-      let t : whole_text text (whole_rule k text) ≡ refused unclosed_comment at = rw (sym passes ∙ ap reach_of p) in
+  unclosed-refused {unclosed-at} p =
+      let t : whole_text text (whole_rule k text) ≡ refused unclosed_comment unclosed-at.at = rw (sym passes ∙ ap reach_of p) in
       read_whole ∙ t
 
-  module _ {at : ℕ} (p : r ≡ Passed at) where
+  module _ {at : ℕ} (p : r ≡ prelude.Ok at) where
     blanks-passed : W text ≡ passed at
     blanks-passed = sym passes ∙ ap reach_of p
 
@@ -114,7 +115,7 @@ pub record Led : Type 0 where
   pub says : parsed whole text n ≡ need at (whole_rule whole text at) (to_end text)
 
 -- the place that `blanks` answers
-abbrev pub led : (k : Whole) (text : List ℕ) (n : ℕ) → roomy (length text) n ≡ true → (r : Reach) → reach_of r ≡ W text → {at : ℕ} → r ≡ Passed at → Led
+abbrev pub led : (k : Whole) (text : List ℕ) (n : ℕ) → roomy (length text) n ≡ true → (r : Result ℕ Unclosed) → reach_of r ≡ W text → {at : ℕ} → r ≡ prelude.Ok at → Led
 led k text n room r passes {at} p =
     record {
       whole = k;

@@ -10,11 +10,11 @@ use Rattle.lexing.specs.Answer.{Answer, ok, refused, moved, unclosed_comment}
 use Rattle.lexing.specs.Bytes.{starts_with, same_bytes, run, custom_literal_char}
 use Rattle.lexing.specs.Blanks.{Blanks, passed, unclosed, W}
 use Rattle.lexing.specs.Tokens.{closed, lexeme, unless_empty, identifier_length, keyword, sign, sign_not_prefix, parse_id, parse_custom_literal}
-use Rattle.lexing.specs.CodeAnswers.{answer_of}
+use Rattle.parsing.specs.Code.{answer_of}
 use Rattle.lexing.specs.RunLaws.{pick-case}
 use Rattle.lexing.specs.TokenLaws.{Within, lexeme-within, identifier-inside, unless_empty-some, keyword-within, sign-within, sign_not_prefix-within, parse_id-within, parse_custom_literal-within}
-use Rattle.lexing.specs.declared.token.Lexed.{Lexed}
-use Rattle.lexing.specs.declared.token.Lexed.TheVariants.{Ok as LexedOk, None as LexedNone, Refused as LexedRefused}
+use Rattle.parsing.specs.declared.step.Lexed.{Lexed}
+use Rattle.parsing.specs.declared.step.Lexed.TheVariants.{Ok as LexedOk, None as LexedNone, Refused as LexedRefused}
 use Rattle.tree.specs.Clash.{impossible}
 use Rattle.grammar.specs.Steps.{after, mapped, spanned, parse_name}
 use Rattle.parsing.specs.Code.{Tells, span, moved_of, placed}

@@ -12,9 +12,8 @@ use crate::arena::{Built, END, HEADED, ITEM, ONE, PAIR, TWO, node};
 use crate::build::{close, four, over};
 use crate::expr::expr;
 use crate::leaf::{missing, needed};
-use crate::step::{keyword, sym};
+use crate::step::{Lexed, keyword, sym};
 use crate::{leaf, step};
-use lexing::Lexed;
 use tree::word::{CLOSURE_EXPR, MORE, QUANTIFIER_EXPR};
 
 // The sequences that commas part.

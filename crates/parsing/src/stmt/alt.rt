@@ -9,10 +9,9 @@ use crate::arena::{Built, HEADED, PAIR, TWO, node};
 use crate::build::over;
 use crate::expr::expr;
 use crate::leaf::{needed, untaken};
-use crate::step::keyword;
+use crate::step::{Lexed, keyword};
 use crate::stmt::Repeated;
 use crate::{leaf, stmt};
-use lexing::Lexed;
 use tree::word::{BLOCK, CHOOSE, IF, IF_CASE, MORE, NO_MORE};
 
 // After `choose`.

@@ -28,8 +28,8 @@ unwalked : (ks : List Kind) (words : List ℕ) (len : ℕ) (before kinds : List 
     → (Err TooLong ≡ check ks words len) × (before ≡ counts ks words len before) × (Err TooLong ≡ one_tree → kinds ≡ kind_notes (within len) ks 0 words kinds)
 unwalked ks words len before kinds h = (sym (simp (lt-leb (length words) most_words h)), sym (simp (lt-leb (length words) most_words h)), λ e. impossible cc)
 
-pub returns-then-words-lt256 : goal.returns-then-words-lt256
-returns-then-words-lt256 c = walked _ _ _ _ _ (omega arith) c.walk.ensures
+pub returns-then-words-lt-SMALL_TABLE : goal.returns-then-words-lt-SMALL_TABLE
+returns-then-words-lt-SMALL_TABLE c = walked _ _ _ _ _ (omega arith) c.walk.ensures
 
 pub returns-then-words-le-MOST_WORDS : goal.returns-then-words-le-MOST_WORDS
 returns-then-words-le-MOST_WORDS c = walked _ _ _ _ _ (omega arith) c.walk-then-words-le-MOST_WORDS.ensures

@@ -7,30 +7,20 @@ use Rattle.lexing.proofs.blank.blanks.Goals as goal
 pub loop-n-init : goal.loop-n-init
 loop-n-init c = reached-start _
 
-pub returns-then-n-eq0 : goal.returns-then-n-eq0
-returns-then-n-eq0 c =
-    let o = c.loop-n.invariant in
-    reached-end _ o c.blank_at_start.ensures c.in-Passed.is c.if-n-eq0.true
+pub returns-in-Ok-eq0 : goal.returns-in-Ok-eq0
+returns-in-Ok-eq0 c = reached-end c.loop-n.invariant (rw c.in-Ok-eq0.field-0-test at c.in-Ok-eq0.ensures)
 
 pub overflow_add-at : goal.overflow_add-at
-overflow_add-at c =
-    let o = c.loop-n.invariant in
-    let m = reached-more _ o c.blank_at_start.ensures c.in-Passed.is c.if-n-eq0.false in
-    omega (arith, m.inside)
+overflow_add-at c = omega (arith, reached-inside c.loop-n.invariant c.in-Ok.ensures)
 
 pub loop-n-smaller : goal.loop-n-smaller
-loop-n-smaller c =
-    let o = c.loop-n.invariant in
-    let m = reached-more _ o c.blank_at_start.ensures c.in-Passed.is c.if-n-eq0.false in
-    omega (arith, m.inside)
+loop-n-smaller c = let m = reached-more c.loop-n.invariant c.in-Ok.ensures c.in-Ok.n-test.1 in omega (arith, m.inside)
 
 pub loop-n-preserved : goal.loop-n-preserved
-loop-n-preserved c =
-    let o = c.loop-n.invariant in
-    reached-more _ o c.blank_at_start.ensures c.in-Passed.is c.if-n-eq0.false
+loop-n-preserved c = reached-more c.loop-n.invariant c.in-Ok.ensures c.in-Ok.n-test.1
 
 pub overflow_add-result : goal.overflow_add-result
-overflow_add-result c = omega (arith, reached-inside _ c.loop-n.invariant c.blank_at_start.ensures c.in-Unclosed.is)
+overflow_add-result c = omega (arith, reached-inside c.loop-n.invariant c.in-Err.ensures)
 
-pub returns-in-Unclosed : goal.returns-in-Unclosed
-returns-in-Unclosed c = reached-open _ c.loop-n.invariant c.blank_at_start.ensures c.in-Unclosed.is
+pub returns-in-Err : goal.returns-in-Err
+returns-in-Err c = reached-open c.loop-n.invariant c.in-Err.ensures

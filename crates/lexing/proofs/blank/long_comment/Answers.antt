@@ -1,37 +1,21 @@
--- `blank::long_comment` meets its contract. The loop's invariant is `Open` (Loops), with a law for each way of a turn; the measure is what is left of
--- the text. The depth is at most i, so it does not overflow.
-use native.Mathlib.Omega.{arith}
-use borrow.Author.Rules.{rules}
-use Rattle.lexing.proofs.Loops.{open-start, open-close, open-inner, open_more, open-on, open-never}
+use Rattle.std.proofs.Common.{arith}
+use Rattle.lexing.proofs.Comments.{open_start, open_close, open_inner, open_more, open_next, open_never}
 use Rattle.lexing.proofs.blank.long_comment.Goals as goal
 
-pub loop-i-init : goal.loop-i-init
-loop-i-init c = open-start _
+pub loop-rest-init : goal.loop-rest-init
+loop-rest-init c = open_start _
 
 pub returns-then-depth-eq0 : goal.returns-then-depth-eq0
-returns-then-depth-eq0 c =
-    let o = c.loop-i.invariant in
-    open-close _ o (search rules) c.mark_at.ensures c.in-Closing.is c.if-depth-eq0.true
+returns-then-depth-eq0 c = open_close c.loop-rest.invariant (omega arith) (rw c.in-Some-Closing.field-0-is at c.in-Some-Closing.ensures) c.if-depth-eq0.true
 
-pub loop-i-smaller-in-Closing : goal.loop-i-smaller-in-Closing
-loop-i-smaller-in-Closing c = omega arith
+pub loop-rest-preserved-in-Some-Closing : goal.loop-rest-preserved-in-Some-Closing
+loop-rest-preserved-in-Some-Closing c = open_inner c.loop-rest.invariant (omega arith) (rw c.in-Some-Closing.field-0-is at c.in-Some-Closing.ensures) c.if-depth-eq0.false
 
-pub loop-i-preserved-in-Closing : goal.loop-i-preserved-in-Closing
-loop-i-preserved-in-Closing c =
-    let o = c.loop-i.invariant in
-    open-inner _ o (search rules) c.mark_at.ensures c.in-Closing.is c.if-depth-eq0.false
+pub loop-rest-preserved-in-Some-Opening : goal.loop-rest-preserved-in-Some-Opening
+loop-rest-preserved-in-Some-Opening c = open_more c.loop-rest.invariant (omega arith) (rw c.in-Some-Opening.field-0-is at c.in-Some-Opening.ensures)
 
-pub loop-i-smaller-in-Opening : goal.loop-i-smaller-in-Opening
-loop-i-smaller-in-Opening c = omega arith
-
-pub loop-i-preserved-in-Opening : goal.loop-i-preserved-in-Opening
-loop-i-preserved-in-Opening c = open_more _ c.loop-i.invariant (search rules) c.mark_at.ensures c.in-Opening.is
-
-pub loop-i-smaller : goal.loop-i-smaller
-loop-i-smaller c = omega arith
-
-pub loop-i-preserved : goal.loop-i-preserved
-loop-i-preserved c = open-on _ c.loop-i.invariant (search rules) c.mark_at.ensures c.in-Neither.is
+pub loop-rest-preserved : goal.loop-rest-preserved
+loop-rest-preserved c = open_next c.loop-rest.invariant (omega arith) c.in-None.ensures
 
 pub returns : goal.returns
-returns c = open-never c.loop-i.invariant (search rules)
+returns c = open_never c.loop-rest.invariant (omega arith)

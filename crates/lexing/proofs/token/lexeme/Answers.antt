@@ -8,21 +8,13 @@ pub returns-then-text-n : goal.returns-then-text-n
 returns-then-text-n c = lexeme-past _ _ _ c.if-text-n.true
 
 pub overflow_add-result : goal.overflow_add-result
-overflow_add-result c =
-    let a = c.args in
-    omega (arith, lexeme-inside a.text.now a.n _ c.blanks.ensures c.in-Passed.is (search rules))
+overflow_add-result c = omega (arith, lexeme-inside c.args.text.now c.args.n c.in-Ok.ensures (search rules))
 
-pub overflow_add-result-in-Unclosed : goal.overflow_add-result-in-Unclosed
-overflow_add-result-in-Unclosed c =
-    let a = c.args in
-    omega (arith, lexeme-inside a.text.now a.n _ c.blanks.ensures c.in-Unclosed.is (search rules))
+pub overflow_add-result-in-Err : goal.overflow_add-result-in-Err
+overflow_add-result-in-Err c = omega (arith, lexeme-inside c.args.text.now c.args.n c.in-Err.ensures (search rules))
 
-pub returns-in-Passed : goal.returns-in-Passed
-returns-in-Passed c =
-    let a = c.args in
-    lexeme-is a.text.now a.n _ c.blanks.ensures c.in-Passed.is a.value
+pub returns-in-Ok : goal.returns-in-Ok
+returns-in-Ok c = lexeme-is c.args.text.now c.args.n c.in-Ok.ensures c.args.value
 
-pub returns-in-Unclosed : goal.returns-in-Unclosed
-returns-in-Unclosed c =
-    let a = c.args in
-    lexeme-is a.text.now a.n _ c.blanks.ensures c.in-Unclosed.is a.value
+pub returns-in-Err : goal.returns-in-Err
+returns-in-Err c = lexeme-is c.args.text.now c.args.n c.in-Err.ensures c.args.value

@@ -1,23 +1,22 @@
--- `token::natural` meets its contract, by those of `run_length`, `decimal` and `lexeme` (Returns: `natural-none`, `natural-value`, `natural-large`).
-use mathlib.Core.Path.{sym, ◌∙◌}
-use native.Mathlib.Omega.{arith}
-use lib.Seq.{length-take-le}
+-- `token::natural` meets its contract, by those of `run_length`, `decimal` and `lexeme` (Naturals: `natural_none`, `natural_value`, `natural_large`).
+use Rattle.std.proofs.Common.{sym, ◌∙◌, arith, rules}
+use Rattle.std.proofs.Math.Seq.{length-take-le}
 use Rattle.lexing.specs.RunLaws.{run_inside}
 use Rattle.lexing.specs.Bytes.{is_digit}
-use Rattle.lexing.proofs.Returns.{natural-none, natural-value, natural-large}
+use Rattle.lexing.proofs.Naturals.{natural_none, natural_value, natural_large}
 use Rattle.lexing.proofs.token.natural.Goals as goal
 
 pub returns-then-n-eq0 : goal.returns-then-n-eq0
-returns-then-n-eq0 c = natural-none _ c.run_length-n.ensures c.if-n-eq0.true
+returns-then-n-eq0 c = natural_none _ (c.run_length-n.ensures is_digit (λ b r e. search rules)) c.if-n-eq0.true
 
 pub slice_bounds-decimal-end : goal.slice_bounds-decimal-end
-slice_bounds-decimal-end c = sym (length-take-le _ _ (omega (arith, run_inside is_digit c.args.text.now)))
+slice_bounds-decimal-end c =
+    let d = c.run_length-n.ensures is_digit (λ b r e. search rules) in
+    sym (length-take-le _ _ (omega (arith, d, run_inside is_digit c.args.text.now)))
 
-pub returns-in-Value : goal.returns-in-Value
-returns-in-Value c =
-    let d = c.run_length-n.ensures in
-    let z = c.if-n-eq0.false in
-    c.lexeme.ensures ∙ natural-value _ d z c.decimal.ensures c.in-Value.is
+pub returns-in-Some : goal.returns-in-Some
+returns-in-Some c =
+    c.lexeme.ensures ∙ natural_value _ (c.run_length-n.ensures is_digit (λ b r e. search rules)) c.if-n-eq0.false c.in-Some.ensures
 
-pub returns-in-TooLarge : goal.returns-in-TooLarge
-returns-in-TooLarge c = natural-large _ c.run_length-n.ensures c.if-n-eq0.false c.decimal.ensures c.in-TooLarge.is
+pub returns-in-None : goal.returns-in-None
+returns-in-None c = natural_large _ (c.run_length-n.ensures is_digit (λ b r e. search rules)) c.if-n-eq0.false c.in-None.ensures

@@ -1,37 +1,27 @@
 -- `pairs::classes_in` meets its contract: the classes of the keys and of the keys from the place w on, copied.
-use native.Mathlib.Omega.{arith}
-use Rattle.names.specs.PairLaws.{pairs-ready, pairs-classed}
+use Rattle.std.proofs.Common.{◌<◌, arith}
+use Rattle.names.specs.PairLaws.{parted, parted-length, pairs-classed}
+use Rattle.names.specs.WriteLaws.{written_front}
 use Rattle.names.proofs.pairs.classes_in.Goals as goal
 
-pub offset_bounds-firsts-w : goal.offset_bounds-firsts-w
-offset_bounds-firsts-w c = omega (arith, c.requires.pairs.enough)
-
-pub slice_bounds-seconds-count : goal.slice_bounds-seconds-count
-slice_bounds-seconds-count c = omega (arith, c.requires.pairs.enough)
-
-pub slice_bounds-seconds-start : goal.slice_bounds-seconds-start
-slice_bounds-seconds-start c = omega (arith, c.requires.pairs.enough)
-
-pub classify-requires : goal.classify-requires
-classify-requires c = pairs-ready c.args.keys.now c.args.w _ _ _ _ _ _ c.requires
-
-pub copy-requires : goal.copy-requires
-copy-requires c = tt
-
-pub shape_of-keys : goal.shape_of-keys
-shape_of-keys c = c.copy.ensures.same_length
-
-pub shape_of-heads : goal.shape_of-heads
-shape_of-heads c = c.classify.ensures.heads-length
-
-pub shape_of-next : goal.shape_of-next
-shape_of-next c = c.classify.ensures.next-length
-
-pub shape_of-seen : goal.shape_of-seen
-shape_of-seen c = c.classify.ensures.seen-length
-
-pub shape_of-out : goal.shape_of-out
-shape_of-out c = c.classify.ensures.out-length
+pub invariant_of-places : goal.invariant_of-places
+invariant_of-places g c =
+    let p = c.requires.pairs in
+    let parts = parted c.args.keys.now c.args.w c.args.n in
+    let long = parted-length c.args.keys.now c.args.w c.args.n p.enough in
+    record {
+      few = omega (arith, long.0, p.few);
+      few_keys = c.requires.keys;
+      room = omega (arith, long.0, c.requires.places);
+      size = c.requires.size;
+      both = omega (arith, long.0, long.1);
+      firsts = λ i h. let l : i < c.args.n = omega (arith, long.0) in omega (arith, parts.firsts i l, p.firsts i l);
+      seconds = λ i h. let l : i < c.args.n = omega (arith, long.0) in omega (arith, parts.seconds i l, p.seconds i l);
+    }
 
 pub returns : goal.returns
-returns c = pairs-classed c.args.keys.now c.args.w _ _ _ _ c.requires.pairs c.classify.ensures.classed c.copy.ensures
+returns g c =
+    let p = c.requires.pairs in
+    let long = parted-length c.args.keys.now c.args.w c.args.n p.enough in
+    pairs-classed c.args.keys.now _ _ c.args.w c.args.n c.args.most _ _ p (parted c.args.keys.now c.args.w c.args.n) (rw long.0 at c.classify.ensures)
+    (written_front c.classify.new.self.out c.args.keys.now c.copy_from_slice.new.self c.args.n (omega (arith, long.0)) (omega arith) c.copy_from_slice.ensures.after)

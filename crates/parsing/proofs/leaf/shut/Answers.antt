@@ -2,8 +2,8 @@
 use Prim.Native.Nat.{ℕ}
 use mathlib.Core.List.{List}
 use mathlib.Core.Path.{refl}
-use Rattle.lexing.specs.declared.token.Lexed.TheVariants.{Ok as LexedOk, None as LexedNone, Refused as LexedRefused}
-use Rattle.lexing.specs.declared.token.Lexed.{Lexed}
+use Rattle.parsing.specs.declared.step.Lexed.TheVariants.{Ok as LexedOk, None as LexedNone, Refused as LexedRefused}
+use Rattle.parsing.specs.declared.step.Lexed.{Lexed}
 use Rattle.parsing.specs.Code.{Shuts, untaken_at, missing_at}
 use Rattle.grammar.specs.Steps.{sign_at}
 use Rattle.parsing.proofs.Laws.{took, after_none, after-refused, token-stopped}

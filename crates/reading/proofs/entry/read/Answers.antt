@@ -5,7 +5,7 @@ use Rattle.reading.proofs.entry.Outcomes.{answered, answered-long}
 use Rattle.reading.proofs.entry.read.Goals as goal
 
 pub returns-then-text-gt-MOST_TEXT : goal.returns-then-text-gt-MOST_TEXT
-returns-then-text-gt-MOST_TEXT c = answered-long c.args.whole _ _ _ c.if-text-gt-MOST_TEXT.true c.clear.ensures
+returns-then-text-gt-MOST_TEXT c = rw c.number.ensures (answered-long c.args.whole _ _ _ c.if-text-gt-MOST_TEXT.true c.clear.ensures)
 
 pub read_small-requires : goal.read_small-requires
 read_small-requires c = (omega arith, cleared-again c.clear.auto.table c.clear.ensures)

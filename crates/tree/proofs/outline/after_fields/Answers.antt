@@ -1,24 +1,13 @@
 -- `outline::after_fields` meets its contract: what is left of the row leads to the same place.
-use mathlib.Core.Path.{refl, sym, ◌∙◌}
+use mathlib.Core.Path.{◌≡◌, sym, ap, ◌∙◌}
 use native.Mathlib.Omega.{arith}
-use Rattle.tree.proofs.Outlines.{field-passed, fields-passed}
+use lib.ListN.{length, length-map}
+use Rattle.tree.specs.Rows.{row_kinds}
+use Rattle.tree.proofs.Outlines.{field-passed}
 use Rattle.tree.proofs.outline.after_fields.Goals as goal
 
-pub loop-left-init : goal.loop-left-init
-loop-left-init c = (omega arith, omega arith, refl)
-
-pub overflow_cast-next : goal.overflow_cast-next
-overflow_cast-next c = omega arith
-
-pub note_at-next-requires : goal.note_at-next-requires
-note_at-next-requires c = tt
-
-pub loop-left-smaller : goal.loop-left-smaller
-loop-left-smaller c = omega arith
-
-pub loop-left-preserved : goal.loop-left-preserved
-loop-left-preserved c =
-    (omega arith, omega arith, field-passed c.args.ends.now c.loop-left.left c.loop-left.next c.loop-left.invariant.0 c.loop-left-test.true c.note_at-next.ensures ∙ c.loop-left.invariant.2)
-
-pub returns : goal.returns
-returns c = sym (fields-passed c.args.ends.now c.loop-left.left c.loop-left.next c.loop-left-test.false) ∙ c.loop-left.invariant.2
+pub loop-preserved : goal.loop-preserved
+loop-preserved c =
+    let row = row_kinds c.args.row in
+    let n : length row ≡ length c.kinds-items.result.now = ap length (sym c.kinds-items.ensures) ∙ simp length-map in
+    field-passed c.args.ends.now row c.loop.index c.loop.next (omega arith) c.note_at-next.ensures c.loop.invariant

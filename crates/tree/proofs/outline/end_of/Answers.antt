@@ -1,26 +1,35 @@
 -- `outline::end_of` meets its contract: a second word, a first of two, or a row's fields.
-use mathlib.Core.Path.{refl, sym, ◌∙◌, ap}
-use mathlib.Core.Bool.{true}
-use native.Mathlib.Omega.{arith}
-use Rattle.tree.specs.Kind.{fits, misfit}
-use Rattle.tree.specs.Rows.{kinds_of, as_turn}
-use Rattle.tree.proofs.Outlines.{end-second, end-pair, end_row}
+use mathlib.Core.Path.{refl, sym, ap, ◌∙◌}
+use lib.ListN.{get_or}
+use Rattle.tree.specs.Kind.{Turn, fits, misfit}
+use Rattle.tree.specs.Notes.{field_count}
+use Rattle.tree.proofs.Outlines.{fields-none, fields-pair, fields-row, end_by}
 use Rattle.tree.proofs.outline.end_of.Goals as goal
 
-pub returns-then-kind-eq-SECOND_WORD : goal.returns-then-kind-eq-SECOND_WORD
-returns-then-kind-eq-SECOND_WORD c = let a = c.args in end-second a.words.now a.kinds.now a.ends.now a.at c.note_at-kind.ensures c.if-kind-eq-SECOND_WORD.true refl
-
-pub returns-then-kind-ge-NAME : goal.returns-then-kind-ge-NAME
-returns-then-kind-ge-NAME c = let a = c.args in end-pair a.words.now a.kinds.now a.ends.now a.at c.note_at-kind.ensures c.if-kind-ge-NAME.true c.note_at.ensures
-
-pub returns-in-Some : goal.returns-in-Some
-returns-in-Some c =
+pub returns-in_default : goal.returns-in_default
+returns-in_default c =
     let a = c.args in
-    end_row a.words.now a.kinds.now a.ends.now a.at c.note_at-kind.ensures (fits (kinds_of _)) c.if-kind-eq-SECOND_WORD.false (omega arith) c.get.ensures
-    (c.in-Some.ensures (λ s l. true)) c.after_fields.ensures
+    end_by a.words.now a.kinds.now a.ends.now a.at c.note_at.ensures 0 (fields-none _ (get_or a.words.now a.at 0) c.in_default.ensures) refl
+
+pub returns-in-Name : goal.returns-in-Name
+returns-in-Name c =
+    let a = c.args in
+    let k = c.in-Some.kind in
+    end_by a.words.now a.kinds.now a.ends.now a.at ((c.in-Some.ensures k).0 refl ∙ c.note_at.ensures) 1
+    (fields-pair k (get_or a.words.now a.at 0) c.in-Name.is) c.note_at-in-Name.ensures
+
+pub returns-in-Some-row_of : goal.returns-in-Some-row_of
+returns-in-Some-row_of c =
+    let a = c.args in
+    let k = c.in-Some.kind in
+    let d = c.in_default-kind in
+    end_by a.words.now a.kinds.now a.ends.now a.at ((c.in-Some.ensures k).0 refl ∙ c.note_at.ensures) _
+    (fields-row k (get_or a.words.now a.at 0) d.not-Name d.not-Natural ∙ ap field_count (rw c.get.ensures at (sym c.in-Some-row_of.ensures))) c.after_fields.ensures
 
 pub returns-in-None : goal.returns-in-None
 returns-in-None c =
     let a = c.args in
-    end_row a.words.now a.kinds.now a.ends.now a.at c.note_at-kind.ensures (misfit 0) c.if-kind-eq-SECOND_WORD.false (omega arith) c.get.ensures
-    (c.in-None.ensures (λ s l. true)) refl
+    let k = c.in-Some.kind in
+    let d = c.in_default-kind in
+    end_by a.words.now a.kinds.now a.ends.now a.at ((c.in-Some.ensures k).0 refl ∙ c.note_at.ensures) 0
+    (fields-row k (get_or a.words.now a.at 0) d.not-Name d.not-Natural ∙ ap field_count (rw c.get.ensures at (sym c.in-None.ensures))) refl
