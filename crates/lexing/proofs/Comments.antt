@@ -1,78 +1,79 @@
 -- The loop of `long_comment`, and the ways out of `position_after_end_of_long_comment`.
-use Rattle.std.proofs.Common.{◌≡◌, refl, sym, ap, ◌∙◌, List, [], ◌∷◌, ℕ, zero, suc, ◌+◌, ◌-◌, ◌≤◌, ◌<◌, length, get_or, take, drop, arith, length-take, length-drop, add-one}
+use Rattle.std.proofs.Common.{◌≡◌, refl, sym, ap, ◌∙◌, List, [], ◌∷◌, ℕ, zero, suc, ◌+◌, ◌-◌, ◌≤◌, ◌<◌, length, get_or, take, drop, arith, length-take, length-drop, add-one, drop-cons, drop_of_length-le}
+use Rattle.std.proofs.lemmas.Bool.{false≢true}
 use Rattle.std.proofs.Math.Option.{Option, none, some}
 use Rattle.lexing.specs.Blanks.{Mark, closing, opening, neither, mark, plus, at_mark, long_comment, or_else, position_after_end_of_long_comment}
 use Rattle.lexing.specs.BlankLaws.{plus-plus, long_comment-inside}
 use Rattle.lexing.specs.CodeAnswers.{Position}
 use Rattle.lexing.proofs.Lists.{suffix}
 
--- the loop where `rest` is left, with d comments open inside the outermost
-pub record Open (s rest : List ℕ) (d : ℕ) : Type 0 where
-  pub few : d + length rest ≤ length s
-  pub says : long_comment 0 s ≡ plus (length s - length rest) (long_comment d rest)
+-- a byte that is in no mark
+by_zero : (d : ℕ) (s : List ℕ) → long_comment d (0 ∷ s) ≡ plus 1 (long_comment d s)
+unfolding long_comment mark
+by_zero d [] = refl
+by_zero d (b ∷ s) = refl
 
-pub open_start : (s : List ℕ) → Open s s 0
-open_start s = record { few = omega arith; says = by_end (long_comment 0 s) }
+-- the loop at i, with d comments open inside the outermost, after a byte that is in no mark yet
+pub record Open (s : List ℕ) (before d i : ℕ) : Type 0 where
+  pub few : d ≤ i
+  pub says : plus 1 (long_comment 0 s) ≡ plus i (long_comment d (before ∷ drop i s))
+
+pub open_start : (s : List ℕ) → Open s 0 0 0
+open_start s = record { few = omega arith; says = sym (by_end (long_comment 0 (0 ∷ s)) ∙ by_zero 0 s) }
   where
-    none_more : length s - length s ≡ 0
-    none_more = omega arith
-
-    by_end : (r : Option ℕ) → r ≡ plus (length s - length s) r
+    by_end : (r : Option ℕ) → plus 0 r ≡ r
     by_end none = refl
-    by_end (some n) = ap some (omega (arith, none_more))
+    by_end (some n) = ap some (omega arith)
 
--- two bytes, and what is left after one and after both
-by_two : (d : ℕ) (rest : List ℕ) → 2 ≤ length rest → long_comment d rest
-    ≡ at_mark (mark (get_or rest 0 0) (get_or rest 1 0)) d (λ k. long_comment k (drop 2 rest)) (λ k. long_comment k (drop 1 rest))
-unfolding long_comment
-by_two d [] h = absurd (omega arith)
-by_two d (a ∷ []) h = absurd (omega arith)
-by_two d (a ∷ (b ∷ s)) h = refl
+-- one count is the other where one more is one more
+plus_one : (r q : Option ℕ) → plus 1 r ≡ plus 1 q → r ≡ q
+plus_one none none e = refl
+plus_one none (some n) e = absurd (false≢true cc)
+plus_one (some n) none e = absurd (false≢true cc)
+plus_one (some n) (some m) e = let h : 1 + n ≡ 1 + m = cc in ap some (omega arith)
 
-module _ {s rest : List ℕ} {d : ℕ} (o : Open s rest d) where
-  -- k bytes further on, where e comments are open
-  open_on : (k e : ℕ) → k ≤ length rest → e ≤ d + k → long_comment d rest ≡ plus k (long_comment e (drop k rest)) → Open s (take (length rest - k) (drop k rest)) e
-  open_on k e h l q =
-      rw (suffix rest k)
-      record {
-        few = omega (arith, o.few, length-drop k rest);
-        says =
-            let far : length s - length rest + k ≡ length s - length (drop k rest) = omega (arith, o.few, length-drop k rest) in
-            o.says ∙ ap (plus (length s - length rest)) q ∙ plus-plus _ k _ ∙ ap (λ n. plus n (long_comment e (drop k rest))) far;
-      }
+module _ {s : List ℕ} {before d i : ℕ} (o : Open s before d i) where
+  module _ (h : i < length s) where
+    by_mark : {t : Mark} → t ≡ mark before (get_or s i 0)
+        → plus 1 (long_comment 0 s) ≡ plus i (at_mark t d (λ k. long_comment k (drop (i + 1) s)) (λ k. long_comment k (get_or s i 0 ∷ drop (i + 1) s)))
+    unfolding long_comment
+    by_mark e = o.says ∙ rw (add-one, drop-cons s i 0, e)
 
-  module _ (two : 2 ≤ length rest) where
-    by_mark : {t : Mark} → t ≡ mark (get_or rest 0 0) (get_or rest 1 0) → long_comment d rest ≡ at_mark t d (λ k. long_comment k (drop 2 rest)) (λ k. long_comment k (drop 1 rest))
-    by_mark e = by_two d rest two ∙ ap (λ t. at_mark t d (λ k. long_comment k (drop 2 rest)) (λ k. long_comment k (drop 1 rest))) (sym e)
+    -- after a mark where e comments are open
+    after_mark : (e : ℕ) → e ≤ i + 1 → plus 1 (long_comment 0 s) ≡ plus i (plus 2 (long_comment e (drop (i + 1) s))) → Open s 0 e (i + 1)
+    after_mark e l q =
+        record {
+          few = l;
+          says =
+              let one : i + 2 ≡ i + 1 + 1 = omega arith in
+              q ∙ plus-plus i 2 _ ∙ ap (λ n. plus n (long_comment e (drop (i + 1) s))) one ∙ sym (plus-plus (i + 1) 1 _)
+              ∙ ap (plus (i + 1)) (sym (by_zero e (drop (i + 1) s)));
+        }
 
-    pub open_close : closing ≡ mark (get_or rest 0 0) (get_or rest 1 0) → d ≡ 0 → some (length s - length (take (length rest - 2) (drop 2 rest))) ≡ long_comment 0 s
+    pub open_close : closing ≡ mark before (get_or s i 0) → d ≡ 0 → some (i + 1) ≡ long_comment 0 s
     open_close e z =
-        let far : length s - length rest + 2 ≡ length s - length (drop 2 rest) = omega (arith, o.few, length-drop 2 rest) in
-        rw (suffix rest 2, ← far) (sym (o.says ∙ ap (plus (length s - length rest)) (by_mark e ∙ ap (λ k. at_mark closing k (λ k. long_comment k (drop 2 rest)) (λ k. long_comment k (drop 1 rest))) z)))
+        let two : i + 2 ≡ 1 + (i + 1) = omega arith in
+        plus_one _ _ (sym (by_mark e ∙ ap (λ k. plus i (at_mark closing k (λ k. long_comment k (drop (i + 1) s)) (λ k. long_comment k (get_or s i 0 ∷ drop (i + 1) s)))) z ∙ ap some two))
 
-    pub open_inner : closing ≡ mark (get_or rest 0 0) (get_or rest 1 0) → (d ≡ 0 → ⊥) → Open s (take (length rest - 2) (drop 2 rest)) (d - 1)
-    open_inner e z = open_on 2 (d - 1) two (omega arith) (by_depth d z (by_mark e))
+    pub open_inner : closing ≡ mark before (get_or s i 0) → (d ≡ 0 → ⊥) → Open s 0 (d - 1) (i + 1)
+    open_inner e z = after_mark (d - 1) (omega (arith, o.few)) (by_depth d z (by_mark e))
       where
-        by_depth : (d : ℕ) → (d ≡ 0 → ⊥) → {r : Option ℕ} → r ≡ at_mark closing d (λ k. long_comment k (drop 2 rest)) (λ k. long_comment k (drop 1 rest))
-            → r ≡ plus 2 (long_comment (d - 1) (drop 2 rest))
+        by_depth : (d : ℕ) → (d ≡ 0 → ⊥)
+            → {r : Option ℕ} → r ≡ plus i (at_mark closing d (λ k. long_comment k (drop (i + 1) s)) (λ k. long_comment k (get_or s i 0 ∷ drop (i + 1) s)))
+            → r ≡ plus i (plus 2 (long_comment (d - 1) (drop (i + 1) s)))
         by_depth zero z q = absurd (z refl)
         by_depth (suc d) z q = let less : suc d - 1 ≡ d = omega arith in rw less q
 
-    pub open_more : opening ≡ mark (get_or rest 0 0) (get_or rest 1 0) → Open s (take (length rest - 2) (drop 2 rest)) (d + 1)
-    open_more e = open_on 2 (d + 1) two (omega arith) (rw add-one (by_mark e))
+    pub open_more : opening ≡ mark before (get_or s i 0) → Open s 0 (d + 1) (i + 1)
+    open_more e = after_mark (d + 1) (omega (arith, o.few)) (rw add-one (by_mark e))
 
-    pub open_next : neither ≡ mark (get_or rest 0 0) (get_or rest 1 0) → Open s (take (length rest - 1) (drop 1 rest)) d
-    open_next e = open_on 1 d (omega arith) (omega arith) (by_mark e)
+    pub open_next : neither ≡ mark before (get_or s i 0) → Open s (get_or s i 0) d (i + 1)
+    open_next e = record { few = omega (arith, o.few); says = by_mark e ∙ plus-plus i 1 _ }
 
-  -- with fewer than two bytes left it is not closed
-  pub open_never : length rest < 2 → none ≡ long_comment 0 s
+  -- at the end it is not closed
+  pub open_never : length s ≤ i → none ≡ long_comment 0 s
   unfolding long_comment
-  open_never h = sym (o.says ∙ ap (plus (length s - length rest)) (few_left rest h))
-    where
-      few_left : (t : List ℕ) → length t < 2 → long_comment d t ≡ none
-      few_left [] h = refl
-      few_left (a ∷ []) h = refl
-      few_left (a ∷ (b ∷ t)) h = absurd (omega arith)
+  open_never h = plus_one _ _ (sym (o.says ∙ rw (drop_of_length-le s h)))
 
 -- the two ways out of `position_after_end_of_long_comment`
 module _ (input : List ℕ) (start end : ℕ) (h : start ≤ end) (k : end ≤ length input) where

@@ -1,12 +1,21 @@
 -- The definitions of runs and of comparison, against std's.
-use Rattle.std.proofs.Common.{◌≡◌, refl, sym, ap, ◌∙◌, Bool, true, false, ◌&&◌, List, [], ◌∷◌, ℕ, suc, ◌+◌, ◌-◌, length, take, drop, length-drop, nat_eq, cond, arith, one-add}
+use Rattle.std.proofs.Common.{◌≡◌, refl, sym, ap, ◌∙◌, Bool, true, false, ◌&&◌, ◌||◌, List, [], ◌∷◌, ℕ, suc, ◌+◌, ◌-◌, length, take, drop, length-drop, nat_eq, cond, arith, one-add}
 use Rattle.std.proofs.lemmas.Bool.Decides.{nat_tests}
-use Rattle.std.specs.List.{prefix_len}
+use Rattle.std.specs.List.{prefix_len, list_any}
 use Rattle.std.specs.Cmp.Lexicographic.{pointwise}
 use Rattle.std.proofs.lemmas.List.Folds.{length-prefix_len}
 use Rattle.std.proofs.Math.Seq.{take_all}
 use native.Mathlib.Nat.{le_of_eq}
-use Rattle.lexing.specs.Bytes.{run, starts_with, same_bytes}
+use Rattle.lexing.specs.Bytes.{one_of, run, starts_with, same_bytes}
+
+-- equality either way round
+eq_either_way : (a b : ℕ) → nat_eq a b ≡ nat_eq b a
+eq_either_way a b = grind (arith, nat_tests)
+
+-- what `contains` answers
+pub any_is : (b : ℕ) (w : List ℕ) → list_any (λ y. nat_eq y b) w ≡ one_of w b
+any_is b [] = refl
+any_is b (a ∷ w) = ap (λ t. t || list_any (λ y. nat_eq y b) w) (eq_either_way a b) ∙ ap (λ t. nat_eq b a || t) (any_is b w)
 
 -- a run is as long as what `take_while` gives
 by_prefix : (p : ℕ → Bool) (s : List ℕ) → prefix_len p s ≡ run p s
@@ -31,9 +40,6 @@ unfolding starts_with
 starts_pointwise [] s = refl
 starts_pointwise (a ∷ w) [] = refl
 starts_pointwise (a ∷ w) (b ∷ s) = ap (λ t. nat_eq a b && t) (starts_pointwise w s)
-
-eq_either_way : (a b : ℕ) → nat_eq a b ≡ nat_eq b a
-eq_either_way a b = grind (arith, nat_tests)
 
 -- and of all
 pub same_pointwise : (a b : List ℕ) → pointwise nat_eq a b ≡ same_bytes a b

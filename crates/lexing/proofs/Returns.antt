@@ -1,53 +1,89 @@
 -- The ways out of `blank_at_start`, `blanks` and the readers of words, over plain lists.
-use mathlib.Core.Path.{◌≡◌, refl, sym, ap, ◌∙◌}
-use mathlib.Core.Bool.{Bool, true, false, false≢true}
-use mathlib.Core.List.{List, [], ◌∷◌}
-use Prim.Native.Nat.{ℕ, zero, suc, ◌+◌, ◌-◌, ◌≤◌, ◌<◌}
-use native.Mathlib.Nat.{le_of_eq}
-use native.Mathlib.Omega.{arith}
-use native.Mathlib.Numerals.{one-add}
-use lib.ListN.{length, get_or, drop, take, length-drop, drop_of_length-le}
-use lib.Seq.{take_all, drop-drop}
-use lib.Dec.{leb}
-use Rattle.lexing.specs.Answer.{Answer, ok, refused, large_natural, pick}
-use Rattle.lexing.specs.Bytes.{is_space, same_bytes, not_newline, run, starts_with, is_digit, can_start_identifier_char, identifier_char}
+use Rattle.std.proofs.Common.{◌≡◌, refl, sym, ap, ◌∙◌, Bool, true, false, ◌&&◌, List, [], ◌∷◌, ℕ, zero, suc, ◌+◌, ◌-◌, ◌≤◌, ◌<◌, length, get_or, drop, take, nat_eq, arith, one-add, length-drop, get_or-drop, drop-drop}
+use Rattle.std.proofs.Math.ListN.{drop_of_length-le}
+use borrow.Author.Tests.{ne_eqb}
+use Rattle.lexing.specs.Answer.{Answer, ok, pick}
+use Rattle.lexing.specs.Bytes.{is_space, same_bytes, not_newline, run, starts_with, can_start_identifier_char, identifier_char}
 use Rattle.lexing.specs.Blanks.{Blanks, passed, unclosed, further, blank, blanks_from, W, position_after_end_of_long_comment}
-use Rattle.lexing.specs.Tokens.{identifier_length, keyword, lexeme, closed, decimal, natural, most_natural}
-use Rattle.lexing.specs.CodeAnswers.{number_of, Position}
-use Rattle.lexing.proofs.Lists.{suffix}
-use Rattle.lexing.specs.TokenLaws.{unless_empty-none, unless_empty-some}
+use Rattle.lexing.specs.Tokens.{identifier_length, keyword, lexeme, closed}
+use Rattle.lexing.specs.CodeAnswers.{Position}
 use Rattle.lexing.specs.RunLaws.{run_inside}
 use Rattle.lexing.specs.BlankLaws.{W-blank, W-none, W-unclosed, further-zero, further-further, blank-inside, reach, W-inside}
+use Rattle.lexing.proofs.Lists.{suffix}
 
 -- no blank stands at the end of the text
-pub blank-empty : (s : List ℕ) → length s ≡ 0 → passed 0 ≡ blank s
+pub blank_empty : (s : List ℕ) → length s < 1 → passed 0 ≡ blank s
 unfolding blank
-blank-empty [] h = refl
-blank-empty (a ∷ s) h = absurd (omega arith)
+blank_empty [] h = refl
+blank_empty (a ∷ s) h = absurd (omega arith)
 
--- `blank` by its tests, in the order of the code
-blank-by : (s : List ℕ) → 0 < length s → blank s
+-- `blank` by its tests
+blank_by : (s : List ℕ) → 1 ≤ length s → blank s
     ≡ pick (is_space (get_or s 0 0)) (passed 1)
     (pick (starts_with (47 ∷ 47 ∷ []) s) (passed (1 + run not_newline (drop 1 s)))
     (pick (starts_with (47 ∷ 42 ∷ []) s) (passed (2 + position_after_end_of_long_comment (drop 2 s))) (passed 0)))
 unfolding blank
-blank-by [] h = absurd (omega arith)
-blank-by (a ∷ s) h = refl
+blank_by [] h = absurd (omega arith)
+blank_by (a ∷ s) h = refl
 
-module _ (s : List ℕ) (h : 0 < length s) where
-  pub blank-space : is_space (get_or s 0 0) ≡ true → passed 1 ≡ blank s
-  blank-space p = simp (blank-by s h, p)
+-- the opening of a comment by its two bytes
+opening_by : (x : ℕ) (s : List ℕ) → 2 ≤ length s → starts_with (47 ∷ x ∷ []) s ≡ (nat_eq 47 (get_or s 0 0) && (nat_eq x (get_or s 1 0) && true))
+unfolding starts_with
+opening_by x [] h = absurd (omega arith)
+opening_by x (a ∷ []) h = absurd (omega arith)
+opening_by x (a ∷ (b ∷ s)) h = refl
 
-  pub blank-line : is_space (get_or s 0 0) ≡ false → starts_with (47 ∷ 47 ∷ []) s ≡ true → (n : ℕ) → n ≡ run not_newline (take (length s - 1) (drop 1 s))
-      → passed (1 + n) ≡ blank s
-  blank-line p q n e = simp (blank-by s h, p, q) (ap (λ k. passed (1 + k)) (e ∙ ap (run not_newline) (suffix s 1)))
+-- none has one byte
+opening_short : (x : ℕ) (s : List ℕ) → length s < 2 → starts_with (47 ∷ x ∷ []) s ≡ false
+unfolding starts_with
+opening_short x [] h = refl
+opening_short x (a ∷ []) h = by_test (nat_eq 47 a)
+  where
+    by_test : (t : Bool) → (t && false) ≡ false
+    by_test true = refl
+    by_test false = refl
+opening_short x (a ∷ (b ∷ s)) h = absurd (omega arith)
 
-  pub blank-long : is_space (get_or s 0 0) ≡ false → starts_with (47 ∷ 47 ∷ []) s ≡ false → starts_with (47 ∷ 42 ∷ []) s ≡ true
-      → {n : ℕ} → Position (take (length s - 2) (drop 2 s)) 2 (length s) n → passed n ≡ blank s
-  blank-long p q r {n} e = simp (blank-by s h, p, q, r) (ap passed (e.value ∙ ap (λ t. 2 + position_after_end_of_long_comment t) (suffix s 2)))
+-- and each begins with a slash
+opening_slash : (x : ℕ) (s : List ℕ) → (get_or s 0 0 ≡ 47 → ⊥) → starts_with (47 ∷ x ∷ []) s ≡ false
+unfolding starts_with
+opening_slash x [] h = refl
+opening_slash x (a ∷ s) h = rw (ne_eqb 47 a (λ e. h (sym e)))
 
-  pub blank_none : is_space (get_or s 0 0) ≡ false → starts_with (47 ∷ 47 ∷ []) s ≡ false → starts_with (47 ∷ 42 ∷ []) s ≡ false → passed 0 ≡ blank s
-  blank_none p q r = simp (blank-by s h, p, q, r)
+module _ (s : List ℕ) (h : 1 ≤ length s) where
+  pub blank_space : true ≡ is_space (get_or s 0 0) → passed 1 ≡ blank s
+  blank_space p = simp (blank_by s h, sym p)
+
+  module _ (p : false ≡ is_space (get_or s 0 0)) where
+    pub blank_word : (get_or s 0 0 ≡ 47 → ⊥) → passed 0 ≡ blank s
+    blank_word q = simp (blank_by s h, sym p, opening_slash 47 s q, opening_slash 42 s q)
+
+    pub blank_alone : length (take (length s - 1) (drop 1 s)) < 1 → passed 0 ≡ blank s
+    blank_alone l =
+        let k : length s < 2 = omega (arith, ap length (suffix s 1), length-drop 1 s) in
+        simp (blank_by s h, sym p, opening_short 47 s k, opening_short 42 s k)
+
+  -- after a slash
+  module _ (q : get_or s 0 0 ≡ 47) (l : 1 ≤ length (take (length s - 1) (drop 1 s))) where
+    two : 2 ≤ length s
+    two = omega (arith, length-drop 1 s, ap length (suffix s 1))
+
+    second : get_or s 1 0 ≡ get_or (take (length s - 1) (drop 1 s)) 0 0
+    second = sym (ap (λ t. get_or t 0 0) (suffix s 1) ∙ get_or-drop 1 s 0 0)
+
+    pub blank_line : get_or (take (length s - 1) (drop 1 s)) 0 0 ≡ 47 → {n : ℕ} → n ≡ run not_newline (take (length s - 1) (drop 1 s)) → passed (1 + n) ≡ blank s
+    unfolding is_space
+    blank_line e {n} r = simp (blank_by s h, opening_by 47 s two, q, second, e) (ap (λ k. passed (1 + k)) (r ∙ ap (run not_newline) (suffix s 1)))
+
+    pub blank_long : get_or (take (length s - 1) (drop 1 s)) 0 0 ≡ 42 → {n : ℕ} → Position (take (length s - 2) (drop 2 s)) 2 (length s) n → passed n ≡ blank s
+    unfolding is_space
+    blank_long e {n} r =
+        simp (blank_by s h, opening_by 47 s two, opening_by 42 s two, q, second, e)
+        (ap passed (r.value ∙ ap (λ t. 2 + position_after_end_of_long_comment t) (suffix s 2)))
+
+    pub blank_slash : (get_or (take (length s - 1) (drop 1 s)) 0 0 ≡ 47 → ⊥) → (get_or (take (length s - 1) (drop 1 s)) 0 0 ≡ 42 → ⊥) → passed 0 ≡ blank s
+    unfolding is_space
+    blank_slash e f = simp (blank_by s h, opening_by 47 s two, opening_by 42 s two, q, second, ne_eqb 47 _ (λ z. e (sym z)), ne_eqb 42 _ (λ z. f (sym z)))
 
 -- a run of the rest after the first byte ends inside the text
 pub run-after-one : (p : ℕ → Bool) (s : List ℕ) {n : ℕ} → 0 < length s → n ≡ run p (take (length s - 1) (drop 1 s)) → 1 + n ≤ length s

@@ -3,7 +3,7 @@ ghost use Rattle.std.specs.Prelude.{◌≡◌, ◌-◌, ◌≤◌, length, take,
 ghost use Rattle.lexing.specs.Blanks.{mark, long_comment, blank, W};
 ghost use Rattle.lexing.specs.CodeAnswers.{reach_of, mark_of, end_of, Position};
 
-use crate::bytes::{is_space, not_newline, run_length, starts_with};
+use crate::bytes::{is_space, not_newline, run_length};
 
 // A long comment that opens at this place is not closed.
 #[derive(Clone, Copy, PartialEq, Eq, Debug)]
@@ -34,21 +34,22 @@ pub(crate) fn long_comment(s: &[u8]) -> Option<usize>
     ensures { end_of result ≡ long_comment 0 s.now }
 {
     let mut depth: usize = 0;
-    let mut rest = s;
-    while let [a, b, after @ ..] = rest {
-        match mark_at(*a, *b) {
+    // The byte before, 0 where a mark ends there.
+    let mut before = 0;
+    for (i, b) in s.iter().enumerate() {
+        match mark_at(before, *b) {
             Some(Mark::Closing) => {
                 if depth == 0 {
-                    return Some(s.len() - after.len());
+                    return Some(i + 1);
                 }
                 depth -= 1;
-                rest = after;
+                before = 0;
             }
             Some(Mark::Opening) => {
                 depth += 1;
-                rest = after;
+                before = 0;
             }
-            None => rest = &rest[1..],
+            None => before = *b,
         }
     }
     None
@@ -75,13 +76,17 @@ pub(crate) fn blank_at_start(s: &[u8]) -> Result<usize, Unclosed>
     if is_space(*first) {
         return Ok(1);
     }
-    if starts_with(s, b"//") {
-        return Ok(1 + run_length(rest, not_newline));
+    if *first != b'/' {
+        return Ok(0);
     }
-    if starts_with(s, b"/*") {
-        return Ok(position_after_end_of_long_comment(s, 2, s.len()));
+    let [second, ..] = rest else {
+        return Ok(0);
+    };
+    match *second {
+        b'/' => Ok(1 + run_length(rest, not_newline)),
+        b'*' => Ok(position_after_end_of_long_comment(s, 2, s.len())),
+        _ => Ok(0),
     }
-    Ok(0)
 }
 
 // `W`: all blanks at the start.

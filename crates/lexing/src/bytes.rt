@@ -2,11 +2,11 @@
 ghost use Rattle.std.specs.Prelude.{◌≡◌, ℕ, Bool};
 ghost use Rattle.lexing.specs.Bytes.{is_space, is_digit, can_start_identifier_char, identifier_char, custom_literal_char, not_newline, run, starts_with, same_bytes};
 
-#[tactic(auto, unfolding(crate::specs::Bytes::is_space))]
+#[tactic(auto, using(crate::proofs::Lists::any_is), unfolding(crate::specs::Bytes::is_space))]
 pub(crate) fn is_space(b: u8) -> bool
     ensures { result ≡ is_space b }
 {
-    matches!(b, b' ' | b'\t' | b'\r' | b'\n')
+    b" \t\r\n".contains(&b)
 }
 
 #[tactic(auto, unfolding(crate::specs::Bytes::is_digit))]
@@ -20,21 +20,21 @@ pub(crate) fn is_digit(b: u8) -> bool
 pub(crate) fn can_start_identifier_char(b: u8) -> bool
     ensures { result ≡ can_start_identifier_char b }
 {
-    matches!(b, b'a'..=b'z' | b'A'..=b'Z' | b'%')
+    matches!(b, b'a'..=b'z') || matches!(b, b'A'..=b'Z') || b == b'%'
 }
 
-#[tactic(auto, unfolding(crate::specs::Bytes::identifier_char))]
+#[tactic(auto, using(crate::proofs::Lists::any_is), unfolding(crate::specs::Bytes::identifier_char))]
 pub(crate) fn identifier_char(b: u8) -> bool
     ensures { result ≡ identifier_char b }
 {
-    can_start_identifier_char(b) || is_digit(b) || matches!(b, b'_' | b'$' | b'.')
+    can_start_identifier_char(b) || is_digit(b) || b"_$.".contains(&b)
 }
 
-#[tactic(auto, unfolding(crate::specs::Bytes::custom_literal_char))]
+#[tactic(auto, using(crate::proofs::Lists::any_is), unfolding(crate::specs::Bytes::custom_literal_char))]
 pub(crate) fn custom_literal_char(b: u8) -> bool
     ensures { result ≡ custom_literal_char b }
 {
-    identifier_char(b) || matches!(b, b'+' | b'-' | b'*' | b'/' | b'@' | b'#' | b'!' | b'^')
+    identifier_char(b) || b"+-*/@#!^".contains(&b)
 }
 
 #[tactic(auto, unfolding(crate::specs::Bytes::not_newline))]

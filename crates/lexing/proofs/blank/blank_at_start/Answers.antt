@@ -1,30 +1,34 @@
--- `blank::blank_at_start` meets its contract: a law for each way out, by the tests that led there (Returns, `blank-space` to `blank_none`). What upstream
--- requires of `PositionAfterEndOfLongComment` holds since the opening mark is there (`starts_with-inside`).
-use Rattle.std.proofs.Common.{sym, [], ◌∷◌, arith, rules}
-use Rattle.lexing.specs.TokenLaws.{starts_with-inside}
+-- `blank::blank_at_start` meets its contract: a law for each way out, by the tests that led there (Returns, `blank_empty` to `blank_slash`).
+use Rattle.std.proofs.Common.{sym, arith, rules}
 use Rattle.lexing.specs.Bytes.{not_newline}
-use Rattle.lexing.proofs.Returns.{blank-empty, blank-space, blank-line, blank-long, blank_none, run-after-one}
+use Rattle.lexing.proofs.Returns.{blank_empty, blank_space, blank_word, blank_alone, blank_line, blank_long, blank_slash, run-after-one}
 use Rattle.lexing.proofs.blank.blank_at_start.Goals as goal
 
 pub returns-in_default : goal.returns-in_default
-returns-in_default c = blank-empty _ (omega arith)
+returns-in_default c = blank_empty _ (omega arith)
 
 pub returns-then-is_space : goal.returns-then-is_space
-returns-then-is_space c = blank-space _ (omega arith) (sym c.if-is_space.ensures)
+returns-then-is_space c = blank_space _ (omega arith) c.if-is_space.ensures
+
+pub returns-then-first-ne47 : goal.returns-then-first-ne47
+returns-then-first-ne47 c = blank_word _ (omega arith) c.if-is_space.ensures c.if-first-ne47.true
+
+pub returns-in_default-rest : goal.returns-in_default-rest
+returns-in_default-rest c = blank_alone _ (omega arith) c.if-is_space.ensures c.in_default-rest.len_below
 
 pub overflow_add-result : goal.overflow_add-result
 overflow_add-result c = omega (arith, run-after-one not_newline c.args.s.now (omega arith) (c.run_length.ensures not_newline (λ b r e. search rules)))
 
-pub returns-then-starts_with : goal.returns-then-starts_with
-returns-then-starts_with c =
-    blank-line _ (omega arith) (sym c.if-is_space.ensures) (sym c.if-starts_with.ensures) _ (c.run_length.ensures not_newline (λ b r e. search rules))
+pub returns-in-47 : goal.returns-in-47
+returns-in-47 c =
+    blank_line _ (omega arith) c.if-first-ne47.false c.in-len1-up-rest.len_at_least c.in-47.is
+    (c.run_length.ensures not_newline (λ b r e. search rules))
 
-pub position_after_end_of_long_comment-requires : goal.position_after_end_of_long_comment-requires
-position_after_end_of_long_comment-requires c = (starts_with-inside (47 ∷ 42 ∷ []) _ (sym c.if-starts_with-2.ensures), search rules)
+pub returns-in-42 : goal.returns-in-42
+returns-in-42 c =
+    blank_long _ (omega arith) c.if-first-ne47.false c.in-len1-up-rest.len_at_least c.in-42.is
+    c.position_after_end_of_long_comment.ensures
 
-pub returns-then-starts_with-2 : goal.returns-then-starts_with-2
-returns-then-starts_with-2 c =
-    blank-long _ (omega arith) (sym c.if-is_space.ensures) (sym c.if-starts_with.ensures) (sym c.if-starts_with-2.ensures) c.position_after_end_of_long_comment.ensures
-
-pub returns : goal.returns
-returns c = blank_none _ (omega arith) (sym c.if-is_space.ensures) (sym c.if-starts_with.ensures) (sym c.if-starts_with-2.ensures)
+pub returns-in_default-second : goal.returns-in_default-second
+returns-in_default-second c =
+    blank_slash _ (omega arith) c.if-first-ne47.false c.in-len1-up-rest.len_at_least (λ e. omega arith) (λ e. omega arith)

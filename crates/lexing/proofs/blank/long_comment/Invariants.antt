@@ -1,9 +1,5 @@
-use Rattle.std.proofs.Common.{length}
 use Rattle.lexing.proofs.Comments.{Open}
 use Rattle.lexing.proofs.blank.long_comment.Given as goal
 
-abbrev pub invariant-loop-rest : goal.invariant-loop-rest
-invariant-loop-rest l = Open l.s l.rest l.depth
-
-abbrev pub decreases-loop-rest : goal.decreases-loop-rest
-decreases-loop-rest l = length l.rest
+abbrev pub invariant-loop-i : goal.invariant-loop-i
+invariant-loop-i l = Open l.s l.before l.depth l.i
