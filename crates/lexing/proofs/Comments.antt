@@ -5,7 +5,6 @@ use Rattle.std.proofs.Math.Option.{Option, none, some}
 use Rattle.lexing.specs.Blanks.{Mark, closing, opening, neither, mark, plus, at_mark, long_comment, or_else, position_after_end_of_long_comment}
 use Rattle.lexing.specs.BlankLaws.{plus-plus, long_comment-inside}
 use Rattle.lexing.specs.CodeAnswers.{Position}
-use Rattle.lexing.proofs.Lists.{suffix}
 
 -- a byte that is in no mark
 by_zero : (d : ℕ) (s : List ℕ) → long_comment d (0 ∷ s) ≡ plus 1 (long_comment d s)

@@ -1,5 +1,5 @@
 -- The definitions of runs and of comparison, against std's.
-use Rattle.std.proofs.Common.{◌≡◌, refl, sym, ap, ◌∙◌, Bool, true, false, ◌&&◌, ◌||◌, List, [], ◌∷◌, ℕ, suc, ◌+◌, ◌-◌, length, take, drop, length-drop, nat_eq, cond, arith, one-add}
+use Rattle.std.proofs.Common.{◌≡◌, refl, ap, ◌∙◌, Bool, true, false, ◌&&◌, ◌||◌, List, [], ◌∷◌, ℕ, suc, ◌+◌, ◌-◌, length, take, drop, length-drop, nat_eq, cond, arith, one-add}
 use Rattle.std.proofs.lemmas.Bool.Decides.{nat_tests}
 use Rattle.std.specs.List.{prefix_len, list_any}
 use Rattle.std.specs.Cmp.Lexicographic.{pointwise}

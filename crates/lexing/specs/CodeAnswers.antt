@@ -1,5 +1,5 @@
 -- What the code's answers stand for.
-use Rattle.std.specs.Prelude.{Bool, ◌≡◌, List, ℕ, ◌+◌, ◌≤◌, leb, Option, Some, None, Result, Ok, Err}
+use Rattle.std.specs.Prelude.{◌≡◌, List, ℕ, ◌+◌, ◌≤◌, leb, Option, Some, None, Result, Ok, Err}
 use Rattle.std.proofs.Math.Option as math
 use Rattle.lexing.specs.Answer.{Answer, ok, refused, text_too_long, unusable_token, level_too_deep, large_natural, tree_too_large, unclosed_comment, pick}
 use Rattle.lexing.specs.Blanks.{Blanks, passed, unclosed, Mark, closing, opening, neither, position_after_end_of_long_comment}

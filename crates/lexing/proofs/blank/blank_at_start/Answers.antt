@@ -1,5 +1,5 @@
 -- `blank::blank_at_start` meets its contract: a law for each way out, by the tests that led there (Returns, `blank_empty` to `blank_slash`).
-use Rattle.std.proofs.Common.{sym, arith, rules}
+use Rattle.std.proofs.Common.{arith, rules}
 use Rattle.lexing.specs.Bytes.{not_newline}
 use Rattle.lexing.proofs.Returns.{blank_empty, blank_space, blank_word, blank_alone, blank_line, blank_long, blank_slash, run-after-one}
 use Rattle.lexing.proofs.blank.blank_at_start.Goals as goal
