@@ -16,7 +16,7 @@ use Rattle.std.proofs.Common.{Bor}
 use Rattle.tree.specs.Kind.{Kind, bool}
 use Rattle.tree.specs.Tally.{Mark, Expected, marked}
 use Rattle.tree.specs.KindCodes.{as_kind}
-use Rattle.tree.specs.Rows.{row_kinds, as_mark, left, expected_of, own_mark, FirstIs}
+use Rattle.tree.specs.Rows.{row_kinds, as_mark, left, expected_of, own_mark, rest_of, Whole, FirstIs}
 use Rattle.tree.specs.declared.kind.Kind.{Kind as KindCode}
 use Rattle.tree.specs.declared.frames.Frame.{Frame}
 
@@ -36,10 +36,6 @@ first-by f ks (Some x) e s i =
     (n, rw add-one (drop-cons (row_kinds f.row) f.next (as_kind x.now) n ∙ ap (λ (y : Kind). y ∷ drop (suc f.next) (row_kinds f.row)) k))
 
 -- ---- what a frame expects
-
--- a frame after its first kind
-abbrev pub rest_of : Frame → Frame
-rest_of f = record { row = f.row; next = f.next + 1; mark = f.mark }
 
 -- the last kind of some has the mark, another has none
 marked-cons : (k : Kind) (ks : List Kind) (m : Maybe Mark) → marked (k ∷ ks) m ≡ record { kind = k; mark = cond (leb (length ks) 0) m none } ∷ marked ks m
@@ -69,3 +65,10 @@ frame-cons f k i =
 -- a frame whose row has run out
 pub frame-none : (f : Frame) → left f ≡ [] → expected_of f ≡ []
 frame-none f e = ap (λ (ks : List Kind). marked ks (as_mark f.mark)) e
+
+-- one that expects none has run out
+pub over-none : (f : Frame) → Whole f → left f ≡ [] → leb f.end f.next ≡ false → ⊥
+over-none f w e o =
+    let n : length (row_kinds f.row) - f.next ≡ 0 = sym (length-drop f.next (row_kinds f.row)) ∙ ap length e in
+    let l = leb-false f.end f.next o in
+    absurd (omega arith)

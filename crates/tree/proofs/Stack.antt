@@ -20,7 +20,7 @@ use Rattle.tree.specs.ExpectedKinds.{kinds_in, marked-kinds, marked_append}
 use Rattle.tree.specs.KindNumbers.{kind_number, second_word}
 use Rattle.tree.specs.KindCodes.{as_kind}
 use Rattle.tree.specs.Notes.{note_kind, kind_notes}
-use Rattle.tree.specs.Rows.{row_kinds, as_mark, passed_of, left, expected_of, own_mark, FirstIs, MarkIs, MoreIs, Pushed, Went, Stopped}
+use Rattle.tree.specs.Rows.{row_kinds, as_mark, passed_of, left, expected_of, own_mark, frame_of, rest_of, Whole, FirstIs, MarkIs, MoreIs, Pushed, Went, Stopped}
 use Rattle.tree.specs.declared.CheckError.{CheckError}
 use Rattle.tree.specs.declared.CheckError.TheVariants.{Misfit}
 use Rattle.tree.specs.declared.kind.Kind.{Kind as KindCode}
@@ -28,14 +28,11 @@ use Rattle.tree.specs.declared.rows.Row.{Row}
 use Rattle.tree.specs.declared.rows.Row.TheVariants as row
 use Rattle.tree.specs.declared.frames.Mark.{Mark as MarkCode}
 use Rattle.tree.specs.declared.frames.Frame.{Frame}
-use Rattle.tree.proofs.FrameLaws.{rest_of, frame-cons, frame-none}
+use Rattle.tree.proofs.FrameLaws.{frame-cons, frame-none}
 
--- all kinds of a row, and none
-abbrev pub frame_of : Row → Option MarkCode → Frame
-frame_of r m = record { row = r; next = 0; mark = m }
-
+-- no kinds
 abbrev pub empty : Frame
-empty = frame_of row.Empty None
+empty = record { row = row.Empty; next = 0; end = 0; mark = None }
 
 pend : List Expected → List Frame → List Expected
 pend acc [] = acc
@@ -64,9 +61,9 @@ popped : (top : ℕ) (stack : List Frame) → 0 < top → top ≤ length stack �
 popped top stack h r e =
     sym (expected-top top stack h r ∙ ap (λ (l : List Expected). l ++ expected (top - 1) stack) (frame-none (get_or stack (top - 1) empty) e))
 
--- what a frame says of a mark: no more items are passed than words
+-- a whole frame, whose mark says that no more items are passed than words
 abbrev pub Bounded : ℕ → Frame → Type 0
-Bounded at f = passed_of f.mark ≤ at
+Bounded at f = (passed_of f.mark ≤ at) × Whole f
 
 -- the stack after a frame is put on it, or has run out
 module _ {stack : List Frame} {top : ℕ} {frame : Frame} {stack' : List Frame} {r : ℕ} (p : Pushed stack top frame stack' r) (h : top < length stack) where
@@ -163,7 +160,7 @@ started len first ws stack counts kinds {f} i h few =
       small = λ j l.
           let z : j ≡ 0 = omega arith in
           let g : get_or (set stack 0 f) 0 empty ≡ frame_of first None = get_or-set_same stack 0 f empty (omega arith) ∙ i in
-          rw z (subst (λ (x : Frame). Bounded 0 x) (sym g) (omega arith));
+          rw z (subst (λ (x : Frame). Bounded 0 x) (sym g) (omega arith, refl));
       state = ap (λ (es : List Expected). run (within len) (kinds_in es) 0 ws) e ∙ ap (λ (ks : List Kind). run (within len) ks 0 ws) (marked-kinds (row_kinds first) none);
       tallied = ap (λ (es : List Expected). tally (within len) es 0 ws counts) e;
       outlined =
@@ -209,13 +206,19 @@ module _ {len : ℕ} {first : Row} {ws : List ℕ} {stack₀ : List Frame} {coun
   top-bounded = subst (λ (z : Frame). Bounded at z) g (i.small (top - 1) (omega arith))
 
   pub mark-bounded : {mark : Option MarkCode} → MarkIs frame k at mark → passed_of mark < 65535
-  mark-bounded m = let a = m.small in let b = top-bounded in let c = i.inside in let d = i.few in omega arith
+  mark-bounded m = let a = m.small in let b = top-bounded.0 in let c = i.inside in let d = i.few in omega arith
+
+  pub top-whole : Whole frame
+  top-whole = top-bounded.1
 
   module _ (next : ℕ) (fields : Row) {mark mark' : Option MarkCode} {rest entry : Frame} {below r : ℕ} {counts₁ kinds₁ : List ℕ} {stack₁ stack₂ : List Frame}
       (w : Went ws len at (as_kind k) next (row_kinds fields)) (m : MarkIs frame k at mark) (o : MoreIs mark mark')
-      (c : counts₁ ≡ noted (row_kinds fields) (as_mark mark) counts) (n : kinds₁ ≡ note_kind at next (kind_number (as_kind k)) kinds)
+      (c₀ : counts₁ ≡ noted (row_kinds entry.row) (as_mark mark) counts) (n : kinds₁ ≡ note_kind at next (kind_number (as_kind k)) kinds)
       (q : rest ≡ rest_of frame) (t : entry ≡ frame_of fields mark')
       (x : Pushed stack (top - 1) rest stack₁ below) (y : Pushed stack₁ below entry stack₂ r) where
+    c : counts₁ ≡ noted (row_kinds fields) (as_mark mark) counts
+    c = c₀ ∙ ap (λ (z : Frame). noted (row_kinds z.row) (as_mark mark) counts) t
+
     pub room-below : below < length stack₁
     room-below = let o = on-top x (omega arith) in let a = o.0 in let b = o.1 in omega arith
 
@@ -230,11 +233,11 @@ module _ {len : ℕ} {first : Row} {ws : List ℕ} {stack₀ : List Frame} {coun
     bounded-next : (j : ℕ) → j < r → Bounded next (get_or stack₂ j empty)
     bounded-next =
         let g = w.forward in
-        let v = top-bounded in
+        let v = top-bounded.0 in
         let a = m.small in
         let b = o.small in
-        (on-top y room-below).3 next (subst (λ (z : Frame). Bounded next z) (sym t) (omega arith))
-        ((on-top x (omega arith)).3 next (subst (λ (z : Frame). Bounded next z) (sym q) (omega arith)) (λ j l. let z = i.small j (omega arith) in omega arith))
+        (on-top y room-below).3 next (subst (λ (z : Frame). Bounded next z) (sym t) (omega arith, refl))
+        ((on-top x (omega arith)).3 next (subst (λ (z : Frame). Bounded next z) (sym q) (omega arith, top-whole)) (λ j l. let z = i.small j (omega arith) in let n = z.0 in (omega arith, z.1)))
 
     pub after-step : Walking len first ws stack₀ counts₀ kinds₀ stack₂ counts₁ kinds₁ r next
     after-step =

@@ -66,6 +66,17 @@ abbrev pub passed_of : Option MarkCode → ℕ
 passed_of None = 0
 passed_of (Some m) = m.passed
 
+-- all kinds of a row, and a frame after its first kind
+abbrev pub frame_of : Row → Option MarkCode → Frame
+frame_of r m = record { row = r; next = 0; end = length (row_kinds r); mark = m }
+
+abbrev pub rest_of : Frame → Frame
+rest_of f = record { row = f.row; next = f.next + 1; end = f.end; mark = f.mark }
+
+-- a frame's end is its row's
+abbrev pub Whole : Frame → Type 0
+Whole f = f.end ≡ length (row_kinds f.row)
+
 -- what a frame expects: the kinds of its row from the next on, the last with its mark
 abbrev pub left : Frame → List Kind
 left f = drop f.next (row_kinds f.row)

@@ -45,10 +45,11 @@ pub(crate) fn walk(
         if let Some(kind) = frame.first() {
             let step = next_step(words, text_len, at, kind)?;
             let mark = frame.mark_at(kind, at);
-            note(counts, step.fields, mark);
+            let fields = Frame::of(step.fields, more(mark));
+            note(counts, fields, mark);
             note_kind(kinds, at, step.next, kind);
             top = push(stack, top, frame.rest());
-            top = push(stack, top, Frame::of(step.fields, more(mark)));
+            top = push(stack, top, fields);
             at = step.next;
         }
     }

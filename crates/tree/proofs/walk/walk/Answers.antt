@@ -25,7 +25,7 @@ returns-else-at-words c = at-whole c.loop-top.invariant c.loop-top-test.false c.
 pub loop-top-preserved-in-Some : goal.loop-top-preserved-in-Some
 loop-top-preserved-in-Some c =
     after-step c.loop-top.invariant c.loop-top-test.true _ refl c.in-Some.kind c.in-Some.ensures _ c.in_ok-step.step.fields c.in_ok-step.ensures
-    c.mark_at-mark.ensures c.more.ensures c.note.ensures c.note_kind.ensures c.rest.ensures c.of-in-Some.ensures c.push-top.ensures c.push-top-in-Some.ensures
+    c.mark_at-mark.ensures c.more.ensures c.note.ensures c.note_kind.ensures c.rest.ensures c.of-fields.ensures c.push-top.ensures c.push-top-in-Some.ensures
 
 pub loop-top-preserved : goal.loop-top-preserved
 loop-top-preserved c = after-pop c.loop-top.invariant c.loop-top-test.true c.in_default.ensures
