@@ -1,5 +1,5 @@
 -- What a frame of the walk's stack expects: its first kind and the rest.
-use Prim.Native.Nat.{ℕ, suc, ◌+◌, ◌-◌, ◌≤◌, ◌<◌}
+use Prim.Native.Nat.{ℕ, suc, ◌+◌, ◌-◌, ◌<◌}
 use native.Mathlib.Numerals.{add-one}
 use native.Mathlib.Omega.{arith}
 use mathlib.Core.Path.{◌≡◌, refl, sym, ap, ◌∙◌}
@@ -13,8 +13,8 @@ use borrow.Author.Tests.{le-leb, lt-leb, leb-true, leb-false, ltb-true, ltb-fals
 use Rattle.std.specs.Prelude.{Option, Some, None, is_some, IfSome}
 use Rattle.std.specs.Option.{option_copied}
 use Rattle.std.proofs.Common.{Bor}
-use Rattle.tree.specs.Kind.{Kind, bool}
-use Rattle.tree.specs.Tally.{Mark, Expected, marked}
+use Rattle.tree.specs.Kind.{Kind}
+use Rattle.tree.specs.Tally.{Mark, marked}
 use Rattle.tree.specs.KindCodes.{as_kind}
 use Rattle.tree.specs.Rows.{row_kinds, as_mark, left, expected_of, own_mark, rest_of, Whole, FirstIs}
 use Rattle.tree.specs.declared.kind.Kind.{Kind as KindCode}

@@ -3,14 +3,14 @@ use Prim.Native.Nat.{ℕ, zero, suc, ◌+◌, ◌-◌, ◌≤◌, ◌<◌}
 use native.Mathlib.Nat.{le_of_suc-le-suc, not-suc-le-zero}
 use native.Mathlib.Omega.{arith}
 use mathlib.Core.Path.{◌≡◌, refl, sym, ap, subst, ◌∙◌}
-use mathlib.Core.Bool.{Bool, true, false, cond}
+use mathlib.Core.Bool.{Bool, true, false}
 use mathlib.Core.List.{List, [], ◌∷◌}
 use lib.ListN.{length, replicate}
 use lib.Dec.{leb, ltb}
-use borrow.Author.Tests.{le-leb, lt-leb, leb-true, leb-false, ltb-true, ltb-false}
+use borrow.Author.Tests.{le-leb, lt-leb, leb-true, ltb-true, ltb-false}
 use Rattle.std.specs.Prelude.{Option, Some, None, is_some}
 use Rattle.tree.specs.Clash.{impossible}
-use Rattle.tree.specs.Kind.{Kind, bool, operator, mode, natural, low, name, length_from, expr, stmt, aexpr, option, seq, Turn, fits, misfit, row_at, tagged, by_row, second, turn, expr_rows, stmt_rows, aexpr_rows}
+use Rattle.tree.specs.Kind.{Kind, bool, operator, mode, expr, stmt, aexpr, Turn, fits, misfit, row_at, tagged, by_row, second, expr_rows, stmt_rows, aexpr_rows}
 use Rattle.tree.specs.Codes.{mode_code, operator_code, expr_code, stmt_code, aexpr_code, Decodes}
 use Rattle.tree.specs.KindCodes.{as_kind}
 use Rattle.tree.specs.Rows.{word_fields, content_fields, row_kinds, as_turn, OneWord}

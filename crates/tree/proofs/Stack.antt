@@ -1,6 +1,6 @@
 -- What the walk's stack expects, from its top down, and how it changes in a turn of the walk.
 use Rattle.std.specs.Prelude.{Err, Option, Some, None}
-use Prim.Native.Nat.{ℕ, suc, ◌+◌, ◌-◌, ◌*◌, ◌≤◌, ◌<◌}
+use Prim.Native.Nat.{ℕ, suc, ◌+◌, ◌-◌, ◌≤◌, ◌<◌}
 use native.Mathlib.Numerals.{add-one}
 use native.Mathlib.Omega.{arith}
 use mathlib.Core.Path.{◌≡◌, refl, sym, ap, subst, ◌∙◌}
@@ -15,7 +15,7 @@ use Rattle.tree.specs.Clash.{impossible}
 use Rattle.tree.specs.Limits.{most_words}
 use Rattle.tree.specs.Kind.{Kind}
 use Rattle.tree.specs.Check.{one_tree, run, within}
-use Rattle.tree.specs.Tally.{Mark, Expected, marked, mark_at, more, noted, tally}
+use Rattle.tree.specs.Tally.{Mark, Expected, marked, more, noted, tally}
 use Rattle.tree.specs.ExpectedKinds.{kinds_in, marked-kinds, marked_append}
 use Rattle.tree.specs.KindNumbers.{kind_number, second_word}
 use Rattle.tree.specs.KindCodes.{as_kind}

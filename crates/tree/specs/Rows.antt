@@ -6,7 +6,7 @@ use Rattle.tree.specs.KindNumbers.{kind_number}
 use Rattle.tree.specs.KindCodes.{as_kind}
 use Rattle.tree.specs.Codes.{expr_code, stmt_code, aexpr_code}
 use Rattle.tree.specs.Check.{run, within}
-use Rattle.tree.specs.Tally.{Mark, Expected, opened, mark_at, more, marked, noted, tally}
+use Rattle.tree.specs.Tally.{Mark, Expected, mark_at, more, marked, noted, tally}
 use Rattle.tree.specs.Notes.{note_kind, kind_notes}
 use Rattle.tree.specs.declared.rows.Row.{Row}
 use Rattle.tree.specs.declared.rows.Row.TheVariants as row

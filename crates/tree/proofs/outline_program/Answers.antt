@@ -1,6 +1,6 @@
 -- `outline_program` meets its contract: of an accepted table the kinds and ends are copied, of a refused one nothing is.
 use native.Mathlib.Omega.{arith}
-use mathlib.Core.Path.{refl, sym, ap, ◌∙◌}
+use mathlib.Core.Path.{sym, ap, ◌∙◌}
 use Rattle.std.proofs.lemmas.Result.{err_from_is_err_and}
 use Rattle.tree.specs.Check.{check_program, refusal, program_refusal}
 use Rattle.tree.specs.Rows.{row_kinds}

@@ -1,7 +1,6 @@
 -- `outline::end_of` meets its contract: a second word, a first of two, or a row's fields.
 use mathlib.Core.Path.{refl, sym, ap, ◌∙◌}
 use lib.ListN.{get_or}
-use Rattle.tree.specs.Kind.{Turn, fits, misfit}
 use Rattle.tree.specs.Notes.{field_count}
 use Rattle.tree.proofs.Outlines.{fields-none, fields-pair, fields-row, end_by}
 use Rattle.tree.proofs.outline.end_of.Goals as goal

@@ -1,8 +1,8 @@
 -- `rows::row_of` meets its contract: by the enum that the word is decoded to.
-use mathlib.Core.Path.{◌≡◌, ap, ◌∙◌}
+use mathlib.Core.Path.{ap, ◌∙◌}
 use mathlib.Core.Bool.{Bool}
 use Rattle.tree.specs.Kind.{second}
-use Rattle.tree.proofs.RowLaws.{bool-row, operator-row, mode-row, expr-row, stmt-row, aexpr-row, expr-none, stmt-none, aexpr-none, content-row}
+use Rattle.tree.proofs.RowLaws.{bool-row, operator-row, mode-row, expr-row, stmt-row, aexpr-row, expr-none, stmt-none, aexpr-none}
 use Rattle.tree.proofs.rows.row_of.Goals as goal
 
 pub returns-in-Bool : goal.returns-in-Bool
