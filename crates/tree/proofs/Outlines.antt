@@ -54,7 +54,10 @@ fields-passed ends row i at h f = let n : length row - i ≡ 0 = omega arith in 
 -- ---- the fields of what has a kind's number, and of what has none
 
 all_kinds : List KindCode
-all_kinds = kind.Bool ∷ kind.Operator ∷ kind.Mode ∷ kind.Expr ∷ kind.Stmt ∷ kind.AExpr ∷ kind.OptionName ∷ kind.OptionExpr ∷ kind.OptionStmt ∷ kind.OptionDefinition ∷ kind.Names ∷ kind.Exprs ∷ kind.Bindings ∷ kind.Patterns ∷ kind.ClosureBindings ∷ kind.ClosureProperties ∷ kind.Stmts ∷ kind.CallArguments ∷ kind.Cases ∷ kind.AExprs ∷ kind.Taggers ∷ kind.FParameters ∷ kind.Functions ∷ kind.Axioms ∷ kind.PParameters ∷ kind.Procedures ∷ kind.Name ∷ kind.Natural ∷ []
+all_kinds =
+    kind.Bool ∷ kind.Operator ∷ kind.Mode ∷ kind.Expr ∷ kind.Stmt ∷ kind.AExpr ∷ kind.OptionName ∷ kind.OptionExpr ∷ kind.OptionStmt ∷ kind.OptionDefinition
+    ∷ kind.Names ∷ kind.Exprs ∷ kind.Bindings ∷ kind.Patterns ∷ kind.ClosureBindings ∷ kind.ClosureProperties ∷ kind.Stmts ∷ kind.CallArguments ∷ kind.Cases
+    ∷ kind.AExprs ∷ kind.Taggers ∷ kind.FParameters ∷ kind.Functions ∷ kind.Axioms ∷ kind.PParameters ∷ kind.Procedures ∷ kind.Name ∷ kind.Natural ∷ []
 
 -- a number from 1 to 28 is a kind's
 kind-with : (n : ℕ) → 0 < n → n ≤ 28 → (k : KindCode) × (kind_code k ≡ n)

@@ -21,7 +21,7 @@ mod Examples
 mod WordExamples
 mod TallyExamples
 mod OutlineExamples
--- the code's numbers for kinds
+-- what the code notes, its rows and its stack
 pub mod Notes
 pub mod Rows
 -- what is expected and its kinds

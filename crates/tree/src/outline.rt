@@ -21,6 +21,7 @@ pub(crate) fn blank() -> [u16; MOST_WORDS]
 pub(crate) fn put(notes: &mut [u16], at: usize, number: u16)
     ensures { notes.new ≡ set notes.old at number }
 {
+    // Kept: by get_mut the proof does not close where there is no place (returns-in_default), since nothing is said of the slice there.
     if at < notes.len() {
         notes[at] = number;
     }

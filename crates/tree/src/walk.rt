@@ -36,6 +36,7 @@ pub(crate) fn walk(
     requires { (length words.now < length stack.old) × (length words.now ≤ most_words) }
     ensures { (result ≡ run (within text_len) (row_kinds first) 0 words.now) × (counts.new ≡ tally (within text_len) (marked (row_kinds first) none) 0 words.now counts.old) × (result ≡ Ok tt → kinds.new ≡ kind_notes (within text_len) (row_kinds first) 0 words.now kinds.old) }
 {
+    // Kept: a stack in a lent slice with the number of its frames, since the library has no heap for a Vec.
     stack[0] = Frame::of(first, None);
     let mut top: usize = 1;
     let mut at: usize = 0;
@@ -61,6 +62,7 @@ pub(crate) fn walk(
 }
 
 // The words at a place, where a kind is expected.
+// Kept: words and text_len apart; a struct of both would be taken apart here, since a name alone needs the length.
 fn next_step(words: &[u32], text_len: usize, at: usize, kind: Kind) -> Result<Step, CheckError>
     requires { at ≤ length words.now }
     ensures { Stepped words.now text_len at (as_kind kind) result }
