@@ -72,6 +72,7 @@ impl<const N: usize> Classes<N> {
         ensures { Followed places.now.first.now places.now.second.now (length places.now.first.now) v self.old.seen self.old.out self.new.seen self.new.out }
     {
         let mut at = usize::from(lists.heads[v]);
+        // Kept: the list leads from place to place by its links, in an order that no range and no slice has.
         while at < places.first.len() {
             let key = usize::from(places.second[at]);
             let class = places.class(usize::from(self.seen[key]), at);

@@ -105,6 +105,7 @@ impl<'a, const N: usize> Spans<'a, N> {
         keys.fill(0);
         let longest = self.longest();
         let mut w = 1;
+        // Kept: the width doubles from turn to turn, so the turns are no range.
         while w <= longest {
             self.take_keys(w, classes, keys);
             widen(self.text, w, longest, self.most, classes);
