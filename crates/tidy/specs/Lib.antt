@@ -1,4 +1,6 @@
 -- What tidy answers, for every text and output.
 pub mod Tidy
+pub mod Errors
+pub mod Answers
 pub mod Cases
 pub mod Examples

@@ -2,17 +2,17 @@
 
 #![tactic(auto)]
 
-ghost use Rattle.std.specs.Prelude.{◌≤◌, ◌≡◌, length};
-ghost use Rattle.std.proofs.Math.Option.{none};
-ghost use Rattle.tree.specs.Limits.{most_text};
-ghost use Rattle.tree.specs.Check.{program_refusal};
-ghost use Rattle.grammar.specs.Reading.{read_program};
-ghost use Rattle.reading.specs.TreeRead.{ProgramAnswered};
-ghost use Rattle.printing.specs.Entries.{print_program};
-ghost use Rattle.tidy.specs.Tidy.{Tidied, refusal_number, of_print, of_reading};
+mod error;
 
-use printing::{Printed, print_program};
-use reading::{Reading, read_program};
+ghost use Rattle.std.specs.Prelude.{◌≤◌, ◌≡◌, length};
+ghost use Rattle.tree.specs.Limits.{most_text, most_words};
+ghost use Rattle.tidy.specs.Tidy.{Tidied, refusal_number};
+ghost use Rattle.tidy.specs.Answers.{Tidies, TidiesIn};
+ghost use Rattle.tidy.specs.Errors.{error_number, error_place};
+
+pub use error::TidyError;
+use printing::print_program;
+use reading::read_program;
 use tree::MOST_WORDS;
 
 // For a text of at most 512 bytes: five words, and five for each byte.
@@ -22,56 +22,37 @@ const FEW_WORDS: usize = 2565;
 pub fn tidy(text: &[u8], out: &mut [u8]) -> u64
     ensures { Tidied text.now out.old result out.new }
 {
+    match tidied(text, out) {
+        Ok(n) => n as u64,
+        Err(error) => packed(error),
+    }
+}
+
+// The same, with a refusal as an error.
+pub fn tidied(text: &[u8], out: &mut [u8]) -> Result<usize, TidyError>
+    ensures { Tidies text.now out.old result out.new }
+{
     if text.len() <= 512 {
-        return tidy_small(text, out);
-    }
-    tidy_any(text, out)
-}
-
-// A text of at most 512 bytes clears a small table, which has room for its tree.
-fn tidy_small(text: &[u8], out: &mut [u8]) -> u64
-    requires { length text.now ≤ 512 }
-    ensures { Tidied text.now out.old result out.new }
-{
-    let mut table = [0u32; FEW_WORDS];
-    let read = read_program(text, &mut table);
-    answer(text, read, &table, out)
-}
-
-fn tidy_any(text: &[u8], out: &mut [u8]) -> u64
-    ensures { Tidied text.now out.old result out.new }
-{
-    let mut table = [0u32; MOST_WORDS];
-    let read = read_program(text, &mut table);
-    answer(text, read, &table, out)
-}
-
-// The print of what a reading left in a table, or its refusal.
-fn answer(text: &[u8], read: Reading, table: &[u32], out: &mut [u8]) -> u64
-    requires { ProgramAnswered text.now (length table.now) read table.now }
-    ensures { record { answer = result; output = out.new } ≡ of_reading text.now out.old (read_program text.now (length table.now)) }
-{
-    match read {
-        Reading::Words(n) => print(text, &table[..n], out),
-        Reading::Refused(number, place) => refusal(number, place),
+        tidied_in::<FEW_WORDS>(text, out)
+    } else {
+        tidied_in::<MOST_WORDS>(text, out)
     }
 }
 
-// The print of a table's words.
-fn print(text: &[u8], words: &[u32], out: &mut [u8]) -> u64
-    requires { (length text.now ≤ most_text) × (program_refusal words.now (length text.now) ≡ none) }
-    ensures { record { answer = result; output = out.new } ≡ of_print (print_program 2 text.now words.now out.old) }
+// By way of a table of so many words. One of few clears fast, and has room for the tree of a short text.
+fn tidied_in<const WORDS: usize>(text: &[u8], out: &mut [u8]) -> Result<usize, TidyError>
+    requires { WORDS ≤ most_words }
+    ensures { TidiesIn text.now WORDS out.old result out.new }
 {
-    match print_program(text, words, out) {
-        Printed::Written(n) => n as u64,
-        Printed::Refused(number, place) => refusal(number, place),
-    }
+    let mut table = [0u32; WORDS];
+    let n = read_program(text, &mut table)?;
+    Ok(print_program(text, &table[..n], out)?)
 }
 
 // A refusal as one number.
-fn refusal(number: u64, place: usize) -> u64
-    requires { (number ≤ 8) × (place ≤ most_text) }
-    ensures { result ≡ refusal_number number place }
+fn packed(error: TidyError) -> u64
+    requires { error_place error ≤ most_text }
+    ensures { result ≡ refusal_number (error_number error) (error_place error) }
 {
-    number * 4294967296 + place as u64
+    error.number() * 4294967296 + error.place() as u64
 }

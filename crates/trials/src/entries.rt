@@ -8,8 +8,8 @@ use crate::show::{
     cleared, print, print_bytes, print_count, print_refusal, print_words, untouched,
 };
 use crate::slices::most;
-use printing::{Printed, print_expression, print_expression_lines, print_program};
-use reading::{Reading, read_expression, read_program};
+use printing::{PrintError, print_expression, print_expression_lines, print_program};
+use reading::{Refusal, read_expression, read_program};
 use std::io;
 use std::io::Write;
 
@@ -24,47 +24,57 @@ pub(crate) struct Run {
     pub(crate) indent: usize,
 }
 
-// What an entry answers.
-#[derive(Clone, Copy)]
-enum Outcome {
+// What an entry gives.
+#[derive(Clone, Copy, PartialEq, Eq, Debug)]
+enum Made {
     // So many words, in the table.
     Words(usize),
     // So many bytes, in the output.
     Bytes(usize),
-    // The refusal's number and place.
-    Refused(u64, usize),
+}
+
+// A refusal's number and place.
+#[derive(Clone, Copy, PartialEq, Eq, Debug)]
+struct Refused {
+    number: u64,
+    place: usize,
+}
+
+impl From<Refusal> for Refused {
+    fn from(refusal: Refusal) -> Refused {
+        Refused {
+            number: refusal.reason.number(),
+            place: refusal.place,
+        }
+    }
+}
+
+impl From<PrintError> for Refused {
+    fn from(error: PrintError) -> Refused {
+        Refused {
+            number: error.number(),
+            place: error.place(),
+        }
+    }
 }
 
 // One run of an entry. A reading gives the table and a print takes it.
-fn once(run: Run, text: &[u8], table: &mut [u32], out: &mut [u8]) -> Outcome {
-    let entry = run.entry;
-    match entry {
-        b'r' => read(read_expression(text, table)),
-        b'R' => read(read_program(text, table)),
-        b'm' => printed(print_expression_lines(text, table, run.indent, out)),
-        b'P' => printed(print_program(text, table, out)),
-        _ => printed(print_expression(text, table, out)),
-    }
-}
-
-fn read(answer: Reading) -> Outcome {
-    match answer {
-        Reading::Words(n) => Outcome::Words(n),
-        Reading::Refused(number, place) => Outcome::Refused(number, place),
-    }
-}
-
-fn printed(answer: Printed) -> Outcome {
-    match answer {
-        Printed::Written(n) => Outcome::Bytes(n),
-        Printed::Refused(number, place) => Outcome::Refused(number, place),
+fn once(run: Run, text: &[u8], table: &mut [u32], out: &mut [u8]) -> Result<Made, Refused> {
+    match run.entry {
+        b'r' => Ok(Made::Words(read_expression(text, table)?)),
+        b'R' => Ok(Made::Words(read_program(text, table)?)),
+        b'm' => Ok(Made::Bytes(print_expression_lines(
+            text, table, run.indent, out,
+        )?)),
+        b'P' => Ok(Made::Bytes(print_program(text, table, out)?)),
+        _ => Ok(Made::Bytes(print_expression(text, table, out)?)),
     }
 }
 
 // The answer of the last run.
-fn repeated(run: Run, text: &[u8], table: &mut [u32], out: &mut [u8]) -> Outcome {
+fn repeated(run: Run, text: &[u8], table: &mut [u32], out: &mut [u8]) -> Result<Made, Refused> {
     for _ in 1..run.times {
-        once(run, text, table, out);
+        let _ = once(run, text, table, out);
     }
     once(run, text, table, out)
 }
@@ -78,7 +88,7 @@ fn answered(
     out: &mut [u8],
 ) -> io::Result<usize> {
     match repeated(run, text, table, out) {
-        Outcome::Words(n) => {
+        Ok(Made::Words(n)) => {
             if run.times == 0 {
                 print_words(to, table, n)?;
             } else {
@@ -86,7 +96,7 @@ fn answered(
             }
             Ok(n)
         }
-        Outcome::Bytes(n) => {
+        Ok(Made::Bytes(n)) => {
             if run.times == 0 {
                 print_bytes(to, out, n)?;
             } else {
@@ -94,7 +104,7 @@ fn answered(
             }
             Ok(n)
         }
-        Outcome::Refused(number, place) => {
+        Err(Refused { number, place }) => {
             print_refusal(to, number, place)?;
             Ok(0)
         }
