@@ -1,148 +1,183 @@
 -- The loop of `fold`: each turn puts one layer over the operand.
-use Prim.Native.Nat.{ℕ, ◌+◌, ◌*◌, ◌≤◌, ◌<◌}
-use native.Mathlib.Omega.{arith}
-use mathlib.Core.Path.{◌≡◌, refl, ap, subst}
-use mathlib.Core.List.{List, []}
-use lib.ListN.{length, get_or}
-use Rattle.tree.specs.Ast.{Expr, Span}
-use Rattle.lexing.specs.Answer.{Answer, ok}
-use Rattle.parsing.specs.Arena.{Holds, Kept, Builds, most_arena}
-use Rattle.parsing.specs.Code.{Layer, unary_layer, binary_layer, layered, fold_layers, Links, Folds, Foldable, FoldedAt, LayerNoted}
+use Rattle.std.proofs.Common.{ℕ, ◌+◌, ◌<◌, ◌≡◌, ◌∙◌, refl, sym, ap, List, [], ◌∷◌, length, get_or, arith}
+use Rattle.tree.specs.Ast.{Span, Expr, Operator}
+use Rattle.tree.specs.Clash.{impossible}
+use Rattle.tree.specs.Words.{operator_word}
 use Rattle.grammar.specs.Reading.{tree_words}
-use Rattle.parsing.specs.declared.arena.Built.{Built}
-use Rattle.parsing.specs.declared.arena.Built.TheVariants.{Ok, None, Refused}
-use Rattle.parsing.proofs.Laws.{kept_refl, kept_next, node_kept, holds_kept, builds-node}
+use Rattle.parsing.specs.Arena.{Holds, outside}
+use Rattle.parsing.specs.Contract.{Ready, Later, Standing, Pushed}
+use Rattle.parsing.specs.Code.{Layer, unary_layer, binary_layer, layered, fold_layers, Links, Foldable, Folded, Layered}
+use Rattle.parsing.specs.declared.arena.Node.{Node}
+use Rattle.parsing.specs.declared.arena.Node.TheVariants.{Empty, Unary, Binary}
+use Rattle.parsing.specs.declared.parser.Parser.{Parser}
+use Rattle.parsing.proofs.Places.{later-same, later-next, standing-on, made-standing, unary-holds, binary-holds}
 
 -- the layers that are left, over the operand e, give the whole tree of ls and t
-pub record Rest (arena : List ℕ) (free link e top : ℕ) (ls : List Layer) (t : Expr Span) : Type 0 where
+pub record Rest (p s : Parser) (link e : ℕ) (ls : List Layer) (t : Expr Span) : Type 0 where
   pub layers : List Layer
   pub tree : Expr Span
-  pub links : Links arena link layers
-  pub holds : Holds arena e (tree_words tree)
-  pub links-below : link + 4 ≤ free
-  pub node-below : e + 4 ≤ top
-  pub above : free ≤ top
+  pub links : Links p.arena.now link layers
+  pub standing : Standing s e (tree_words tree)
   pub whole : fold_layers layers tree ≡ fold_layers ls t
-  pub count : top + 4 * length layers ≡ free + 4 * length ls
+  pub count : s.top + length layers ≡ p.top + length ls
 
-pub record Folding (first-arena : List ℕ) (free first last : ℕ) (arena : List ℕ) (e link top : ℕ) : Type 0 where
-  pub kept : Kept first-arena arena free
-  pub rest : (ls : List Layer) (t : Expr Span) → Folds first-arena free first last ls t → Rest arena free link e top ls t
+pub record Folding (p : Parser) (first last : ℕ) (s : Parser) (link e : ℕ) : Type 0 where
+  pub later : Later p s
+  pub at_same : s.at ≡ p.at
+  pub link_below : link < p.top
+  pub ready : Ready s 0
+  pub rest : (ls : List Layer) (t : Expr Span) → Links p.arena.now first ls → Standing p last (tree_words t) → Rest p s link e ls t
 
-pub folding-start : {arena : List ℕ} {free first last : ℕ} → Folding arena free first last arena last first free
-folding-start =
+-- a link is a node over an operator, or there is none
+pub data Linking (arena : List Node) (link : ℕ) (ls : List Layer) : Type 0 where
+  none : link ≡ 0 → ls ≡ [] → Linking arena link ls
+  unary : (op : Operator) (z : ℕ) (rest : List Layer) → get_or arena link outside ≡ Unary (operator_word op) z → z < link → Links arena z rest
+      → ls ≡ unary_layer op ∷ rest → Linking arena link ls
+  binary : (op : Operator) (a : Expr Span) (y z : ℕ) (rest : List Layer) → get_or arena link outside ≡ Binary (operator_word op) y z → z < link → y < link
+      → Holds arena y (tree_words a) → Links arena z rest → ls ≡ binary_layer op a ∷ rest → Linking arena link ls
+
+pub linking : {arena : List Node} {link : ℕ} {ls : List Layer} → Links arena link ls → Linking arena link ls
+linking Links.ends = none refl refl
+linking (Links.unary_link e l r) = unary _ _ _ e l r refl
+linking (Links.binary_link e l m h r) = binary _ _ _ _ _ e l m h r refl
+
+pub folding-start : {p : Parser} {first last : ℕ} → Foldable first last p → Folding p first last p first last
+folding-start f =
     record {
-      kept = kept_refl;
-      rest = λ ls t f.
-          record {
-            layers = ls;
-            tree = t;
-            links = f.links;
-            holds = f.holds;
-            links-below = f.links-below;
-            node-below = f.node-below;
-            above = omega arith;
-            whole = refl;
-            count = refl;
-          };
+      later = later-same;
+      at_same = refl;
+      link_below = f.link_below;
+      ready = record {
+        short = f.ready.short;
+        small = f.ready.small;
+        inside = f.ready.inside;
+        above = f.ready.above;
+        room = omega (arith, f.ready.room);
+        based = f.ready.based;
+      };
+      rest = λ ls t k s. record { layers = ls; tree = t; links = k; standing = s; whole = refl; count = refl };
     }
 
--- what a turn reads and writes lies in the arena, and the link falls
-pub record Turn (arena : List ℕ) (link top : ℕ) : Type 0 where
-  pub link-inside : link + 4 ≤ length arena
-  pub top-inside : top + 4 ≤ length arena
-  pub small : length arena ≤ most_arena
-  pub falls : get_or arena (link + 3) 0 < link
+-- a turn reads a link that falls, and there is room for its node
+pub record Turn (s : Parser) (link before : ℕ) : Type 0 where
+  pub falls : before < link
+  pub room : Ready s 1
 
-pub links-more : {arena : List ℕ} {link : ℕ} {ls : List Layer} → Links arena link ls → (link ≡ 0 → ⊥) → (1 ≤ length ls) × (get_or arena (link + 3) 0 < link)
-links-more Links.ends z = absurd (z refl)
-links-more (Links.unary_link q l r) z = (omega arith, omega (arith, q.third))
-links-more (Links.binary_link q l b h r) z = (omega arith, omega (arith, q.third))
+module _ {p s : Parser} {first last link e : ℕ} (o : Folding p first last s link e) where
+  -- a link is not the empty run
+  filled : {n : Node} → get_or s.arena.now link outside ≡ n → (n ≡ Empty → ⊥) → link ≡ 0 → ⊥
+  filled h k z = k (sym h ∙ ap (λ i. get_or s.arena.now i outside) z ∙ o.ready.based.empty-run)
 
-pub links-none : {arena : List ℕ} {link : ℕ} {ls : List Layer} → Links arena link ls → link ≡ 0 → ls ≡ []
-links-none Links.ends z = refl
-links-none (Links.unary_link q l r) z = absurd (omega arith)
-links-none (Links.binary_link q l b h r) z = absurd (omega arith)
+  was : get_or s.arena.now link outside ≡ get_or p.arena.now link outside
+  was = o.later.kept.below link o.link_below
 
-pub links-kept : {arena later : List ℕ} {top link : ℕ} {ls : List Layer} → Kept arena later top → link + 4 ≤ top → Links arena link ls → Links later link ls
-links-kept p l Links.ends = Links.ends
-links-kept p l (Links.unary_link q m r) = Links.unary_link (node_kept p l q) m (links-kept p (omega arith) r)
-links-kept p l (Links.binary_link q m b h r) = Links.binary_link (node_kept p l q) m b (holds_kept p (omega arith) h) (links-kept p (omega arith) r)
+  roomy : (f : Foldable first last p) (n : ℕ) → s.top + (1 + n) ≡ p.top + length f.layers → Ready s 1
+  roomy f n h =
+      let r = o.ready in
+      record {
+        short = r.short;
+        small = r.small;
+        inside = r.inside;
+        above = r.above;
+        room = omega (arith, f.ready.room, ap length o.later.text_same, o.later.kept.length-kept, o.at_same);
+        based = r.based;
+      }
 
--- one layer
-layer-next : {arena later : List ℕ} {free e top : ℕ} {ls : List Layer} {t : Expr Span} {link : ℕ} {layers : List Layer} (tree : Expr Span)
-    → Links arena link layers → (link ≡ 0 → ⊥) → Holds arena e (tree_words tree) → link + 4 ≤ free → e + 4 ≤ top → free ≤ top
-    → fold_layers layers tree ≡ fold_layers ls t → top + 4 * length layers ≡ free + 4 * length ls
-    → LayerNoted arena later top (get_or arena link 0) (get_or arena (link + 1) 0) (get_or arena (link + 2) 0) e
-    → Rest later free (get_or arena (link + 3) 0) top (top + 4) ls t
-layer-next tree Links.ends z h l b a w c n = absurd (z refl)
-layer-next {top} tree (Links.unary_link {op} {ls = more} q m r) z h l b a w c n =
-    rw q.third
-    (record {
-      layers = more;
-      tree = layered (unary_layer op) tree;
-      links = links-kept n.kept (omega arith) r;
-      holds = Holds.unary (rw q.first at (n.one-operand q.tagged)) b (holds_kept n.kept b h);
-      links-below = omega arith;
-      node-below = omega arith;
-      above = omega arith;
-      whole = w;
-      count = omega arith;
-    })
-layer-next {top} tree (Links.binary_link {op} {a = operand} {ls = more} q m y k r) z h l b a w c n =
-    rw q.third
-    (record {
-      layers = more;
-      tree = layered (binary_layer op operand) tree;
-      links = links-kept n.kept (omega arith) r;
-      holds =
-          Holds.binary (rw (q.first, q.second) at (n.two_operands (λ e. omega (arith, q.tagged)))) (omega arith) b
-          (holds_kept n.kept (omega arith) k) (holds_kept n.kept b h);
-      links-below = omega arith;
-      node-below = omega arith;
-      above = omega arith;
-      whole = w;
-      count = omega arith;
-    })
+  module _ {op before : ℕ} (h : get_or s.arena.now link outside ≡ Unary op before) where
+    pub unary-turn : Foldable first last p → Turn s link before
+    unary-turn f = let r = o.rest f.layers f.tree f.links f.standing in by-link r.layers (linking r.links) r.count
+      where
+        by-link : (ls : List Layer) → Linking p.arena.now link ls → s.top + length ls ≡ p.top + length f.layers → Turn s link before
+        by-link ls (none z k) c = absurd (filled h (λ e. impossible cc) z)
+        by-link ls (unary op₁ z rest k l m d) c =
+            let q : z ≡ before = let g = sym k ∙ sym was ∙ h in cc in
+            record { falls = omega arith; room = roomy f (length rest) (omega (arith, ap length d)) }
+        by-link ls (binary op₁ a y z rest k l m n i d) c = let g = sym k ∙ sym was ∙ h in impossible cc
 
-module _ {start : List ℕ} {free first last : ℕ} {arena : List ℕ} {e link top : ℕ} (o : Folding start free first last arena e link top) where
-  module _ (f : Foldable start free first last) (z : link ≡ 0 → ⊥) where
-    pub turn : Turn arena link top
-    turn =
-        let r = o.rest f.layers f.tree f.folds in
-        let (m, l) = links-more r.links z in
-        let k = o.kept.length-kept in
+    pub unary-next : {q : Parser} {n : ℕ} → Turn s link before → Pushed (Unary op e) s q n → Folding p first last q before n
+    unary-next {q} {n} u m =
         record {
-          link-inside = omega (arith, r, f.folds);
-          top-inside = omega (arith, r, f.folds);
-          small = omega (arith, f.folds);
-          falls = l;
+          later = later-next o.later m.made.later;
+          at_same = m.made.at_same ∙ o.at_same;
+          link_below = omega (arith, u.falls, o.link_below);
+          ready = m.made.ready;
+          rest = λ ls t k st. let r = o.rest ls t k st in by-link ls t r.tree r.layers (linking r.links) r.standing r.whole r.count;
         }
+      where
+        by-link : (ls : List Layer) (t tree : Expr Span) (layers : List Layer) → Linking p.arena.now link layers → Standing s e (tree_words tree)
+            → fold_layers layers tree ≡ fold_layers ls t → s.top + length layers ≡ p.top + length ls → Rest p q before n ls t
+        by-link ls t tree layers (none z k) st w c = absurd (filled h (λ e. impossible cc) z)
+        by-link ls t tree layers (unary op₁ z rest k l i d) st w c =
+            let g = sym k ∙ sym was ∙ h in
+            let x : z ≡ before = cc in
+            let y : op ≡ operator_word op₁ = cc in
+            record {
+              layers = rest;
+              tree = layered (unary_layer op₁) tree;
+              links = rw x at i;
+              standing = made-standing m.made (unary-holds (rw y at m) st);
+              whole = rw d at w;
+              count = omega (arith, c, ap length d, m.made.top);
+            }
+        by-link ls t tree layers (binary op₁ a y z rest k l i j v d) st w c = let g = sym k ∙ sym was ∙ h in impossible cc
 
-    pub folding-next : {later : List ℕ} → LayerNoted arena later top (get_or arena link 0) (get_or arena (link + 1) 0) (get_or arena (link + 2) 0) e
-        → Folding start free first last later top (get_or arena (link + 3) 0) (top + 4)
-    folding-next n =
+  module _ {op a before : ℕ} (h : get_or s.arena.now link outside ≡ Binary op a before) where
+    pub binary-turn : Foldable first last p → Turn s link before
+    binary-turn f = let r = o.rest f.layers f.tree f.links f.standing in by-link r.layers (linking r.links) r.count
+      where
+        by-link : (ls : List Layer) → Linking p.arena.now link ls → s.top + length ls ≡ p.top + length f.layers → Turn s link before
+        by-link ls (none z k) c = absurd (filled h (λ e. impossible cc) z)
+        by-link ls (unary op₁ z rest k l m d) c = let g = sym k ∙ sym was ∙ h in impossible cc
+        by-link ls (binary op₁ x y z rest k l m n i d) c =
+            let q : z ≡ before = let g = sym k ∙ sym was ∙ h in cc in
+            record { falls = omega arith; room = roomy f (length rest) (omega (arith, ap length d)) }
+
+    pub binary-next : {q : Parser} {n : ℕ} → Turn s link before → Pushed (Binary op a e) s q n → Folding p first last q before n
+    binary-next {q} {n} u m =
         record {
-          kept = kept_next (o.rest f.layers f.tree f.folds).above o.kept n.kept;
-          rest = λ ls t g.
-              let r = o.rest ls t g in
-              layer-next r.tree r.links z r.holds r.links-below r.node-below r.above r.whole r.count n;
+          later = later-next o.later m.made.later;
+          at_same = m.made.at_same ∙ o.at_same;
+          link_below = omega (arith, u.falls, o.link_below);
+          ready = m.made.ready;
+          rest = λ ls t k st. let r = o.rest ls t k st in by-link ls t r.tree r.layers (linking r.links) r.standing r.whole r.count;
         }
+      where
+        by-link : (ls : List Layer) (t tree : Expr Span) (layers : List Layer) → Linking p.arena.now link layers → Standing s e (tree_words tree)
+            → fold_layers layers tree ≡ fold_layers ls t → s.top + length layers ≡ p.top + length ls → Rest p q before n ls t
+        by-link ls t tree layers (none z k) st w c = absurd (filled h (λ e. impossible cc) z)
+        by-link ls t tree layers (unary op₁ z rest k l i d) st w c = let g = sym k ∙ sym was ∙ h in impossible cc
+        by-link ls t tree layers (binary op₁ b y z rest k l i v j d) st w c =
+            let g = sym k ∙ sym was ∙ h in
+            let x : z ≡ before = cc in
+            let y₁ : op ≡ operator_word op₁ = cc in
+            let y₂ : a ≡ y = cc in
+            let first : Standing p y (tree_words b) = record { holds = v; below = omega (arith, o.link_below) } in
+            record {
+              layers = rest;
+              tree = layered (binary_layer op₁ b) tree;
+              links = rw x at j;
+              standing = made-standing m.made (binary-holds (standing-on o.later first) st (rw (y₁, y₂) at m));
+              whole = rw d at w;
+              count = omega (arith, c, ap length d, m.made.top);
+            }
 
-  pub folding-end : link ≡ 0 → (next : ℕ) (ls : List Layer) (t : Expr Span) → Folds start free first last ls t → FoldedAt arena free ls t next (Ok e next top)
-  folding-end z next ls t g =
-      let r = o.rest ls t g in
-      let n : r.layers ≡ [] = links-none r.links z in
-      let w : r.tree ≡ fold_layers ls t = subst (λ l. fold_layers l r.tree ≡ fold_layers ls t) n r.whole in
-      (rw w at r.holds, refl, omega (arith, r.count, ap length n), r.node-below)
-
--- what `fold` gives, for an answer that has all layers over the last operand
-pub folded-builds : {text before arena later : List ℕ} {from free least at top : ℕ} (ls : List Layer) (e : Expr Span) {answer : Answer (Expr Span)} (r : Built)
-    → answer ≡ ok (fold_layers ls e) at → Kept before arena free → Kept arena later top → FoldedAt later top ls e at r → free ≤ top → from + least ≤ at
-    → at ≤ length text → top + 4 * length ls + 8 * from ≤ free + 8 * at → Builds tree_words text before later from free least 0 answer r
-folded-builds ls e (Ok node next later-top) a p q (h, n, t, b) g o i w =
-    rw a
-    (builds-node (ap (λ next. Ok node next later-top) n) (kept_next g p q) h
-    (record { node-below = b; progress = o; next-inside = i; grows = omega (arith, t); within = omega (arith, t) }))
-folded-builds ls e None a p q f g o i w = absurd f
-folded-builds ls e (Refused number place) a p q f g o i w = absurd f
+  -- a link that is no operator is none
+  pub folding-end : ((op before : ℕ) → get_or s.arena.now link outside ≡ Unary op before → ⊥)
+      → ((op a before : ℕ) → get_or s.arena.now link outside ≡ Binary op a before → ⊥) → Foldable first last p → Folded first last p s e
+  folding-end u b f =
+      let r = o.rest f.layers f.tree f.links f.standing in
+      record {
+        later = o.later;
+        at_same = o.at_same;
+        ready = o.ready;
+        below = r.standing.below;
+        layered = λ ls t k st. let r = o.rest ls t k st in by-link ls t r.tree r.layers (linking r.links) r.standing r.whole r.count;
+      }
+    where
+      by-link : (ls : List Layer) (t tree : Expr Span) (layers : List Layer) → Linking p.arena.now link layers → Standing s e (tree_words tree)
+          → fold_layers layers tree ≡ fold_layers ls t → s.top + length layers ≡ p.top + length ls → Layered ls t p s e
+      by-link ls t tree layers (none z k) st w c =
+          let x : tree ≡ fold_layers ls t = rw k at w in
+          record { holds = rw x at st.holds; top = omega (arith, ap length k) }
+      by-link ls t tree layers (unary op z rest k l i d) st w c = absurd (u _ _ (was ∙ k))
+      by-link ls t tree layers (binary op a y z rest k l i v j d) st w c = absurd (b _ _ _ (was ∙ k))

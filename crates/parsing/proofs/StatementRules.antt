@@ -1,34 +1,28 @@
 -- The statement rules by what stands at a place: no level left, a word, a name, or neither.
-use Prim.Native.Nat.{ℕ, zero, suc, ◌-◌, ◌<◌}
+use Rattle.std.proofs.Common.{ℕ, zero, suc, ◌-◌, ◌≤◌, ◌<◌, ◌≡◌, ◌∙◌, refl, sym, ap, Bool, true, false, List, [], ◌∷◌, ◌++◌, take, drop, arith}
+use mathlib.Core.Path.{fun_ext}
+use Rattle.std.proofs.Math.Option.{Option, none, some}
+use Rattle.std.proofs.Math.Nat.{le_refl}
 use Prim.Native.String.{String}
-use native.Mathlib.Omega.{arith}
-use mathlib.Core.Path.{◌≡◌, refl, sym, ap, ◌∙◌}
-use mathlib.Core.Bool.{Bool, true, false}
-use mathlib.Core.List.{List, [], ◌∷◌}
-use mathlib.Core.Option.{Option, none, some}
-use lib.ListN.{take, drop}
-use Rattle.lexing.specs.Answer.{Answer, ok, refused, pick}
+use mathlib.Core.Bool.{◌||◌}
+use Rattle.lexing.specs.Answer.{Answer, ok, refused, pick, moved}
 use Rattle.lexing.specs.Bytes.{starts_with, same_bytes, can_start_identifier_char, bytes}
-use Rattle.lexing.specs.Tokens.{identifier_length, sign}
+use Rattle.lexing.specs.BlankLaws.{W-closed}
+use Rattle.lexing.specs.Tokens.{closed, lexeme, identifier_length, sign}
 use Rattle.lexing.specs.TokenLaws.{starts_with-true}
-use Rattle.tree.specs.Ast.{Span, Expr, Stmt, Block, Loop}
-use Rattle.grammar.specs.Steps.{Reader, after, need, must, mapped, ◌or◌, T, Sym, sign_at, parse_name}
-use Rattle.grammar.specs.Rules.{parse_expr, opens_expr}
-use Rattle.grammar.specs.Statements.{Gallery, gallery, statements, aexprs, rep, rep_till, atomic, parse_stmt, parse_block, parse_loop, parse_if_cont, parse_a_expr, parse_a_expr_seq, after_assign, after_label, after_call}
-use Rattle.parsing.specs.Arena.{Stopped}
-use Rattle.parsing.specs.Code.{Worded, turns, inner, opened}
-use Rattle.parsing.specs.Leads.{loop_body, classed, leads_before, leads_after, leads, lead_of, lead_rule}
-use Rattle.parsing.specs.Statements.{named_stmt}
+use Rattle.tree.specs.Ast.{Span, Stmt, Block, Loop}
+use Rattle.grammar.specs.Steps.{after, need, must, mapped, ◌or◌, T, Sym, sign_at, parse_name}
+use Rattle.grammar.specs.Statements.{Gallery, gallery, statements, aexprs, rep, rep_till, atomic, mark, word_of, too_deep, simple_words, statement_words, parse_stmt, parse_block, parse_loop, parse_a_expr, parse_a_expr_seq, parse_if_cont, after_assign, after_label, after_call}
+use Rattle.parsing.specs.Code.{turns, opened}
+use Rattle.parsing.specs.Leads.{leads_before, leads_after, leads, lead_of}
+use Rattle.parsing.specs.Contract.{needed}
+use Rattle.parsing.specs.Statements.{loop_body, named_stmt, scope_stmt}
 use Rattle.parsing.specs.declared.lead.Lead.{Lead}
 use Rattle.parsing.specs.declared.lead.Lead.TheVariants.{Choose, If, Name}
-use Rattle.parsing.specs.declared.step.Word.{Word}
-use Rattle.parsing.specs.declared.arena.Built.{Built}
-use Rattle.parsing.specs.declared.arena.Built.TheVariants.{Ok, None, Refused}
-use Rattle.parsing.proofs.Laws.{after-ok, after_none, after-refused}
-use Rattle.parsing.proofs.Branches.{no-branch}
-use Rattle.parsing.proofs.Identifiers.{no_name, refused-some, blanks-refused, identifier-some}
-use Rattle.parsing.proofs.WordTables.{found, or_else, classed-found, listed, here, branches, chosen, branches-chosen, here-is, blanks-passed}
-use Rattle.parsing.proofs.StatementBranches.{lead_least, lead-keeps}
+use Rattle.parsing.proofs.Laws.{after-ok, after-none, after-refused}
+use Rattle.parsing.proofs.StatementEquations.{must-after, must-first, ok-keeps, atomic-none, atomic-refused, atomic-named}
+use Rattle.parsing.proofs.StatementWords.{found, or_else, classed-found, none_found, any_word, any_found, any-listed, listed, here, blanks, words-tested, branches, chosen, branches-chosen, no_name, blanks-passed, blanks-refused, no-branch}
+use Rattle.parsing.proofs.StatementBranches.{lead_rule, lead_least, lead-keeps, loop-keeps}
 
 -- ---- levels
 
@@ -36,25 +30,18 @@ use Rattle.parsing.proofs.StatementBranches.{lead_least, lead-keeps}
 abbrev pub block_body : List ℕ → ℕ → ℕ → ℕ → Answer (Stmt Span)
 block_body text zero at at₁ = refused 3 at
 block_body text (suc d) at at₁ =
-    must at₁ (mapped Block (rep_till statements (turns text) (parse_stmt text (turns text) (opened text d)) (Sym text "}") at₁))
+    must at₁ (mapped Block (rep_till statements (turns text) (parse_stmt text (turns text) (opened d text)) (Sym text "}") at₁))
 
 -- a block and a loop begin with their token
-pub block-rule : (text : List ℕ) (depth at : ℕ) → (opened text depth).block at ≡ after (Sym text "{" at) Answer.none (λ _ at₁. block_body text depth at at₁)
+pub block-rule : (text : List ℕ) (depth at : ℕ) → (opened depth text).block at ≡ after (Sym text "{" at) Answer.none (λ _ at₁. block_body text depth at at₁)
 unfolding gallery parse_block
 block-rule text zero at = refl
 block-rule text (suc d) at = refl
 
-pub loop_rule : (text : List ℕ) (depth at : ℕ) → (opened text depth).loop at ≡ after (T text "loop" at) Answer.none (λ _ at₁. loop_body text depth at at₁)
+pub loop_rule : (text : List ℕ) (depth at : ℕ) → (opened depth text).loop at ≡ after (T text "loop" at) Answer.none (λ _ at₁. loop_body depth at text at₁)
 unfolding gallery parse_loop
 loop_rule text zero at = refl
 loop_rule text (suc d) at = refl
-
--- with no level left they are refused after it
-pub block-deep : (text : List ℕ) {depth : ℕ} (at at₁ : ℕ) → depth ≡ 0 → block_body text depth at at₁ ≡ refused 3 at
-block-deep text at at₁ e = rw e refl
-
-pub loop-deep : (text : List ℕ) {depth : ℕ} (at at₁ : ℕ) → depth ≡ 0 → loop_body text depth at at₁ ≡ refused 3 at
-loop-deep text at at₁ e = rw e refl
 
 -- a sequence and what must follow it, made into something that must follow
 list-made : {A B : Type 0} (f : A → B) (at : ℕ) (x : Answer A) (y : ℕ → Answer ℕ)
@@ -70,49 +57,68 @@ list-made f at (ok l next) y = ended (y next)
 list-made f at Answer.none y = refl
 list-made f at (refused number place) y = refl
 
--- with a level left, what each rule opens
-pub block-opens : (text : List ℕ) (depth at at₁ : ℕ) → (depth ≡ 0 → ⊥)
-    → block_body text depth at at₁
-    ≡ need at₁ (rep statements (turns text) (parse_stmt text (turns text) (opened text (depth - 1))) at₁)
-    (λ l at₂. need at₂ (Sym text "}" at₂) (λ _ at₃. ok (Block l) at₃))
-unfolding rep_till
-block-opens text zero at at₁ h = absurd (h refl)
-block-opens text (suc d) at at₁ h = let e : suc d - 1 ≡ d = omega arith in rw e (list-made Block at₁ _ (Sym text "}"))
+module _ (text : List ℕ) (depth at : ℕ) where
+  -- a block with no level left, and with one
+  pub block-deep : depth ≡ 0 → (opened depth text).block at ≡ after (Sym text "{" at) Answer.none (λ _ at₁. refused 3 at)
+  block-deep e = block-rule text depth at ∙ rw e refl
 
-pub loop-opens : (text : List ℕ) (depth at at₁ : ℕ) → (depth ≡ 0 → ⊥)
-    → loop_body text depth at at₁
-    ≡ need at₁ (rep aexprs (turns text) (parse_a_expr text (turns text) (opened text (depth - 1)) (bytes "invariant")) at₁)
-    (λ is at₂. must at₂ (mapped (Loop is) ((opened text (depth - 1)).block at₂)))
+  pub block-opens : (depth ≡ 0 → ⊥)
+      → (opened depth text).block at
+      ≡ after (Sym text "{" at) Answer.none
+      (λ _ at₁. need at₁ (rep statements (turns text) (parse_stmt text (turns text) (opened (depth - 1) text)) at₁)
+      (λ l at₂. need at₂ (Sym text "}" at₂) (λ _ at₃. ok (Block l) at₃)))
+  unfolding rep_till
+  block-opens h = block-rule text depth at ∙ by-level depth h
+    where
+      by-level : (d : ℕ) → (d ≡ 0 → ⊥)
+          → after (Sym text "{" at) Answer.none (λ _ at₁. block_body text d at at₁)
+          ≡ after (Sym text "{" at) Answer.none
+          (λ _ at₁. need at₁ (rep statements (turns text) (parse_stmt text (turns text) (opened (d - 1) text)) at₁)
+          (λ l at₂. need at₂ (Sym text "}" at₂) (λ _ at₃. ok (Block l) at₃)))
+      by-level zero h = absurd (h refl)
+      by-level (suc d) h =
+          let e : suc d - 1 ≡ d = omega arith in
+          rw e (ap (after (Sym text "{" at) Answer.none) (fun_ext (λ _. fun_ext (λ at₁. list-made Block at₁ _ (Sym text "}")))))
+
+  -- the other rules with a level left
+  pub cont-opens : (depth ≡ 0 → ⊥) → (opened depth text).if_cont at ≡ parse_if_cont text (turns text) (opened (depth - 1) text) at
+  unfolding gallery
+  cont-opens h = by-level depth h
+    where
+      by-level : (d : ℕ) → (d ≡ 0 → ⊥) → (opened d text).if_cont at ≡ parse_if_cont text (turns text) (opened (d - 1) text) at
+      by-level zero h = absurd (h refl)
+      by-level (suc d) h = let e : suc d - 1 ≡ d = omega arith in rw e refl
+
+  pub stmt-opens : (depth ≡ 0 → ⊥) → (opened depth text).stmt at ≡ parse_stmt text (turns text) (opened (depth - 1) text) at
+  unfolding gallery
+  stmt-opens h = by-level depth h
+    where
+      by-level : (d : ℕ) → (d ≡ 0 → ⊥) → (opened d text).stmt at ≡ parse_stmt text (turns text) (opened (d - 1) text) at
+      by-level zero h = absurd (h refl)
+      by-level (suc d) h = let e : suc d - 1 ≡ d = omega arith in rw e refl
+
+-- a block or a loop, which must follow
+pub scope-rule : (depth : ℕ) (text : List ℕ) (at : ℕ)
+    → needed (scope_stmt depth) text at
+    ≡ after ((opened depth text).block at) (need at (T text "loop" at) (λ _ at₁. loop_body depth at text at₁)) (λ s at₁. ok s at₁)
+scope-rule depth text at =
+    ap (λ r. must at ((opened depth text).block at or r)) (loop_rule text depth at)
+    ∙ must-after at ((opened depth text).block at) (after (T text "loop" at) Answer.none (λ _ at₁. loop_body depth at text at₁)) (λ s at₁. ok s at₁) (λ s at₁. ok-keeps _ _)
+    ∙ ap (λ r. after ((opened depth text).block at) r (λ s at₁. ok s at₁)) (must-first at (T text "loop" at) _ (λ _ at₁. loop-keeps depth at text at₁))
+
+-- a loop's body
+pub loop-opens : (depth start : ℕ) (text : List ℕ) (at : ℕ) → (depth ≡ 0 → ⊥)
+    → loop_body depth start text at
+    ≡ need at (rep aexprs (turns text) (parse_a_expr text (turns text) (opened (depth - 1) text) (bytes "invariant")) at)
+    (λ is at₁. must at₁ (mapped (Loop is) ((opened (depth - 1) text).block at₁)))
 unfolding parse_a_expr_seq
-loop-opens text zero at at₁ h = absurd (h refl)
-loop-opens text (suc d) at at₁ h = let e : suc d - 1 ≡ d = omega arith in rw e refl
-
-pub stmt-opens : (text : List ℕ) (depth at : ℕ) → (depth ≡ 0 → ⊥) → (opened text depth).stmt at ≡ parse_stmt text (turns text) (opened text (depth - 1)) at
-unfolding gallery
-stmt-opens text zero at h = absurd (h refl)
-stmt-opens text (suc d) at h = let e : suc d - 1 ≡ d = omega arith in rw e refl
-
-pub cont-opens : (text : List ℕ) (depth at : ℕ) → (depth ≡ 0 → ⊥) → (opened text depth).if_cont at ≡ parse_if_cont text (turns text) (opened text (depth - 1)) at
-unfolding gallery
-cont-opens text zero at h = absurd (h refl)
-cont-opens text (suc d) at h = let e : suc d - 1 ≡ d = omega arith in rw e refl
-
--- "if-cont" where no level is left, by what `leaf::too_deep` answers
-pub cont-deep : (text : List ℕ) (at : ℕ) (r : Built) → Stopped (inner text 0 at) r → Stopped ((opened text 0).if_cont at) r
-unfolding gallery parse_expr
-cont-deep text at r s = by-test (opens_expr (drop at text)) r s
-  where
-    by-test : (b : Bool) (r : Built) → Stopped {A = Expr Span} (pick b (refused 3 at) Answer.none) r → Stopped {A = Stmt Span} (pick b (refused 3 at) Answer.none) r
-    by-test b (Ok node next later) s = absurd s
-    by-test true None s = let z : ◌≡◌ {A = ℕ} 0 1 = cc in absurd (omega arith)
-    by-test false None s = refl
-    by-test true (Refused number place) s = cc
-    by-test false (Refused number place) s = let z : ◌≡◌ {A = ℕ} 0 1 = cc in absurd (omega arith)
+loop-opens zero start text at h = absurd (h refl)
+loop-opens (suc d) start text at h = let e : suc d - 1 ≡ d = omega arith in rw e refl
 
 -- ---- signs and words that can't stand
 
 -- no sign of one byte where an identifier stands
-pub no_sign : (text : List ℕ) (at b : ℕ) → can_start_identifier_char b ≡ false → 0 < identifier_length (drop at text) → sign_at text (b ∷ []) at ≡ Answer.none
+no_sign : (text : List ℕ) (at b : ℕ) → can_start_identifier_char b ≡ false → 0 < identifier_length (drop at text) → sign_at text (b ∷ []) at ≡ Answer.none
 unfolding sign identifier_length
 no_sign text at b n filled = by-test (starts_with (b ∷ []) (drop at text)) refl
   where
@@ -122,10 +128,9 @@ no_sign text at b n filled = by-test (starts_with (b ∷ []) (drop at text)) ref
         let z : 0 < 0 = rw (s, n) at filled in absurd (omega arith)
     by-test false p = rw p refl
 
--- and so no block
-pub no_block : (text : List ℕ) (depth at : ℕ) → 0 < identifier_length (drop at text) → (opened text depth).block at ≡ Answer.none
+no-brace : (text : List ℕ) (at : ℕ) → 0 < identifier_length (drop at text) → Sym text "{" at ≡ Answer.none
 unfolding can_start_identifier_char
-no_block text depth at filled = block-rule text depth at ∙ after_none _ _ (no_sign text at 123 refl filled)
+no-brace text at filled = no_sign text at 123 refl filled
 
 -- ---- choices
 
@@ -133,109 +138,166 @@ no_block text depth at filled = block-rule text depth at ∙ after_none _ _ (no_
 or_same : {A : Type 0} {r r₁ q q₁ : Answer A} → r ≡ r₁ → q ≡ q₁ → (r or q) ≡ (r₁ or q₁)
 or_same {r₁ = r₁} {q} e f = ap (λ r. r or q) e ∙ ap (λ q. r₁ or q) f
 
-pub or-none : {A : Type 0} {r : Answer A} (q : Answer A) → r ≡ Answer.none → (r or q) ≡ q
-or-none q e = after_none _ _ e
+or-none : {A : Type 0} {r : Answer A} (q : Answer A) → r ≡ Answer.none → (r or q) ≡ q
+or-none q e = after-none _ _ _ e
 
-pub none_or : {A : Type 0} (r : Answer A) {q : Answer A} → q ≡ Answer.none → (r or q) ≡ r
+none_or : {A : Type 0} (r : Answer A) {q : Answer A} → q ≡ Answer.none → (r or q) ≡ r
 unfolding after
 none_or (ok a next) e = refl
 none_or Answer.none e = e
 none_or (refused number place) e = refl
 
--- a name that was read, and its mark
-pub atomic-named : {A : Type 0} (text : List ℕ) (sign : Reader ℕ) (at : ℕ) {n : Span} {next : ℕ} (go : Span → ℕ → Answer A) → parse_name text at ≡ ok n next
-    → after (atomic text sign at) Answer.none go ≡ after (sign next) Answer.none (λ _ at₁. go n at₁)
-unfolding atomic after
-atomic-named {A} text sign at {n} {next} go e = rw e (marked (sign next))
-  where
-    marked : (r : Answer ℕ) → after (mapped (λ _. n) r) Answer.none go ≡ after r Answer.none (λ _ at₁. go n at₁)
-    marked (ok v k) = refl
-    marked Answer.none = refl
-    marked (refused number place) = refl
-
--- no name, and one whose blanks are refused
-pub atomic-none : (text : List ℕ) (sign : Reader ℕ) (at : ℕ) → parse_name text at ≡ Answer.none → atomic text sign at ≡ Answer.none
-unfolding atomic
-atomic-none text sign at e = after_none _ _ e
-
-pub atomic-refused : (text : List ℕ) (sign : Reader ℕ) (at : ℕ) {number place : ℕ} → parse_name text at ≡ refused number place
-    → atomic text sign at ≡ refused number place
-unfolding atomic
-atomic-refused text sign at e = after-refused _ _ e
-
 -- ---- parse_stmt
 
-module _ (text : List ℕ) (depth : ℕ) where
+module _ (text : List ℕ) (depth at : ℕ) where
   abbrev c : Gallery
-  c = opened text depth
+  c = opened depth text
 
-  -- after the word of `len` bytes at `at`
-  abbrev rule : ℕ → ℕ → Lead → ℕ → Answer (Stmt Span)
-  rule at len k next = lead_rule k text depth (record { at = at; len = len; next = next })
-
-  abbrev marked : ℕ → Answer (Stmt Span)
-  marked at =
+  abbrev marked : Answer (Stmt Span)
+  marked =
       after (atomic text (Sym text ":=") at) Answer.none (λ n at₁. after_assign text (turns text) c n at₁)
       or after (atomic text (Sym text ":") at) Answer.none (λ n at₁. after_label text (turns text) c n at₁)
       or after (atomic text (Sym text "(") at) Answer.none (λ n at₁. after_call text (turns text) c n at₁)
 
   -- the rule is the branches of the leads, with a block between them, and those of a name with its mark
-  module _ (at len : ℕ) where
+  module _ (n : Span) (starts : n.start ≡ at) where
     abbrev led : List (String × Lead) → Answer (Stmt Span) → Answer (Stmt Span)
-    led ls q = branches text at (rule at len) ls q
+    led ls q = branches text at (λ k at₁. lead_rule k depth n text at₁) ls q
 
     abbrev by-entry : Option Lead → Answer (Stmt Span) → Answer (Stmt Span)
-    by-entry o q = chosen text at (rule at len) o q
+    by-entry o q = chosen text at (λ k at₁. lead_rule k depth n text at₁) o q
 
-    stmt-branches : parse_stmt text (turns text) c at ≡ led leads_before (c.block at or led leads_after (marked at))
+    stmt-branches : parse_stmt text (turns text) c at ≡ led leads_before (c.block at or led leads_after marked)
     unfolding parse_stmt
-    stmt-branches = ap (λ r. led leads_before (c.block at or (led (("choose", Choose) ∷ ("if", If) ∷ []) (r or marked at)))) (loop_rule text depth at)
+    stmt-branches =
+        rw starts (ap (λ r. led leads_before (c.block at or (led (("choose", Choose) ∷ ("if", If) ∷ []) (r or marked)))) (loop_rule text depth at))
 
     by-lead : (ls : List (String × Lead)) → listed lead_least ls ≡ true → (q : Answer (Stmt Span)) → led ls q ≡ by-entry (found ls (here text at)) q
-    by-lead ls f q = branches-chosen text at (rule at len) lead_least (λ k l next. lead-keeps k l text depth _) ls f q
+    by-lead ls f q = branches-chosen text at (λ k at₁. lead_rule k depth n text at₁) lead_least (λ k l next. lead-keeps k l depth n text next) ls f q
 
     -- where an identifier stands no block does
-    word-branches : 0 < identifier_length (drop at text) → parse_stmt text (turns text) c at ≡ by-entry (found leads (here text at)) (marked at)
-    word-branches filled = stmt-branches ∙ ap (led leads_before) (or-none _ (no_block text depth at filled)) ∙ by-lead leads refl (marked at)
+    word-branches : 0 < identifier_length (drop at text) → parse_stmt text (turns text) c at ≡ by-entry (found leads (here text at)) marked
+    word-branches filled =
+        stmt-branches
+        ∙ ap (led leads_before) (or-none _ (block-rule text depth at ∙ after-none _ _ _ (no-brace text at filled)))
+        ∙ by-lead leads refl marked
 
-  -- where a word stands, the name of each marked branch is read
-  pub word-stmt : {w : Word} → Worded text w → {k : Lead} → k ≡ lead_of (take w.len (drop w.at text)) → parse_stmt text (turns text) c w.at ≡ lead_rule k text depth w
-  unfolding lead_of
-  word-stmt {w} d {k} e =
-      let at = w.at in
-      let n : marked at ≡ named_stmt text depth w =
-      or_same (atomic-named text (Sym text ":=") at _ d.said)
-      (or_same (atomic-named text (Sym text ":") at _ d.said) (atomic-named text (Sym text "(") at _ d.said)) in
-      let said : k ≡ or_else Name (found leads (here text at)) = e ∙ ap (classed leads Name) (sym (here-is d)) ∙ classed-found leads Name (here text at) in
-      word-branches at w.len (identifier-some d)
-      ∙ ap (by-entry at w.len (found leads (here text at))) n
-      ∙ by-found (found leads (here text at))
-      ∙ ap (λ k. lead_rule k text depth w) (sym said)
-    where
-      by-found : (o : Option Lead) → by-entry w.at w.len o (named_stmt text depth w) ≡ lead_rule (or_else Name o) text depth w
-      by-found none = refl
-      by-found (some k) = after-ok _ _ (blanks-passed d)
+  -- where a word of `len` bytes stands, the name of each marked branch is read
+  module _ {len : ℕ} (measured : identifier_length (drop at text) ≡ len) (filled : 1 ≤ len) where
+    pub word-stmt : (k : Lead) → k ≡ lead_of (take len (drop at text)) → {n : Span} {next : ℕ} → n.start ≡ at → parse_name text at ≡ ok n next
+        → parse_stmt text (turns text) c at ≡ lead_rule k depth n text next
+    unfolding lead_of
+    word-stmt k e {n} {next} starts d =
+        let m : marked ≡ named_stmt depth n text next =
+        or_same (atomic-named text (Sym text ":=") at _ d) (or_same (atomic-named text (Sym text ":") at _ d) (atomic-named text (Sym text "(") at _ d)) in
+        let said : k ≡ or_else Name (found leads (here text at)) = e ∙ ap (λ n. lead_of (take n (drop at text))) (sym measured) ∙ classed-found leads Name (here text at) in
+        word-branches n starts (omega (arith, measured))
+        ∙ ap (by-entry n starts (found leads (here text at))) m
+        ∙ by-found (found leads (here text at))
+        ∙ ap (λ k. lead_rule k depth n text next) (sym said)
+      where
+        by-found : (o : Option Lead) → by-entry n starts o (named_stmt depth n text next) ≡ lead_rule (or_else Name o) depth n text next
+        by-found none = refl
+        by-found (some k) = after-ok _ _ _ (blanks-passed text at d)
+
+    -- one whose blanks are refused is refused alike
+    pub stmt-refused : {number place : ℕ} → parse_name text at ≡ refused number place → parse_stmt text (turns text) c at ≡ refused number place
+    stmt-refused {number} {place} e = word-branches (record { start = at; len = len }) refl (omega (arith, measured)) ∙ by-found (found leads (here text at))
+      where
+        by-found : (o : Option Lead) → by-entry (record { start = at; len = len }) refl o marked ≡ refused number place
+        by-found none = after-refused _ _ _ (after-refused _ _ _ (atomic-refused text _ at e))
+        by-found (some k) = after-refused _ _ _ (blanks-refused text at e)
 
   -- one that begins with no word is a block
-  pub wordless-stmt : (at : ℕ) → identifier_length (drop at text) ≡ 0 → parse_stmt text (turns text) c at ≡ c.block at
+  pub wordless-stmt : identifier_length (drop at text) ≡ 0 → parse_stmt text (turns text) c at ≡ c.block at
   unfolding same_bytes
-  wordless-stmt at e =
+  wordless-stmt e =
+      let s : Span = record { start = at; len = 0 } in
       let h : here text at ≡ [] = rw e refl in
       let n : parse_name text at ≡ Answer.none = no_name text at e in
-      let no_lead : (ls : List (String × Lead)) → listed lead_least ls ≡ true → found ls [] ≡ none → (q : Answer (Stmt Span)) → led at 0 ls q ≡ q =
-      λ ls f g q. by-lead at 0 ls f q ∙ ap (λ b. by-entry at 0 (found ls b) q) h ∙ ap (λ o. by-entry at 0 o q) g in
-      stmt-branches at 0
+      let no_lead : (ls : List (String × Lead)) → listed lead_least ls ≡ true → found ls [] ≡ none → (q : Answer (Stmt Span)) → led s refl ls q ≡ q =
+      λ ls f g q. by-lead s refl ls f q ∙ ap (λ b. by-entry s refl (found ls b) q) h ∙ ap (λ o. by-entry s refl o q) g in
+      stmt-branches s refl
       ∙ no_lead leads_before refl refl _
       ∙ none_or (c.block at)
       (no_lead leads_after refl refl _
       ∙ no-branch _ _ (atomic-none text _ at n)
       ∙ no-branch _ _ (atomic-none text _ at n)
-      ∙ after_none _ _ (atomic-none text _ at n))
+      ∙ after-none _ _ _ (atomic-none text _ at n))
 
-  -- one whose word's blanks are refused is refused alike
-  pub stmt-refused : (at : ℕ) {number place : ℕ} → parse_name text at ≡ refused number place → parse_stmt text (turns text) c at ≡ refused number place
-  stmt-refused at {number} {place} e = word-branches at 0 (refused-some text at e) ∙ by-found (found leads (here text at))
-    where
-      by-found : (o : Option Lead) → by-entry at 0 o (marked at) ≡ refused number place
-      by-found none = after-refused _ _ (after-refused _ _ (atomic-refused text _ at e))
-      by-found (some k) = after-refused _ _ (blanks-refused text at e)
+-- ---- "stmt" where no level is left: a brace, a word of a statement, or a name with its mark
+
+-- one of the words of statements is one of the leads
+any_append : (ws vs : List String) (b : List ℕ) → any_word (ws ++ vs) b ≡ (any_word ws b || any_word vs b)
+any_append [] vs b = refl
+any_append (w ∷ ws) vs b = by-test (same_bytes b (bytes w)) (any_append ws vs b)
+  where
+    by-test : (t : Bool) → any_word (ws ++ vs) b ≡ (any_word ws b || any_word vs b) → (t || any_word (ws ++ vs) b) ≡ ((t || any_word ws b) || any_word vs b)
+    by-test true i = refl
+    by-test false i = i
+
+or_swap : (x y : Bool) → (x || y) ≡ (y || x)
+or_swap true true = refl
+or_swap true false = refl
+or_swap false true = refl
+or_swap false false = refl
+
+statement-words : (b : List ℕ) → any_word statement_words b ≡ any_found (found leads b)
+statement-words b =
+    let later : List String = "forall" ∷ "choose" ∷ "if" ∷ "loop" ∷ [] in
+    ap (λ t. same_bytes b (bytes "var") || (same_bytes b (bytes "val") || t))
+    (any_append later simple_words b ∙ or_swap (any_word later b) (any_word simple_words b) ∙ sym (any_append simple_words later b))
+    ∙ any-listed leads b
+
+module _ (text : List ℕ) (at : ℕ) where
+  deep-rule : (opened 0 text).stmt at
+      ≡ (too_deep text at (Sym text "{" at) or too_deep text at (word_of text statement_words at) or too_deep text at (atomic text (mark text) at))
+  unfolding gallery
+  deep-rule = refl
+
+  -- only a brace can stand where no identifier does
+  pub deep-wordless : identifier_length (drop at text) ≡ 0 → (opened 0 text).stmt at ≡ after (Sym text "{" at) Answer.none (λ _ _. refused 3 at)
+  unfolding same_bytes
+  deep-wordless e =
+      let h : here text at ≡ [] = rw e refl in
+      let n : word_of text statement_words at ≡ Answer.none = words-tested text at statement_words ∙ ap (λ b. pick (any_word statement_words b) (blanks text at) Answer.none) h in
+      deep-rule
+      ∙ none_or _ (or-none _ (after-none _ _ _ n) ∙ after-none _ _ _ (atomic-none text (mark text) at (no_name text at e)))
+
+  -- where an identifier stands, by its lead
+  module _ {len : ℕ} (measured : identifier_length (drop at text) ≡ len) (filled : 1 ≤ len) {k : Lead} (e : k ≡ lead_of (take len (drop at text))) where
+    said : k ≡ or_else Name (found leads (here text at))
+    unfolding lead_of
+    said = e ∙ ap (λ n. lead_of (take n (drop at text))) (sym measured) ∙ classed-found leads Name (here text at)
+
+    deep-words : (b : Bool) → any_found (found leads (here text at)) ≡ b
+        → (opened 0 text).stmt at ≡ (too_deep text at (pick b (blanks text at) Answer.none) or too_deep text at (atomic text (mark text) at))
+    deep-words b h =
+        deep-rule
+        ∙ or-none _ (after-none _ _ _ (no-brace text at (omega (arith, measured))))
+        ∙ ap (λ r. too_deep text at r or too_deep text at (atomic text (mark text) at))
+        (words-tested text at statement_words ∙ ap (λ t. pick t (blanks text at) Answer.none) (statement-words (here text at) ∙ h))
+
+    -- a word; its blanks play no part, as they are never refused
+    pub deep-lead : (k ≡ Name → ⊥) → (opened 0 text).stmt at ≡ refused 3 at
+    unfolding lexeme
+    deep-lead w =
+        deep-words true (by-entry (found leads (here text at)) said)
+        ∙ after-refused _ _ _ (after-ok _ _ _ (ap (λ r. moved at (closed 0 (identifier_length (drop at text)) r)) (W-closed (drop (identifier_length (drop at text)) (drop at text)))))
+      where
+        by-entry : (o : Option Lead) → k ≡ or_else Name o → any_found o ≡ true
+        by-entry none h = absurd (w h)
+        by-entry (some k) h = refl
+
+    -- a name
+    module _ (h : k ≡ Name) where
+      deep-name : (opened 0 text).stmt at ≡ too_deep text at (atomic text (mark text) at)
+      deep-name =
+          deep-words false (ap any_found (none_found lead_least leads Name (here text at) refl (le_refl 1) (sym h ∙ said ∙ sym (classed-found leads Name (here text at)))))
+          ∙ or-none _ (after-none _ _ _ refl)
+
+      pub deep-named : {n : Span} {next : ℕ} → parse_name text at ≡ ok n next → (opened 0 text).stmt at ≡ after (mark text next) Answer.none (λ _ _. refused 3 at)
+      deep-named d = deep-name ∙ atomic-named text (mark text) at _ d
+
+      pub deep-refused : {number place : ℕ} → parse_name text at ≡ refused number place → (opened 0 text).stmt at ≡ refused number place
+      deep-refused d = deep-name ∙ after-refused _ _ _ (atomic-refused text (mark text) at d)

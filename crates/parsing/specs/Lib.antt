@@ -1,9 +1,12 @@
--- What the code of the reading rules promises.
+-- What this library promises.
 pub mod Arena
+pub mod Contract
+pub mod Signs
 pub mod Code
-pub mod Statements
 pub mod Leads
-pub mod Declarations
 pub mod Parse
 pub mod ParseLaws
 pub mod Claims
+pub mod Declarations
+pub mod Expressions
+pub mod Statements

@@ -1,45 +1,58 @@
--- What the code of the statement rules promises, in terms of the rules.
-use Rattle.std.specs.Prelude.{ℕ, ◌+◌, ◌≤◌, Bool, List, ◌∷◌, length}
-use Rattle.std.proofs.Math.Option.{Option, none, some}
-use Rattle.tree.specs.Tags.{var_decl_tag}
-use Rattle.lexing.specs.Answer.{Answer, ok, level_too_deep}
+-- What the methods of the statement rules promise, in terms of the rules.
+use Rattle.std.specs.Prelude.{ℕ, zero, suc, ◌+◌, ◌*◌, ◌≤◌, ◌≡◌, List, ◌∷◌, Option, Some, None, Result, Ok, Err}
+use Rattle.lexing.specs.Answer.{Answer, ok, refused, level_too_deep}
 use Rattle.lexing.specs.Bytes.{bytes}
-use Rattle.parsing.specs.Code.{answer_of}
-use Rattle.parsing.specs.declared.step.Lexed.{Lexed}
-use Rattle.parsing.specs.declared.step.Lexed.TheVariants.{Ok as LexedOk, None as LexedNone, Refused as LexedRefused}
-use Rattle.tree.specs.Ast.{Span, Expr, Exprs, Variable, Stmt, Reinit, Exit, If, Stmts, Cases, AExpr, AExprs}
-use Rattle.tree.specs.Words.{option_words, variable_words, expr_words, exprs_words, stmt_words, stmts_words, cases_words, a_expr_words, a_exprs_words}
-use Rattle.grammar.specs.Steps.{Reader, after, need, must, mapped, ◌or◌, Sym, parse_name}
-use Rattle.grammar.specs.Rules.{Sequence, exprs, parse_optional_type, parse_nonempty_comma_delimited_seq}
-use Rattle.grammar.specs.Statements.{names, statements, cases, aexprs, parse_optional_auto_invariant, parse_init, parse_optional_exit_argument, parse_a_expr, parse_or, parse_case, parse_else, parse_stmt, after_assign, after_label, after_call}
+use Rattle.lexing.specs.CodeAnswers.{number}
+use Rattle.lexing.specs.declared.refusal.Refusal.{Refusal}
+use Rattle.tree.specs.Ast.{Span, Expr, Exprs, Stmt, Check, Assume, Reach, Assert, Probe, Return, Loop, Reinit, Exit, If, Stmts, Cases, AExpr, AExprs}
+use Rattle.tree.specs.Words.{expr_words, exprs_words, stmt_words, stmts_words, cases_words, a_expr_words, a_exprs_words}
+use Rattle.grammar.specs.Steps.{after, need, must, mapped, ◌or◌, Sym, parse_name}
+use Rattle.grammar.specs.Rules.{Sequence, exprs, parse_nonempty_comma_delimited_seq}
+use Rattle.grammar.specs.Statements.{names, statements, cases, aexprs, the_expr, parse_optional_exit_argument, parse_a_expr, parse_a_expr_seq, parse_or, parse_case, parse_stmt, parse_else, after_assign, after_label, after_call}
 use Rattle.grammar.specs.Declarations.{parse_when_clause}
-use Rattle.parsing.specs.Arena.{Run, Builds}
-use Rattle.parsing.specs.Code.{same, turns, inner, opened, span}
-use Rattle.parsing.specs.declared.arena.Built.{Built}
-use Rattle.parsing.specs.declared.arena.Built.TheVariants.{None, Refused}
-use Rattle.parsing.specs.declared.step.Word.{Word}
+use Rattle.parsing.specs.Arena.{Run}
+use Rattle.parsing.specs.Contract.{Rule, Later, Ready, Read, same}
+use Rattle.parsing.specs.Code.{turns, inner, opened, opening}
+use Rattle.parsing.specs.declared.lead.Simple.{Simple}
+use Rattle.parsing.specs.declared.lead.Simple.TheVariants as simple
+use Rattle.parsing.specs.declared.parser.Parser.{Parser}
 use Rattle.parsing.specs.declared.stmt.Repeated.{Repeated}
 use Rattle.parsing.specs.declared.stmt.Repeated.TheVariants.{Stmts as Statements, Nested, Branches, Cases as CaseItems, Requires, Ensures, Invariants, Whens}
 
--- ---- tokens
+-- ---- contracts
 
--- refusal 3 at a place where a token was read
-abbrev pub deep_at : ℕ → Lexed → Built
-deep_at at (LexedOk v next) = Refused level_too_deep at
-deep_at at LexedNone = None
-deep_at at (LexedRefused number place) = Refused number place
+-- nothing was kept
+pub record Stayed (p q : Parser) : Type 0 where
+  pub later : Later p q
+  pub at_same : q.at ≡ p.at
+  pub top_same : q.top ≡ p.top
+  pub ready : Ready q 0
 
--- a token that was read at a place lies inside the text
-abbrev pub Marked : List ℕ → ℕ → Lexed → Type 0
-Marked text at (LexedOk v next) = (at + 1 ≤ next) × (next ≤ length text)
-Marked text at LexedNone = Unit {0}
-Marked text at (LexedRefused number place) = Unit {0}
+pub record Nothing {A : Type 0} (rule : Rule A) (p q : Parser) : Type 0 where
+  pub says : rule p.text.now p.at ≡ Answer.none
+  pub stayed : Stayed p q
 
--- ---- rules
+-- a node for the value of an answer. Two bytes at least were kept, and a node is left of two for each of them, for the node of a sequence's item
+pub record Spared {A : Type 0} (words : A → Run) (rule : Rule A) (p q : Parser) (node : ℕ) : Type 0 where
+  pub read : Read words rule 2 0 p q node
+  pub left : q.top + 1 + 2 * p.at ≤ p.top + 2 * q.at
 
--- what a rule ensures that keeps two bytes at least and leaves four of their words, for the node of a sequence's item
-abbrev pub Leaves : {A : Type 0} → (A → Run) → List ℕ → List ℕ → List ℕ → ℕ → ℕ → Answer A → Built → Type 0
-Leaves words text arena later at top answer r = Builds words text arena later (at + 1) top 1 4 answer r
+-- such a rule, where it never keeps nothing and where it may
+abbrev pub Spares : {A : Type 0} → (A → Run) → Rule A → Parser → Parser → Result ℕ Refusal → Type 0
+Spares words rule p q (Ok node) = Spared words rule p q node
+Spares words rule p q (Err e) = rule p.text.now p.at ≡ refused (number e.reason) e.place
+
+abbrev pub Spares_if : {A : Type 0} → (A → Run) → Rule A → Parser → Parser → Result (Option ℕ) Refusal → Type 0
+Spares_if words rule p q (Ok (Some node)) = Spared words rule p q node
+Spares_if words rule p q (Ok None) = Nothing rule p q
+Spares_if words rule p q (Err e) = rule p.text.now p.at ≡ refused (number e.reason) e.place
+
+-- a rule that keeps nothing or is refused
+abbrev pub Stops : {A : Type 0} → Rule A → Parser → Parser → Result Unit Refusal → Type 0
+Stops rule p q (Ok u) = Nothing rule p q
+Stops rule p q (Err e) = rule p.text.now p.at ≡ refused (number e.reason) e.place
+
+-- ---- words
 
 -- a word before a run
 abbrev pub headed : {A : Type 0} → ℕ → (A → Run) → A → Run
@@ -49,57 +62,69 @@ headed tag words a r = tag ∷ words a r
 abbrev pub case_words : (Expr Span × Stmt Span) → Run
 case_words k r = expr_words same k.0 (stmt_words same k.1 r)
 
--- an expression after a token that may have been read
-abbrev pub optional_expr : List ℕ → ℕ → ℕ → Lexed → Answer (Option (Expr Span))
-optional_expr text depth at mark = after (answer_of mark) (ok none at) (λ _ at₁. must at₁ (mapped some (inner text depth at₁)))
+-- ---- rules, with so many levels left
 
--- after `var` or `val`: what is declared, and its first value
-abbrev pub declaration : List ℕ → ℕ → Bool → Reader (Variable Span × Option (Expr Span))
-declaration text depth is_mutable at =
-    need at (parse_name text at)
-    (λ n at₁. need at₁ (parse_optional_type text at₁)
-    (λ t at₂. need at₂ (parse_optional_auto_invariant text (turns text) (opened text depth) at₂)
-    (λ i at₃. need at₃ (parse_init text (turns text) (opened text depth) at₃)
-    (λ init at₄. ok (record { name = n; is_mutable = is_mutable; optional_type = t; optional_auto_inv = i }, init) at₄))))
+-- the rules that a statement opens
+abbrev pub block_rule : ℕ → Rule (Stmt Span)
+block_rule depth text = (opened depth text).block
 
-abbrev pub declaration_words : Variable Span × Option (Expr Span) → Run
-declaration_words d r = var_decl_tag ∷ variable_words same d.0 (option_words (expr_words same) d.1 r)
+abbrev pub stmt_rule : ℕ → Rule (Stmt Span)
+stmt_rule depth text = (opened depth text).stmt
+
+abbrev pub cont_rule : ℕ → Rule (Stmt Span)
+cont_rule depth text = (opened depth text).if_cont
+
+-- a condition after the word w
+abbrev pub aexpr_rule : List ℕ → ℕ → Rule (AExpr Span)
+aexpr_rule w depth text = parse_a_expr text (turns text) (opened depth text) w
 
 -- after `exit`
-abbrev pub exit_stmt : List ℕ → Reader (Stmt Span)
+abbrev pub exit_stmt : Rule (Stmt Span)
 exit_stmt text at = must at (mapped Exit (parse_optional_exit_argument text at))
 
 -- after `reinit`
-abbrev pub reinit_stmt : List ℕ → Reader (Stmt Span)
+abbrev pub reinit_stmt : Rule (Stmt Span)
 reinit_stmt text at = must at (mapped Reinit (parse_nonempty_comma_delimited_seq text (turns text) names (parse_name text) at))
 
-module _ (text : List ℕ) (depth : ℕ) where
-  -- after the name w: `:=`, `:` or `(`
-  abbrev pub assign_stmt : Word → Answer (Stmt Span)
-  assign_stmt w =
-      after (Sym text ":=" w.next) Answer.none (λ _ at₁. after_assign text (turns text) (opened text depth) (span w.at w.len) at₁)
+module _ (depth : ℕ) where
+  -- an expression that must follow, made into a statement
+  abbrev pub stated : (Expr Span → Stmt Span) → Rule (Stmt Span)
+  stated f text at = the_expr text (turns text) (opened depth text) f at
 
-  abbrev pub label_stmt : Word → Answer (Stmt Span)
-  label_stmt w =
-      after (Sym text ":" w.next) Answer.none (λ _ at₁. after_label text (turns text) (opened text depth) (span w.at w.len) at₁)
+  -- after the word of a statement that holds no statement
+  abbrev pub simple_rule : Simple → Rule (Stmt Span)
+  simple_rule simple.Reinit text at = reinit_stmt text at
+  simple_rule simple.Exit text at = exit_stmt text at
+  simple_rule simple.Return text at = ok Return at
+  simple_rule simple.Check text at = stated Check text at
+  simple_rule simple.Assume text at = stated Assume text at
+  simple_rule simple.Reach text at = stated Reach text at
+  simple_rule simple.Assert text at = stated Assert text at
+  simple_rule simple.Probe text at = stated Probe text at
 
-  abbrev pub call_stmt : Word → Answer (Stmt Span)
-  call_stmt w =
-      after (Sym text "(" w.next) Answer.none (λ _ at₁. after_call text (turns text) (opened text depth) (span w.at w.len) at₁)
-
-  abbrev pub named_stmt : Word → Answer (Stmt Span)
-  named_stmt w = assign_stmt w or label_stmt w or call_stmt w
-
-  -- a block or a loop
-  abbrev pub scope_stmt : Reader (Stmt Span)
-  scope_stmt at = (opened text depth).block at or (opened text depth).loop at
+  -- after the name n: `:=`, `:` or `(`
+  abbrev pub named_stmt : Span → Rule (Stmt Span)
+  named_stmt n text at =
+      after (Sym text ":=" at) Answer.none (λ _ at₁. after_assign text (turns text) (opened depth text) n at₁)
+      or after (Sym text ":" at) Answer.none (λ _ at₁. after_label text (turns text) (opened depth text) n at₁)
+      or after (Sym text "(" at) Answer.none (λ _ at₁. after_call text (turns text) (opened depth text) n at₁)
 
   -- after `if`, where no `case` stands
-  abbrev pub cond_stmt : Reader (Stmt Span)
-  cond_stmt at =
-      after (inner text depth at) Answer.none
-      (λ e at₁. need at₁ ((opened text depth).block at₁)
-      (λ thn at₂. need at₂ (parse_else text (turns text) (opened text depth) at₂) (λ els at₃. ok (If e thn els) at₃)))
+  abbrev pub cond_stmt : Rule (Stmt Span)
+  cond_stmt text at =
+      after (inner depth text at) Answer.none
+      (λ e at₁. need at₁ ((opened depth text).block at₁)
+      (λ thn at₂. need at₂ (parse_else text (turns text) (opened depth text) at₂) (λ els at₃. ok (If e thn els) at₃)))
+
+  -- a block or a loop
+  abbrev pub scope_stmt : Rule (Stmt Span)
+  scope_stmt text at = (opened depth text).block at or (opened depth text).loop at
+
+-- after `loop`, which stands at `start`
+abbrev pub loop_body : ℕ → ℕ → Rule (Stmt Span)
+loop_body zero start text at = refused level_too_deep start
+loop_body (suc d) start text at =
+    need at (parse_a_expr_seq text (turns text) (opened d text) (bytes "invariant") at) (λ is at₁. must at₁ (mapped (Loop is) ((opened d text).block at₁)))
 
 -- ---- repetitions
 
@@ -154,12 +179,12 @@ repetition_words Ensures = a_exprs_words same
 repetition_words Invariants = a_exprs_words same
 repetition_words Whens = exprs_words same
 
-abbrev pub repeated_rule : (k : Repeated) → List ℕ → ℕ → Reader (RepeatedOf k)
-repeated_rule Statements text depth = parse_stmt text (turns text) (opened text depth)
-repeated_rule Nested text depth = (opened text depth).stmt
-repeated_rule Branches text depth = parse_or text (turns text) (opened text depth)
-repeated_rule CaseItems text depth = parse_case text (turns text) (opened text depth)
-repeated_rule Requires text depth = parse_a_expr text (turns text) (opened text depth) (bytes "requires")
-repeated_rule Ensures text depth = parse_a_expr text (turns text) (opened text depth) (bytes "ensures")
-repeated_rule Invariants text depth = parse_a_expr text (turns text) (opened text depth) (bytes "invariant")
-repeated_rule Whens text depth = parse_when_clause text (turns text) (opened text depth)
+abbrev pub repeated_rule : (k : Repeated) → ℕ → Rule (RepeatedOf k)
+repeated_rule Statements depth = opening parse_stmt depth
+repeated_rule Nested depth = stmt_rule depth
+repeated_rule Branches depth = opening parse_or depth
+repeated_rule CaseItems depth = opening parse_case depth
+repeated_rule Requires depth = aexpr_rule (bytes "requires") depth
+repeated_rule Ensures depth = aexpr_rule (bytes "ensures") depth
+repeated_rule Invariants depth = aexpr_rule (bytes "invariant") depth
+repeated_rule Whens depth = opening parse_when_clause depth

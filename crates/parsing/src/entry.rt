@@ -1,93 +1,88 @@
 // The tree of a whole text, as a node of the arena.
-ghost use Rattle.std.specs.Prelude.{◌≡◌, length};
-ghost use Rattle.parsing.specs.Arena.{Room, Builds};
-ghost use Rattle.parsing.specs.Parse.{roomy, whole_rule, ended_as, Parses};
+ghost use Rattle.std.specs.Prelude.{◌≡◌};
+ghost use Rattle.parsing.specs.Contract.{Ready, Reads, needed};
+ghost use Rattle.parsing.specs.Parse.{roomy, whole_rule, ending, Parses};
 
-use crate::arena::{Built, EMPTY, END, ONE, node};
-use crate::expr::expr;
-use crate::program::program;
-use crate::refusal::{TREE_TOO_LARGE, UNCLOSED_COMMENT, UNUSABLE_TOKEN};
+use crate::arena::{EMPTY, END, Node};
+use crate::parser::{Parser, unusable};
 use lexing::blanks;
+use lexing::refusal::{Reason, Refusal};
 use tree::MOST_TEXT;
+use tree::word::NO_MORE;
 
 // What a text is read as.
-#[derive(Clone, Copy)]
+#[derive(Clone, Copy, PartialEq, Eq, Debug)]
 pub enum Whole {
     Expression,
     Program,
 }
 
-// What `parse` answers.
-#[derive(Clone, Copy)]
-pub enum Parsed {
-    // The tree's node.
-    Tree(u32),
-    // The refusal's number and place.
-    Refused(u64, usize),
-}
-
-// The most words that an arena may have.
-const MOST_ARENA: usize = 400000;
+// The most nodes that an arena may have.
+const MOST_ARENA: usize = 100_000;
 
 // The depth limit (REFERENCE, "Limits").
 const MOST_DEPTH: usize = 200;
 
-// Whether an arena of n words has room for the tree of a text of `len` bytes.
+// Whether an arena of n nodes has room for the tree of a text of `len` bytes.
 fn has_room(len: usize, n: usize) -> bool
     ensures { result ≡ roomy len n }
 {
-    if MOST_TEXT < len {
-        return false;
-    }
-    if n < 44 + 8 * len {
-        return false;
-    }
-    n <= MOST_ARENA
+    len <= MOST_TEXT && 11 + 2 * len <= n && n <= MOST_ARENA
 }
 
-// The rule of a whole text.
-fn rule(text: &[u8], at: usize, arena: &mut [u32], whole: Whole) -> Built
-    requires { Room text.now arena.old at 8 36 }
-    ensures { Builds (λ f. f) text.now arena.old arena.new at 8 0 36 (whole_rule whole text.now at) result }
-{
-    match whole {
-        Whole::Expression => expr(text, at, arena, 8, MOST_DEPTH),
-        Whole::Program => program(text, at, arena, 8, MOST_DEPTH),
-    }
-}
-
-// What the rule built from `at` on, if it read the text to its end.
-fn ended(text: &[u8], at: usize, built: Built) -> Parsed
-    ensures { result ≡ ended_as (length text.now) at built }
-{
-    match built {
-        Built::Ok(root, next, _) => {
-            if next == text.len() {
-                return Parsed::Tree(root);
-            }
-            Parsed::Refused(UNUSABLE_TOKEN, next)
+impl<'a> Parser<'a> {
+    // The rule of a whole text.
+    fn whole(&mut self, whole: Whole) -> Result<u32, Refusal>
+        requires { Ready self.old 9 }
+        ensures { Reads (λ f. f) (needed (whole_rule whole)) 0 9 self.old self.new result }
+    {
+        match whole {
+            Whole::Expression => self.need_expr(MOST_DEPTH),
+            Whole::Program => self.program(MOST_DEPTH),
         }
-        Built::None => Parsed::Refused(UNUSABLE_TOKEN, at),
-        Built::Refused(number, place) => Parsed::Refused(number, place),
+    }
+
+    // It, if it reads the text to its end.
+    #[tactic(auto, using(crate::proofs::Laws::failing))]
+    fn to_end(&mut self, whole: Whole) -> Result<u32, Refusal>
+        requires { Ready self.old 9 }
+        ensures { Reads (λ f. f) (ending (whole_rule whole)) 0 9 self.old self.new result }
+    {
+        let root = self.whole(whole)?;
+        if self.at < self.text.len() {
+            return Err(unusable(self.at));
+        }
+        Ok(root)
     }
 }
 
-// Reads a whole text into an arena of 44 words and eight for each byte: the tree's node, or refusal 2, 3 or 4. Refusal 5, where the arena has
-// fewer words or more than 400,000, or the text more than 32,768 bytes. The words of the arena that no node of the tree occupies are free
-// afterwards, after a refusal all of them.
-pub fn parse(text: &[u8], arena: &mut [u32], whole: Whole) -> Parsed
+// Reads a whole text into an arena of 11 nodes and two for each byte: the tree's node, or refusal 2, 3 or 4. Refusal 5, where the arena has
+// fewer nodes or more than 100,000, or the text more than 32,768 bytes. The nodes of the arena that are not of the tree are free afterwards,
+// after a refusal all of them.
+pub fn parse(text: &[u8], arena: &mut [Node], whole: Whole) -> Result<u32, Refusal>
     ensures { Parses whole text.now arena.old arena.new result }
 {
     if !has_room(text.len(), arena.len()) {
-        return Parsed::Refused(TREE_TOO_LARGE, 0);
+        return Err(Refusal {
+            reason: Reason::TreeTooLarge,
+            place: 0,
+        });
     }
     match blanks(text) {
-        Err(open) => Parsed::Refused(UNCLOSED_COMMENT, open.at),
+        Err(open) => Err(Refusal {
+            reason: Reason::UnclosedComment,
+            place: open.at,
+        }),
         Ok(at) => {
-            node(arena, 0, EMPTY, 0, 0, 0);
-            node(arena, END as usize, ONE, 0, 0, 0);
-            let built = rule(text, at, arena, whole);
-            ended(text, at, built)
+            arena[EMPTY as usize] = Node::Empty;
+            arena[END as usize] = Node::One(NO_MORE);
+            let mut parser = Parser {
+                text,
+                arena,
+                at,
+                top: 2,
+            };
+            parser.to_end(whole)
         }
     }
 }

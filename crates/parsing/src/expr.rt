@@ -2,404 +2,311 @@
 // opened.
 pub(crate) mod seq;
 
-ghost use Rattle.std.specs.Prelude.{◌≤◌};
-ghost use Rattle.parsing.specs.Arena.{Room, Builds};
-ghost use Rattle.grammar.specs.Grammar.{implication};
-ghost use Rattle.parsing.specs.Code.{Follows, Begun, turns, inner, class_of, tighter_of, left_chain, right_chain, span, Worded, paren_expr};
-ghost use Rattle.grammar.specs.Reading.{tree_words};
-ghost use Rattle.grammar.specs.Rules.{parse_imp_exp_expr, parse_logical_expr, parse_juct_expr, parse_unary_expr, parse_primary_expr, after_label, after_call, after_if, after_val};
-
-use crate::arena::{BINARY, Built, PAIR, THREE, UNARY, node};
-use crate::build::{choice, combine, fold, four, over};
+use crate::arena::{EMPTY, Node};
 use crate::expr::seq::Kind;
-use crate::leaf::{missing, needed};
-use crate::sign::{Level, Sign, operator, unary_operator};
-use crate::step::{Lexed, Word, is_word, sym};
-use crate::{leaf, step};
-use tree::word::{FALSE, FUNCTION_CALL_EXPR, LABELED_EXPR, LET_EXPR, TRUE};
+use crate::parser::{Name, Parser, unusable};
+use crate::sign::Level;
+use lexing::refusal::Refusal;
+use tree::word::{FALSE, FUNCTION_CALL_EXPR, LABELED_EXPR, LET_EXPR};
 
-// `parseExpr`, with `depth` levels left.
-#[cycle(expression)]
-pub(crate) fn expr(text: &[u8], at: usize, arena: &mut [u32], top: usize, depth: usize) -> Built
-    requires { Room text.now arena.old at top 0 }
-    ensures { Builds tree_words text.now arena.old arena.new at top 1 0 (inner text.now depth at) result }
-{
-    if depth == 0 {
-        return leaf::too_deep(text, at);
-    }
-    chain(text, at, arena, top, depth - 1, Level::Equivalence)
-}
+// The levels.
+impl<'a> Parser<'a> {
+    ghost use Rattle.grammar.specs.Reading.{tree_words};
+    ghost use Rattle.grammar.specs.Rules.{parse_imp_exp_expr, parse_logical_expr, parse_juct_expr, parse_unary_expr};
+    ghost use Rattle.parsing.specs.Contract.{Ready, Reads, Reads_if, Standing, needed};
+    ghost use Rattle.parsing.specs.Code.{inner, turning, tighter_of, left_chain};
+    ghost use Rattle.parsing.specs.Expressions.{Sees, left_rest};
+    ghost use Rattle.parsing.specs.Signs.{class_of, level_rule};
+    ghost use Rattle.tree.specs.Ast.{Expr, Span};
 
-// `parseEquivExpr`, `parseTermExpr` and `parseFactorExpr`: a level whose operators lean left.
-#[cycle(expression)]
-fn chain(text: &[u8], at: usize, arena: &mut [u32], top: usize, depth: usize, kind: Level) -> Built
-    requires { Room text.now arena.old at top 0 }
-    ensures { Builds tree_words text.now arena.old arena.new at top 1 0 (left_chain (class_of kind) text.now depth at) result }
-{
-    let r = tight(text, at, arena, top, depth, kind);
-    let Built::Ok(e, next, top1) = r else {
-        return r;
-    };
-    left(text, at, next, arena, top1, e, depth, kind)
-}
-
-#[cycle(expression)]
-fn imp(text: &[u8], at: usize, arena: &mut [u32], top: usize, depth: usize) -> Built
-    requires { Room text.now arena.old at top 0 }
-    ensures { Follows parse_imp_exp_expr 0 text.now arena.old arena.new at top depth result }
-{
-    let r = logic(text, at, arena, top, depth);
-    let Built::Ok(e, next, top1) = r else {
-        return r;
-    };
-    match operator(text, next, Level::Implication) {
-        Sign::Found(_, _, _) => right(text, at, next, arena, top1, e, depth),
-        Sign::None => left(text, at, next, arena, top1, e, depth, Level::Explication),
-        Sign::Refused(number, place) => Built::Refused(number, place),
-    }
-}
-
-#[cycle(expression)]
-fn logic(text: &[u8], at: usize, arena: &mut [u32], top: usize, depth: usize) -> Built
-    requires { Room text.now arena.old at top 0 }
-    ensures { Follows parse_logical_expr 0 text.now arena.old arena.new at top depth result }
-{
-    let r = juct(text, at, arena, top, depth);
-    let Built::Ok(e, next, top1) = r else {
-        return r;
-    };
-    match operator(text, next, Level::Conjunction) {
-        Sign::Found(_, _, _) => left(text, at, next, arena, top1, e, depth, Level::Conjunction),
-        Sign::None => left(text, at, next, arena, top1, e, depth, Level::Disjunction),
-        Sign::Refused(number, place) => Built::Refused(number, place),
-    }
-}
-
-#[cycle(expression)]
-fn juct(text: &[u8], at: usize, arena: &mut [u32], top: usize, depth: usize) -> Built
-    requires { Room text.now arena.old at top 0 }
-    ensures { Follows parse_juct_expr 0 text.now arena.old arena.new at top depth result }
-{
-    let r = chain(text, at, arena, top, depth, Level::Sum);
-    let Built::Ok(e, next, top1) = r else {
-        return r;
-    };
-    match operator(text, next, Level::Comparison) {
-        Sign::Found(op, swap, next1) => {
-            let r = chain(text, next1, arena, top1, depth, Level::Sum);
-            let Built::Ok(e1, next2, top2) = r else {
-                return needed(r, next1);
-            };
-            combine(arena, top2, op, swap, e, e1);
-            Built::Ok(top2 as u32, next2, top2 + 4)
+    // `parseExpr`, with `depth` levels left.
+    #[cycle(expression)]
+    #[tactic(auto, using(crate::proofs::Laws::failing))]
+    pub(crate) fn expr(&mut self, depth: usize) -> Result<Option<u32>, Refusal>
+        requires { Ready self.old 0 }
+        ensures { Reads_if tree_words (inner depth) 1 0 self.old self.new result }
+    {
+        if depth == 0 {
+            return self.too_deep_expr();
         }
-        Sign::None => Built::Ok(e, next, top1),
-        Sign::Refused(number, place) => Built::Refused(number, place),
+        self.chain(Level::Equivalence, depth - 1)
     }
-}
 
-// The rule of a level's operands.
-#[cycle(expression)]
-fn tight(text: &[u8], at: usize, arena: &mut [u32], top: usize, depth: usize, kind: Level) -> Built
-    requires { Room text.now arena.old at top 0 }
-    ensures { Builds tree_words text.now arena.old arena.new at top 1 0 (tighter_of (class_of kind) text.now depth at) result }
-{
-    match kind {
-        Level::Product => unary(text, at, arena, top, depth),
-        Level::Sum => chain(text, at, arena, top, depth, Level::Product),
-        Level::Comparison => chain(text, at, arena, top, depth, Level::Sum),
-        Level::Conjunction => juct(text, at, arena, top, depth),
-        Level::Disjunction => juct(text, at, arena, top, depth),
-        Level::Implication => logic(text, at, arena, top, depth),
-        Level::Explication => logic(text, at, arena, top, depth),
-        Level::Equivalence => imp(text, at, arena, top, depth),
+    #[cycle(expression)]
+    #[inline]
+    #[tactic(auto, using(crate::proofs::Laws::failing), unfolding(grammar::specs::Steps::after))]
+    pub(crate) fn need_expr(&mut self, depth: usize) -> Result<u32, Refusal>
+        requires { Ready self.old 0 }
+        ensures { Reads tree_words (needed (inner depth)) 1 0 self.old self.new result }
+    {
+        let at = self.at;
+        self.expr(depth)?.ok_or(unusable(at))
     }
-}
 
-// After the operand `first`, read from `start`: the rest of a chain that leans left.
-#[cycle(expression)]
-fn left(
-    text: &[u8],
-    start: usize,
-    from: usize,
-    arena: &mut [u32],
-    free: usize,
-    first: u32,
-    depth: usize,
-    level: Level,
-) -> Built
-    requires room { Room text.now arena.old from free 0 }
-    requires begun { Begun (tighter_of (class_of level) text.now depth) arena.old start from first free }
-    ensures { Builds tree_words text.now arena.old arena.new from free 0 0 (left_chain (class_of level) text.now depth start) result }
-{
-    let mut e = first;
-    let mut at = from;
-    let mut top = free;
-    loop {
-        match operator(text, at, level) {
-            Sign::Found(op, swap, next) => {
-                let r = tight(text, next, arena, top, depth, level);
-                let Built::Ok(e1, next1, top1) = r else {
-                    return needed(r, next);
-                };
-                combine(arena, top1, op, swap, e, e1);
-                e = top1 as u32;
-                at = next1;
-                top = top1 + 4;
+    // `parseEquivExpr`, `parseTermExpr` and `parseFactorExpr`: a level whose operators lean left.
+    #[cycle(expression)]
+    #[tactic(auto, using(crate::proofs::Laws::failing))]
+    fn chain(&mut self, level: Level, depth: usize) -> Result<Option<u32>, Refusal>
+        requires { Ready self.old 0 }
+        ensures { Reads_if tree_words (left_chain (class_of level) depth) 1 0 self.old self.new result }
+    {
+        let Some(first) = self.tight(level, depth)? else {
+            return Ok(None);
+        };
+        Ok(Some(self.left(first, level, depth)?))
+    }
+
+    // `parseImpExpExpr`: all `==>`, or all `<==`.
+    #[cycle(expression)]
+    #[tactic(auto, using(crate::proofs::Laws::failing), unfolding(grammar::specs::Rules::parse_imp_exp_expr, grammar::specs::Rules::imp_exp_tail))]
+    fn imp(&mut self, depth: usize) -> Result<Option<u32>, Refusal>
+        requires { Ready self.old 0 }
+        ensures { Reads_if tree_words (turning parse_imp_exp_expr depth) 1 0 self.old self.new result }
+    {
+        let Some(first) = self.logic(depth)? else {
+            return Ok(None);
+        };
+        if self.sees(Level::Implication)? {
+            let mut e = first;
+            let mut link = EMPTY;
+            while let Some(sign) = self.operator(Level::Implication)? {
+                link = self.push(Node::Binary(sign.op.word(), e, link));
+                e = self.need_tight(Level::Implication, depth)?;
             }
-            Sign::None => {
-                return Built::Ok(e, at, top);
-            }
-            Sign::Refused(number, place) => {
-                return Built::Refused(number, place);
-            }
+            return Ok(Some(self.fold(link, e)));
+        }
+        Ok(Some(self.left(first, Level::Explication, depth)?))
+    }
+
+    // `parseLogicalExpr`: all `&&`, or all `||`.
+    #[cycle(expression)]
+    #[tactic(auto, using(crate::proofs::Laws::failing), unfolding(grammar::specs::Rules::parse_logical_expr, grammar::specs::Rules::logical_tail))]
+    fn logic(&mut self, depth: usize) -> Result<Option<u32>, Refusal>
+        requires { Ready self.old 0 }
+        ensures { Reads_if tree_words (turning parse_logical_expr depth) 1 0 self.old self.new result }
+    {
+        let Some(first) = self.juct(depth)? else {
+            return Ok(None);
+        };
+        if self.sees(Level::Conjunction)? {
+            return Ok(Some(self.left(first, Level::Conjunction, depth)?));
+        }
+        Ok(Some(self.left(first, Level::Disjunction, depth)?))
+    }
+
+    // `parseJuctExpr`: one comparison at most.
+    #[cycle(expression)]
+    #[tactic(auto, using(crate::proofs::Laws::failing), unfolding(grammar::specs::Rules::parse_juct_expr, grammar::specs::Rules::parse_term_expr, grammar::specs::Rules::once_tail))]
+    fn juct(&mut self, depth: usize) -> Result<Option<u32>, Refusal>
+        requires { Ready self.old 0 }
+        ensures { Reads_if tree_words (turning parse_juct_expr depth) 1 0 self.old self.new result }
+    {
+        let Some(first) = self.chain(Level::Sum, depth)? else {
+            return Ok(None);
+        };
+        let Some(sign) = self.operator(Level::Comparison)? else {
+            return Ok(Some(first));
+        };
+        let second = self.need_tight(Level::Comparison, depth)?;
+        Ok(Some(self.combine(sign, first, second)))
+    }
+
+    // The operands of a level.
+    #[cycle(expression)]
+    #[tactic(auto, using(crate::proofs::Laws::failing))]
+    fn tight(&mut self, level: Level, depth: usize) -> Result<Option<u32>, Refusal>
+        requires { Ready self.old 0 }
+        ensures { Reads_if tree_words (tighter_of (class_of level) depth) 1 0 self.old self.new result }
+    {
+        match level {
+            Level::Product => self.unary(depth),
+            Level::Sum => self.chain(Level::Product, depth),
+            Level::Comparison => self.chain(Level::Sum, depth),
+            Level::Conjunction => self.juct(depth),
+            Level::Disjunction => self.juct(depth),
+            Level::Implication => self.logic(depth),
+            Level::Explication => self.logic(depth),
+            Level::Equivalence => self.imp(depth),
         }
     }
-}
 
-// After the operand `first`, read from `start`: the rest of a chain of `==>`.
-#[cycle(expression)]
-fn right(
-    text: &[u8],
-    start: usize,
-    from: usize,
-    arena: &mut [u32],
-    free: usize,
-    first: u32,
-    depth: usize,
-) -> Built
-    requires room { Room text.now arena.old from free 0 }
-    requires begun { Begun (tighter_of implication text.now depth) arena.old start from first free }
-    ensures { Builds tree_words text.now arena.old arena.new from free 0 0 (right_chain text.now depth start) result }
-{
-    let mut e = first;
-    let mut at = from;
-    let mut top = free;
-    let mut link: u32 = 0;
-    loop {
-        match operator(text, at, Level::Implication) {
-            Sign::Found(op, _, next) => {
-                node(arena, top, BINARY, op, e, link);
-                let r = logic(text, next, arena, top + 4, depth);
-                let Built::Ok(e1, next1, top1) = r else {
-                    return needed(r, next);
-                };
-                link = top as u32;
-                e = e1;
-                at = next1;
-                top = top1;
-            }
-            Sign::None => {
-                return fold(arena, top, link, e, at);
-            }
-            Sign::Refused(number, place) => {
-                return Built::Refused(number, place);
-            }
+    #[cycle(expression)]
+    #[inline]
+    #[tactic(auto, using(crate::proofs::Laws::failing), unfolding(grammar::specs::Steps::after))]
+    fn need_tight(&mut self, level: Level, depth: usize) -> Result<u32, Refusal>
+        requires { Ready self.old 0 }
+        ensures { Reads tree_words (needed (tighter_of (class_of level) depth)) 1 0 self.old self.new result }
+    {
+        let at = self.at;
+        self.tight(level, depth)?.ok_or(unusable(at))
+    }
+
+    // After the operand `first`: the rest of a chain that leans left.
+    #[cycle(expression)]
+    #[tactic(auto, using(crate::proofs::Laws::failing))]
+    fn left(&mut self, first: u32, level: Level, depth: usize) -> Result<u32, Refusal>
+        requires { Ready self.old 0 }
+        ensures { (tree : Expr Span) → Standing self.old first (tree_words tree) → Reads tree_words (left_rest (class_of level) depth tree) 0 0 self.old self.new result }
+    {
+        let mut e = first;
+        while let Some(sign) = self.operator(level)? {
+            let operand = self.need_tight(level, depth)?;
+            e = self.combine(sign, e, operand);
         }
+        Ok(e)
     }
-}
 
-#[cycle(expression)]
-fn unary(text: &[u8], start: usize, arena: &mut [u32], free: usize, depth: usize) -> Built
-    requires { Room text.now arena.old start free 0 }
-    ensures { Follows parse_unary_expr 0 text.now arena.old arena.new start free depth result }
-{
-    let mut at = start;
-    let mut top = free;
-    let mut link: u32 = 0;
-    loop {
-        match unary_operator(text, at) {
-            Sign::Found(op, _, next) => {
-                node(arena, top, UNARY, op, 0, link);
-                link = top as u32;
-                at = next;
-                top += 4;
-            }
-            Sign::None => {
-                break;
-            }
-            Sign::Refused(number, place) => {
-                return Built::Refused(number, place);
-            }
+    // Whether an operator of the level stands here.
+    #[tactic(auto, using(crate::proofs::Laws::failing))]
+    fn sees(&mut self, level: Level) -> Result<bool, Refusal>
+        requires { Ready self.old 0 }
+        ensures { Sees (level_rule level) self.old self.new result }
+    {
+        let at = self.at;
+        let found = self.operator(level)?.is_some();
+        self.at = at;
+        Ok(found)
+    }
+
+    // `parseUnaryExpr`: operators before an operand.
+    #[cycle(expression)]
+    #[tactic(auto, using(crate::proofs::Laws::failing), unfolding(grammar::specs::Rules::parse_unary_expr))]
+    fn unary(&mut self, depth: usize) -> Result<Option<u32>, Refusal>
+        requires { Ready self.old 0 }
+        ensures { Reads_if tree_words (turning parse_unary_expr depth) 1 0 self.old self.new result }
+    {
+        let mut link = EMPTY;
+        while let Some(op) = self.unary_operator()? {
+            link = self.push(Node::Unary(op.word(), link));
         }
-    }
-    let r = primary(text, at, arena, top, depth);
-    let Built::Ok(e, next, top1) = r else {
-        if link == 0 {
-            return r;
+        if link == EMPTY {
+            return self.primary(depth);
         }
-        return needed(r, at);
-    };
-    fold(arena, top1, link, e, next)
+        let at = self.at;
+        let e = self.primary(depth)?.ok_or(unusable(at))?;
+        Ok(Some(self.fold(link, e)))
+    }
 }
 
-#[cycle(expression)]
-fn primary(text: &[u8], at: usize, arena: &mut [u32], top: usize, depth: usize) -> Built
-    requires { Room text.now arena.old at top 0 }
-    ensures { Follows parse_primary_expr 0 text.now arena.old arena.new at top depth result }
-{
-    match step::name(text, at) {
-        Lexed::Ok(n, next) => {
-            let w = Word {
-                at: at,
-                len: n as usize,
-                next: next,
-            };
-            word(text, w, arena, top, depth)
+// The operands.
+impl<'a> Parser<'a> {
+    ghost use Rattle.std.specs.Prelude.{◌≤◌};
+    ghost use Rattle.grammar.specs.Reading.{tree_words};
+    ghost use Rattle.grammar.specs.Rules.{parse_primary_expr, after_if, after_val};
+    ghost use Rattle.parsing.specs.Contract.{Ready, Reads, Reads_if, Spelt, span};
+    ghost use Rattle.parsing.specs.Code.{inner, over, turning, paren_expr};
+    ghost use Rattle.parsing.specs.Expressions.{name_rule};
+
+    // `parsePrimaryExpr`.
+    #[cycle(expression)]
+    #[tactic(auto, using(crate::proofs::Laws::failing))]
+    fn primary(&mut self, depth: usize) -> Result<Option<u32>, Refusal>
+        requires { Ready self.old 0 }
+        ensures { Reads_if tree_words (turning parse_primary_expr depth) 1 0 self.old self.new result }
+    {
+        let len = self.word_ahead();
+        if len != 0 {
+            return Ok(Some(self.worded(len, depth)?));
         }
-        Lexed::None => {
-            let r = leaf::literal(text, at, arena, top);
-            let Built::None = r else {
-                return r;
-            };
-            paren(text, at, arena, top, depth)
+        if let Some(literal) = self.literal()? {
+            return Ok(Some(literal));
         }
-        Lexed::Refused(number, place) => Built::Refused(number, place),
+        self.paren(depth)
     }
-}
 
-// What begins with the word `w`.
-#[cycle(expression)]
-fn word(text: &[u8], w: Word, arena: &mut [u32], top: usize, depth: usize) -> Built
-    requires room { Room text.now arena.old w.at top 0 }
-    requires worded { Worded text.now w }
-    ensures { Follows parse_primary_expr 0 text.now arena.old arena.new w.at top depth result }
-{
-    if is_word(text, w, b"if") {
-        return cond(text, w.next, arena, top, depth);
+    // An expression in parentheses.
+    #[cycle(expression)]
+    #[tactic(auto, using(crate::proofs::Laws::failing), unfolding(grammar::specs::Rules::after_paren))]
+    fn paren(&mut self, depth: usize) -> Result<Option<u32>, Refusal>
+        requires { Ready self.old 0 }
+        ensures { Reads_if tree_words (paren_expr (inner depth)) 1 0 self.old self.new result }
+    {
+        if self.sym(b"(")? {
+            let e = self.need_expr(depth)?;
+            self.need_sym(b")")?;
+            return Ok(Some(e));
+        }
+        Ok(None)
     }
-    if is_word(text, w, b"val") {
-        return val(text, w.next, arena, top, depth);
-    }
-    if is_word(text, w, b"forall") {
-        return seq::quant(text, w.next, arena, top, depth, TRUE);
-    }
-    if is_word(text, w, b"exists") {
-        return seq::quant(text, w.next, arena, top, depth, FALSE);
-    }
-    if is_word(text, w, b"lift") {
-        return seq::lift(text, w.next, arena, top, depth);
-    }
-    let r = leaf::constant(text, w, arena, top);
-    let Built::None = r else {
-        return r;
-    };
-    match sym(text, w.next, b"(") {
-        Lexed::Ok(_, next) => call(text, w, next, arena, top, depth),
-        Lexed::None => label(text, w, arena, top, depth),
-        Lexed::Refused(number, place) => Built::Refused(number, place),
-    }
-}
 
-// After the name `f` and `(`.
-#[cycle(expression)]
-fn call(text: &[u8], f: Word, at: usize, arena: &mut [u32], top: usize, depth: usize) -> Built
-    requires room { Room text.now arena.old at top 16 }
-    requires worded { Worded text.now f }
-    ensures { Builds tree_words text.now arena.old arena.new at top 1 12 (after_call text.now (turns text.now) (inner text.now depth) (span f.at f.len) at) result }
-{
-    node(
-        arena,
-        top,
-        THREE,
-        FUNCTION_CALL_EXPR,
-        f.at as u32,
-        f.len as u32,
-    );
-    let arguments = seq::list(text, at, arena, top + 4, depth, Kind::Exprs, b")");
-    let Built::Ok(es, at1, top1) = arguments else {
-        return needed(arguments, at);
-    };
-    over(arena, top1, PAIR, 0, top as u32, es, at1)
-}
+    // What begins with a word, which has `len` bytes.
+    #[cycle(expression)]
+    #[tactic(auto, using(crate::proofs::Laws::failing))]
+    fn worded(&mut self, len: usize, depth: usize) -> Result<u32, Refusal>
+        requires ready { Ready self.old 0 }
+        requires spelt { Spelt self.old len }
+        requires filled { 1 ≤ len }
+        ensures { Reads tree_words (turning parse_primary_expr depth) 1 0 self.old self.new result }
+    {
+        if self.keyword_of(len, b"if")? {
+            return self.cond(depth);
+        }
+        if self.keyword_of(len, b"val")? {
+            return self.val(depth);
+        }
+        if self.keyword_of(len, b"forall")? {
+            return self.quant(true, depth);
+        }
+        if self.keyword_of(len, b"exists")? {
+            return self.quant(false, depth);
+        }
+        if self.keyword_of(len, b"lift")? {
+            return self.lift(depth);
+        }
+        if let Some(constant) = self.constant(len)? {
+            return Ok(constant);
+        }
+        let name = self.pass_word(len)?;
+        self.named(name, depth)
+    }
 
-// After the name `l` that no `(` follows.
-#[cycle(expression)]
-fn label(text: &[u8], l: Word, arena: &mut [u32], top: usize, depth: usize) -> Built
-    requires room { Room text.now arena.old l.next top 4 }
-    requires worded { Worded text.now l }
-    ensures { Builds tree_words text.now arena.old arena.new l.next top 0 4 (after_label text.now (inner text.now depth) (span l.at l.len) l.next) result }
-{
-    let colon = sym(text, l.next, b":");
-    let Lexed::Ok(_, at1) = colon else {
-        return leaf::alone(colon, l, arena, top);
-    };
-    node(arena, top, THREE, LABELED_EXPR, l.at as u32, l.len as u32);
-    let body = expr(text, at1, arena, top + 4, depth);
-    let Built::Ok(e, at2, top1) = body else {
-        return needed(body, at1);
-    };
-    over(arena, top1, PAIR, 0, top as u32, e, at2)
-}
+    // After the name `n`: a call, a label, or the name alone.
+    #[cycle(expression)]
+    #[tactic(auto, using(crate::proofs::Laws::failing), unfolding(grammar::specs::Rules::after_name, grammar::specs::Rules::after_call, grammar::specs::Rules::after_label, grammar::specs::Rules::after_colon))]
+    fn named(&mut self, n: Name, depth: usize) -> Result<u32, Refusal>
+        requires { Ready self.old 2 }
+        ensures { Reads tree_words (name_rule (span n) depth) 0 2 self.old self.new result }
+    {
+        if self.sym(b"(")? {
+            let head = self.push(Node::Three(FUNCTION_CALL_EXPR, n.start, n.len));
+            let arguments = self.list(Kind::Exprs, b")", depth)?;
+            return Ok(self.pair(head, arguments));
+        }
+        if self.sym(b":")? {
+            let head = self.push(Node::Three(LABELED_EXPR, n.start, n.len));
+            let e = self.need_expr(depth)?;
+            return Ok(self.pair(head, e));
+        }
+        Ok(self.push(Node::Ident(n.start, n.len, FALSE)))
+    }
 
-// `(`, an expression and `)`.
-#[cycle(expression)]
-fn paren(text: &[u8], at: usize, arena: &mut [u32], top: usize, depth: usize) -> Built
-    requires { Room text.now arena.old at top 0 }
-    ensures { Builds tree_words text.now arena.old arena.new at top 1 0 (paren_expr text.now (inner text.now depth) at) result }
-{
-    let bracket = sym(text, at, b"(");
-    let Lexed::Ok(_, at1) = bracket else {
-        return leaf::untaken(bracket);
-    };
-    let body = expr(text, at1, arena, top, depth);
-    let Built::Ok(e, at2, top1) = body else {
-        return needed(body, at1);
-    };
-    leaf::shut(text, at2, top1, e, b")")
-}
+    // After `if`.
+    #[cycle(expression)]
+    #[tactic(auto, using(crate::proofs::Laws::failing), unfolding(grammar::specs::Rules::after_if))]
+    fn cond(&mut self, depth: usize) -> Result<u32, Refusal>
+        requires { Ready self.old 0 }
+        ensures { Reads tree_words (over after_if depth) 1 0 self.old self.new result }
+    {
+        let guard = self.need_expr(depth)?;
+        let thn = self.need_expr(depth)?;
+        self.need_keyword(b"else")?;
+        let els = self.need_expr(depth)?;
+        Ok(self.choice(guard, thn, els))
+    }
 
-// After `if`.
-#[cycle(expression)]
-fn cond(text: &[u8], at: usize, arena: &mut [u32], top: usize, depth: usize) -> Built
-    requires { Room text.now arena.old at top 0 }
-    ensures { Builds tree_words text.now arena.old arena.new at top 1 0 (after_if text.now (inner text.now depth) at) result }
-{
-    let condition = expr(text, at, arena, top, depth);
-    let Built::Ok(guard, at1, top1) = condition else {
-        return needed(condition, at);
-    };
-    let branch = expr(text, at1, arena, top1, depth);
-    let Built::Ok(thn, at2, top2) = branch else {
-        return needed(branch, at1);
-    };
-    let word = step::keyword(text, at2, b"else");
-    let Lexed::Ok(_, at3) = word else {
-        return missing(word, at2);
-    };
-    let other = expr(text, at3, arena, top2, depth);
-    let Built::Ok(els, at4, top3) = other else {
-        return needed(other, at3);
-    };
-    choice(arena, top3, guard, thn, els, at4)
-}
-
-// After `val`.
-#[cycle(expression)]
-fn val(text: &[u8], at: usize, arena: &mut [u32], top: usize, depth: usize) -> Built
-    requires { Room text.now arena.old at top 0 }
-    ensures { Builds tree_words text.now arena.old arena.new at top 1 0 (after_val text.now (inner text.now depth) at) result }
-{
-    let bound = step::name(text, at);
-    let Lexed::Ok(len, at1) = bound else {
-        return missing(bound, at);
-    };
-    node(arena, top, THREE, LET_EXPR, at as u32, len as u32);
-    let typed = leaf::optional_type(text, at1, arena, top + 4);
-    let Built::Ok(typ, at2, top1) = typed else {
-        return needed(typed, at1);
-    };
-    let becomes = sym(text, at2, b":=");
-    let Lexed::Ok(_, at3) = becomes else {
-        return missing(becomes, at2);
-    };
-    let value = expr(text, at3, arena, top1, depth);
-    let Built::Ok(rhs, at4, top2) = value else {
-        return needed(value, at3);
-    };
-    let scope = expr(text, at4, arena, top2, depth);
-    let Built::Ok(body, at5, top3) = scope else {
-        return needed(scope, at4);
-    };
-    four(arena, top3, top as u32, typ, rhs, body, at5)
+    // After `val`.
+    #[cycle(expression)]
+    #[tactic(auto, using(crate::proofs::Laws::failing), unfolding(grammar::specs::Rules::after_val))]
+    fn val(&mut self, depth: usize) -> Result<u32, Refusal>
+        requires { Ready self.old 0 }
+        ensures { Reads tree_words (over after_val depth) 1 0 self.old self.new result }
+    {
+        let name = self.need_name()?;
+        let head = self.push(Node::Three(LET_EXPR, name.start, name.len));
+        let typ = self.optional_type()?;
+        self.need_sym(b":=")?;
+        let rhs = self.need_expr(depth)?;
+        let body = self.need_expr(depth)?;
+        Ok(self.four(head, typ, rhs, body))
+    }
 }

@@ -1,355 +1,269 @@
-// Rules that open no expression, and what a rule answers where a step is missing.
-ghost use Rattle.std.specs.Prelude.{◌≡◌, [], ◌∷◌, ◌+◌, ◌≤◌, length, get_or};
-ghost use types.Run.{OneOf};
-ghost use Rattle.tree.specs.Ast.{ILiteral};
-ghost use Rattle.tree.specs.Limits.{most_text};
+// Rules that open no expression.
+ghost use Rattle.std.specs.Prelude.{◌≡◌, drop};
+ghost use Rattle.tree.specs.Codes.{as_mode};
 ghost use Rattle.tree.specs.Words.{binding_words, option_words, name_words, f_parameter_words, call_argument_words};
-ghost use Rattle.parsing.specs.Arena.{Room, Builds, Stopped, needed_at, most_arena};
-ghost use Rattle.parsing.specs.Code.{missing_at, untaken_at, needed_if, same, inner, between_words, moded_words, reference_words, reference_argument, Shuts, Alone, Worded, literal_expr, custom_expr, constant_expr};
-ghost use Rattle.grammar.specs.Reading.{tree_words};
-ghost use Rattle.grammar.specs.Steps.{must, mapped, parse_name, parse_nat};
-ghost use Rattle.grammar.specs.Rules.{opens_expr, opens_at, parse_id_type, parse_optional_type, some_type, after_old};
 ghost use Rattle.grammar.specs.Declarations.{parse_function_formal, parse_moded};
+ghost use Rattle.grammar.specs.Reading.{tree_words};
+ghost use Rattle.grammar.specs.Rules.{opens_expr, opens_at, parse_id_type, parse_optional_type, some_type, after_bar, after_old};
+ghost use Rattle.grammar.specs.Steps.{parse_name};
+ghost use Rattle.parsing.specs.Code.{inner, custom_expr, literal_expr, constant_expr, reference, reference_argument, marked_words, moded_words};
+ghost use Rattle.parsing.specs.Contract.{Ready, Reads, Reads_if, Spelt, needed, same};
 
-use crate::arena::{Built, END, HEADED, IDENT, PAIR, THREE, TWO, node};
-use crate::build::over;
-use crate::refusal::{LEVEL_TOO_DEEP, UNUSABLE_TOKEN};
-use crate::step::{Lexed, Word, is_word, keyword, literal_text, name, sym, sym_not_prefix, told};
-use lexing::{identifier_length, natural};
-use tree::word::{B_LITERAL, CUSTOM_LITERAL, FALSE, I_LITERAL, IN, IN_OUT, MORE, OUT, TRUE};
+use crate::arena::{END, Node};
+use crate::parser::{Parser, unusable};
+use lexing::refusal::{Reason, Refusal};
+use tree::word::{B_LITERAL, CUSTOM_LITERAL, FALSE, I_LITERAL, IN, IN_OUT, MORE, Mode, OUT, TRUE};
 
-// A rule that must follow at `at`: refusal 2 there where it keeps nothing.
-pub(crate) fn needed(r: Built, at: usize) -> Built
-    ensures { result ≡ needed_at at r }
-{
-    match r {
-        Built::Ok(e, next, top) => Built::Ok(e, next, top),
-        Built::None => Built::Refused(UNUSABLE_TOKEN, at),
-        Built::Refused(number, place) => Built::Refused(number, place),
+// Names and their types.
+impl<'a> Parser<'a> {
+    // A name.
+    pub(crate) fn identifier(&mut self) -> Result<Option<u32>, Refusal>
+        requires { Ready self.old 0 }
+        ensures { Reads_if (name_words same) parse_name 1 0 self.old self.new result }
+    {
+        match self.name()? {
+            Some(name) => Ok(Some(self.push(Node::Two(name.start, name.len)))),
+            None => Ok(None),
+        }
+    }
+
+    #[inline]
+    #[tactic(auto, using(crate::proofs::Laws::failing))]
+    pub(crate) fn need_identifier(&mut self) -> Result<u32, Refusal>
+        requires { Ready self.old 0 }
+        ensures { Reads (name_words same) (needed parse_name) 1 0 self.old self.new result }
+    {
+        let name = self.need_name()?;
+        Ok(self.push(Node::Two(name.start, name.len)))
+    }
+
+    // `parseIdType`.
+    #[tactic(auto, using(crate::proofs::Laws::failing), unfolding(grammar::specs::Rules::parse_id_type))]
+    pub(crate) fn id_type(&mut self) -> Result<Option<u32>, Refusal>
+        requires { Ready self.old 0 }
+        ensures { Reads_if (binding_words same) parse_id_type 1 0 self.old self.new result }
+    {
+        let Some(name) = self.identifier()? else {
+            return Ok(None);
+        };
+        self.need_sym(b":")?;
+        let typ = self.need_identifier()?;
+        Ok(Some(self.pair(name, typ)))
+    }
+
+    #[inline]
+    #[tactic(auto, using(crate::proofs::Laws::failing), unfolding(grammar::specs::Steps::after))]
+    pub(crate) fn need_id_type(&mut self) -> Result<u32, Refusal>
+        requires { Ready self.old 0 }
+        ensures { Reads (binding_words same) (needed parse_id_type) 1 0 self.old self.new result }
+    {
+        let place = self.at;
+        self.id_type()?.ok_or(unusable(place))
+    }
+
+    // `parseIdType`, with a word between the name and the type.
+    #[tactic(auto, using(crate::proofs::Laws::failing), unfolding(grammar::specs::Rules::parse_id_type))]
+    fn marked_type(&mut self, word: u32) -> Result<Option<u32>, Refusal>
+        requires { Ready self.old 0 }
+        ensures { Reads_if (marked_words word) parse_id_type 1 0 self.old self.new result }
+    {
+        let Some(name) = self.name()? else {
+            return Ok(None);
+        };
+        self.need_sym(b":")?;
+        let marked = self.push(Node::Three(name.start, name.len, word));
+        let typ = self.need_identifier()?;
+        Ok(Some(self.pair(marked, typ)))
+    }
+
+    #[inline]
+    #[tactic(auto, using(crate::proofs::Laws::failing), unfolding(grammar::specs::Steps::after))]
+    fn need_marked_type(&mut self, word: u32) -> Result<u32, Refusal>
+        requires { Ready self.old 0 }
+        ensures { Reads (marked_words word) (needed parse_id_type) 1 0 self.old self.new result }
+    {
+        let place = self.at;
+        self.marked_type(word)?.ok_or(unusable(place))
+    }
+
+    // The type of `parseIdOptionalType`.
+    #[tactic(auto, using(crate::proofs::Laws::failing), unfolding(grammar::specs::Rules::parse_optional_type))]
+    pub(crate) fn optional_type(&mut self) -> Result<u32, Refusal>
+        requires { Ready self.old 0 }
+        ensures { Reads (option_words (name_words same)) parse_optional_type 0 0 self.old self.new result }
+    {
+        if self.sym_not_prefix(b":", b":=")? {
+            return self.typed();
+        }
+        Ok(END)
+    }
+
+    // A type that must follow.
+    #[tactic(auto, using(crate::proofs::Laws::failing))]
+    pub(crate) fn typed(&mut self) -> Result<u32, Refusal>
+        requires { Ready self.old 0 }
+        ensures { Reads (option_words (name_words same)) some_type 1 0 self.old self.new result }
+    {
+        let name = self.need_name()?;
+        Ok(self.push(Node::Three(MORE, name.start, name.len)))
+    }
+
+    // `parseFunctionFormal`.
+    #[tactic(auto, using(crate::proofs::Laws::failing), unfolding(grammar::specs::Declarations::parse_function_formal))]
+    pub(crate) fn formal(&mut self) -> Result<Option<u32>, Refusal>
+        requires { Ready self.old 0 }
+        ensures { Reads_if (f_parameter_words same) parse_function_formal 1 0 self.old self.new result }
+    {
+        if self.keyword(b"injective")? {
+            return Ok(Some(self.need_marked_type(TRUE)?));
+        }
+        self.marked_type(FALSE)
+    }
+
+    // `parseParameterMode`, and the name and the type of a parameter.
+    #[tactic(auto, using(crate::proofs::Laws::failing), unfolding(grammar::specs::Declarations::parse_moded))]
+    pub(crate) fn moded(&mut self) -> Result<Option<u32>, Refusal>
+        requires { Ready self.old 0 }
+        ensures { Reads_if moded_words parse_moded 1 0 self.old self.new result }
+    {
+        if self.keyword(b"inout")? {
+            return Ok(Some(self.need_marked_type(IN_OUT)?));
+        }
+        if self.keyword(b"out")? {
+            return Ok(Some(self.need_marked_type(OUT)?));
+        }
+        self.marked_type(IN)
+    }
+
+    // `out` or `inout` and a name.
+    #[tactic(auto, using(crate::proofs::Laws::failing))]
+    pub(crate) fn by_name(&mut self) -> Result<Option<u32>, Refusal>
+        requires { Ready self.old 0 }
+        ensures { Reads_if (call_argument_words same) reference_argument 1 0 self.old self.new result }
+    {
+        if self.keyword(b"out")? {
+            return Ok(Some(self.reference(Mode::Out)?));
+        }
+        if self.keyword(b"inout")? {
+            return Ok(Some(self.reference(Mode::InOut)?));
+        }
+        Ok(None)
+    }
+
+    // The name that must follow `out` or `inout`.
+    #[tactic(auto, using(crate::proofs::Laws::failing))]
+    fn reference(&mut self, mode: Mode) -> Result<u32, Refusal>
+        requires { Ready self.old 0 }
+        ensures { Reads (call_argument_words same) (reference (as_mode mode)) 1 0 self.old self.new result }
+    {
+        let name = self.need_name()?;
+        let variable = self.push(Node::Ident(name.start, name.len, FALSE));
+        Ok(self.push(Node::Headed(mode.word(), variable)))
     }
 }
 
-// A token that must follow at `at`: the refusal where it does not.
-pub(crate) fn missing(r: Lexed, at: usize) -> Built
-    ensures { result ≡ missing_at at r }
-{
-    match r {
-        Lexed::Ok(_, _) => Built::Refused(UNUSABLE_TOKEN, at),
-        Lexed::None => Built::Refused(UNUSABLE_TOKEN, at),
-        Lexed::Refused(number, place) => Built::Refused(number, place),
+// Operands.
+impl<'a> Parser<'a> {
+    // A natural or a custom literal.
+    #[tactic(auto, using(crate::proofs::Laws::failing))]
+    pub(crate) fn literal(&mut self) -> Result<Option<u32>, Refusal>
+        requires { Ready self.old 0 }
+        ensures { Reads_if tree_words literal_expr 1 0 self.old self.new result }
+    {
+        if let Some(value) = self.natural()? {
+            let high = (value / 4294967296) as u32;
+            let low = (value % 4294967296) as u32;
+            return Ok(Some(self.push(Node::Three(I_LITERAL, high, low))));
+        }
+        self.custom()
     }
-}
 
-// A token at a rule's start that is not there.
-pub(crate) fn untaken(r: Lexed) -> Built
-    ensures { result ≡ untaken_at r }
-{
-    match r {
-        Lexed::Ok(_, _) => Built::None,
-        Lexed::None => Built::None,
-        Lexed::Refused(number, place) => Built::Refused(number, place),
+    // A custom literal.
+    #[tactic(auto, using(crate::proofs::Laws::failing))]
+    fn custom(&mut self) -> Result<Option<u32>, Refusal>
+        requires { Ready self.old 0 }
+        ensures { Reads_if tree_words custom_expr 1 0 self.old self.new result }
+    {
+        if self.sym(b"|")? {
+            return Ok(Some(self.after_bar()?));
+        }
+        Ok(None)
     }
-}
 
-// A rule that must follow at `at` where the token `mark` stands.
-pub(crate) fn needed_if(mark: Lexed, r: Built, at: usize) -> Built
-    ensures { result ≡ needed_if mark at r }
-{
-    match mark {
-        Lexed::Ok(_, _) => needed(r, at),
-        Lexed::None => r,
-        Lexed::Refused(_, _) => r,
+    // After `|`.
+    #[tactic(auto, using(crate::proofs::Laws::failing), unfolding(grammar::specs::Rules::after_bar))]
+    fn after_bar(&mut self) -> Result<u32, Refusal>
+        requires { Ready self.old 0 }
+        ensures { Reads tree_words after_bar 1 0 self.old self.new result }
+    {
+        let text = self.need_literal_text()?;
+        let value = self.push(Node::Three(CUSTOM_LITERAL, text.start, text.len));
+        self.need_sym(b":")?;
+        let typ = self.need_identifier()?;
+        self.need_sym(b"|")?;
+        Ok(self.pair(value, typ))
     }
-}
 
-// `parseIdType`.
-pub(crate) fn id_type(text: &[u8], at: usize, arena: &mut [u32], top: usize) -> Built
-    requires { Room text.now arena.old at top 0 }
-    ensures { Builds (binding_words same) text.now arena.old arena.new at top 1 0 (parse_id_type text.now at) result }
-{
-    between(text, at, arena, top, TWO, 0)
-}
-
-// The type of `parseIdOptionalType`.
-pub(crate) fn optional_type(text: &[u8], at: usize, arena: &mut [u32], top: usize) -> Built
-    requires { Room text.now arena.old at top 0 }
-    ensures { Builds (option_words (name_words same)) text.now arena.old arena.new at top 0 0 (parse_optional_type text.now at) result }
-{
-    match sym_not_prefix(text, at, b":", b":=") {
-        Lexed::Ok(_, at1) => typed(text, at1, arena, top),
-        Lexed::None => Built::Ok(END, at, top),
-        Lexed::Refused(number, place) => Built::Refused(number, place),
+    // What begins with a word of `len` bytes and opens no expression: `false`, `true` or `old`.
+    #[tactic(auto, using(crate::proofs::Laws::failing))]
+    pub(crate) fn constant(&mut self, len: usize) -> Result<Option<u32>, Refusal>
+        requires ready { Ready self.old 0 }
+        requires spelt { Spelt self.old len }
+        ensures { Reads_if tree_words constant_expr 1 0 self.old self.new result }
+    {
+        if self.keyword_of(len, b"false")? {
+            return Ok(Some(self.push(Node::Two(B_LITERAL, FALSE))));
+        }
+        if self.keyword_of(len, b"true")? {
+            return Ok(Some(self.push(Node::Two(B_LITERAL, TRUE))));
+        }
+        if self.keyword_of(len, b"old")? {
+            return Ok(Some(self.old()?));
+        }
+        Ok(None)
     }
-}
 
-// A type that must follow.
-pub(crate) fn typed(text: &[u8], at: usize, arena: &mut [u32], top: usize) -> Built
-    requires { Room text.now arena.old at top 0 }
-    ensures { Builds (option_words (name_words same)) text.now arena.old arena.new at top 1 0 (some_type text.now at) result }
-{
-    let r = name(text, at);
-    let Lexed::Ok(len, at1) = r else {
-        return missing(r, at);
-    };
-    over(arena, top, THREE, MORE, at as u32, len as u32, at1)
-}
-
-// A name.
-pub(crate) fn identifier(text: &[u8], at: usize, arena: &mut [u32], top: usize) -> Built
-    requires { Room text.now arena.old at top 0 }
-    ensures { Builds (name_words same) text.now arena.old arena.new at top 1 0 (parse_name text.now at) result }
-{
-    let r = name(text, at);
-    let Lexed::Ok(len, at1) = r else {
-        return untaken(r);
-    };
-    over(arena, top, TWO, at as u32, len as u32, 0, at1)
-}
-
-// `parseIdType`, with the word `word` between name and type where the name's node is of three words.
-fn between(text: &[u8], at: usize, arena: &mut [u32], top: usize, tag: u32, word: u32) -> Built
-    requires { Room text.now arena.old at top 0 × OneOf (2 ∷ 3 ∷ []) tag }
-    ensures { Builds (between_words tag word) text.now arena.old arena.new at top 1 0 (parse_id_type text.now at) result }
-{
-    let bound = name(text, at);
-    let Lexed::Ok(len, at1) = bound else {
-        return untaken(bound);
-    };
-    let colon = sym(text, at1, b":");
-    let Lexed::Ok(_, at2) = colon else {
-        return missing(colon, at1);
-    };
-    let typ = name(text, at2);
-    let Lexed::Ok(len2, at3) = typ else {
-        return missing(typ, at2);
-    };
-    node(arena, top, tag, at as u32, len as u32, word);
-    node(arena, top + 4, TWO, at2 as u32, len2 as u32, 0);
-    over(arena, top + 8, PAIR, 0, top as u32, (top + 4) as u32, at3)
-}
-
-// `parseFunctionFormal`.
-pub(crate) fn formal(text: &[u8], at: usize, arena: &mut [u32], top: usize) -> Built
-    requires { Room text.now arena.old at top 0 }
-    ensures { Builds (f_parameter_words same) text.now arena.old arena.new at top 1 0 (parse_function_formal text.now at) result }
-{
-    match keyword(text, at, b"injective") {
-        Lexed::Ok(_, at1) => needed(between(text, at1, arena, top, THREE, TRUE), at1),
-        Lexed::None => between(text, at, arena, top, THREE, FALSE),
-        Lexed::Refused(number, place) => Built::Refused(number, place),
+    // After `old`.
+    #[tactic(auto, using(crate::proofs::Laws::failing), unfolding(grammar::specs::Rules::after_old))]
+    fn old(&mut self) -> Result<u32, Refusal>
+        requires { Ready self.old 0 }
+        ensures { Reads tree_words after_old 1 0 self.old self.new result }
+    {
+        let name = self.need_name()?;
+        Ok(self.push(Node::Ident(name.start, name.len, TRUE)))
     }
-}
 
-// `parseParameterMode`, and the name and the type of a parameter.
-pub(crate) fn moded(text: &[u8], at: usize, arena: &mut [u32], top: usize) -> Built
-    requires { Room text.now arena.old at top 0 }
-    ensures { Builds moded_words text.now arena.old arena.new at top 1 0 (parse_moded text.now at) result }
-{
-    match keyword(text, at, b"inout") {
-        Lexed::Ok(_, at1) => needed(between(text, at1, arena, top, THREE, IN_OUT), at1),
-        Lexed::None => match keyword(text, at, b"out") {
-            Lexed::Ok(_, at1) => needed(between(text, at1, arena, top, THREE, OUT), at1),
-            Lexed::None => between(text, at, arena, top, THREE, IN),
-            Lexed::Refused(number, place) => Built::Refused(number, place),
-        },
-        Lexed::Refused(number, place) => Built::Refused(number, place),
+    // `parseExpr` where no level is left: refusal 3 if an expression's first token stands here.
+    pub(crate) fn too_deep_expr(&self) -> Result<Option<u32>, Refusal>
+        requires { Ready self.now 0 }
+        ensures { Reads_if tree_words (inner 0) 1 0 self.now self.now result }
+    {
+        if self.opens_expr() {
+            return Err(Refusal {
+                reason: Reason::LevelTooDeep,
+                place: self.at,
+            });
+        }
+        Ok(None)
     }
-}
 
-// `out` or `inout` and a name.
-pub(crate) fn by_name(text: &[u8], at: usize, arena: &mut [u32], top: usize) -> Built
-    requires { Room text.now arena.old at top 0 }
-    ensures { Builds (call_argument_words same) text.now arena.old arena.new at top 1 0 (reference_argument text.now at) result }
-{
-    match keyword(text, at, b"out") {
-        Lexed::Ok(_, at1) => named(text, at1, arena, top, OUT),
-        Lexed::None => match keyword(text, at, b"inout") {
-            Lexed::Ok(_, at1) => named(text, at1, arena, top, IN_OUT),
-            Lexed::None => Built::None,
-            Lexed::Refused(number, place) => Built::Refused(number, place),
-        },
-        Lexed::Refused(number, place) => Built::Refused(number, place),
+    // Whether an expression's first token stands here.
+    fn opens_expr(&self) -> bool
+        requires { Ready self.now 0 }
+        ensures { result ≡ opens_expr (drop self.now.at self.now.text.now) }
+    {
+        self.word_ahead() > 0 || opens_at(self.peek(0), self.peek(1))
     }
-}
-
-// The name that must follow `out` or `inout`, after the word of its mode.
-fn named(text: &[u8], at: usize, arena: &mut [u32], top: usize, mode: u32) -> Built
-    requires { Room text.now arena.old at top 0 }
-    ensures { Builds (reference_words mode) text.now arena.old arena.new at top 1 0 (must at (parse_name text.now at)) result }
-{
-    let r = name(text, at);
-    let Lexed::Ok(len, at1) = r else {
-        return missing(r, at);
-    };
-    node(arena, top, IDENT, at as u32, len as u32, FALSE);
-    over(arena, top + 4, HEADED, mode, top as u32, 0, at1)
-}
-
-// A natural or a custom literal.
-pub(crate) fn literal(text: &[u8], at: usize, arena: &mut [u32], top: usize) -> Built
-    requires { Room text.now arena.old at top 0 }
-    ensures { Builds tree_words text.now arena.old arena.new at top 1 0 (literal_expr text.now at) result }
-{
-    let r = number(text, at, arena, top);
-    let Built::None = r else {
-        return r;
-    };
-    custom(text, at, arena, top)
-}
-
-// A custom literal.
-fn custom(text: &[u8], at: usize, arena: &mut [u32], top: usize) -> Built
-    requires { Room text.now arena.old at top 0 }
-    ensures { Builds tree_words text.now arena.old arena.new at top 1 0 (custom_expr text.now at) result }
-{
-    let r = sym(text, at, b"|");
-    let Lexed::Ok(_, at1) = r else {
-        return untaken(r);
-    };
-    let r = literal_text(text, at1);
-    let Lexed::Ok(len, at2) = r else {
-        return missing(r, at1);
-    };
-    let r = sym(text, at2, b":");
-    let Lexed::Ok(_, at3) = r else {
-        return missing(r, at2);
-    };
-    let r = name(text, at3);
-    let Lexed::Ok(len2, at4) = r else {
-        return missing(r, at3);
-    };
-    let r = sym(text, at4, b"|");
-    let Lexed::Ok(_, at5) = r else {
-        return missing(r, at4);
-    };
-    node(arena, top, THREE, CUSTOM_LITERAL, at1 as u32, len as u32);
-    node(arena, top + 4, TWO, at3 as u32, len2 as u32, 0);
-    over(arena, top + 8, PAIR, 0, top as u32, (top + 4) as u32, at5)
-}
-
-// What begins with the word `w` and opens no expression: `false`, `true` or `old`.
-pub(crate) fn constant(text: &[u8], w: Word, arena: &mut [u32], top: usize) -> Built
-    requires room { Room text.now arena.old w.at top 0 }
-    requires worded { Worded text.now w }
-    ensures { Builds tree_words text.now arena.old arena.new w.at top 1 0 (constant_expr text.now w.at) result }
-{
-    if is_word(text, w, b"false") {
-        return over(arena, top, TWO, B_LITERAL, FALSE, 0, w.next);
-    }
-    if is_word(text, w, b"true") {
-        return over(arena, top, TWO, B_LITERAL, TRUE, 0, w.next);
-    }
-    if is_word(text, w, b"old") {
-        return old(text, w.next, arena, top);
-    }
-    Built::None
-}
-
-// The name `n` alone, where `:` does not follow it.
-pub(crate) fn alone(colon: Lexed, n: Word, arena: &mut [u32], top: usize) -> Built
-    requires { (top + 4 ≤ length arena.old) × (length arena.old ≤ most_arena) × (n.at ≤ most_text) × (n.len ≤ most_text) }
-    ensures { Alone arena.old arena.new top n colon result }
-{
-    match colon {
-        Lexed::Ok(_, _) => Built::None,
-        Lexed::None => over(arena, top, IDENT, n.at as u32, n.len as u32, FALSE, n.next),
-        Lexed::Refused(number, place) => Built::Refused(number, place),
-    }
-}
-
-// After `old`.
-fn old(text: &[u8], at: usize, arena: &mut [u32], top: usize) -> Built
-    requires { Room text.now arena.old at top 0 }
-    ensures { Builds tree_words text.now arena.old arena.new at top 1 0 (after_old text.now at) result }
-{
-    let r = name(text, at);
-    let Lexed::Ok(len, at1) = r else {
-        return missing(r, at);
-    };
-    over(arena, top, IDENT, at as u32, len as u32, TRUE, at1)
-}
-
-// The sign that closes a sequence.
-pub(crate) fn shut(text: &[u8], at: usize, top: usize, es: u32, close: &[u8]) -> Built
-    requires { at ≤ length text.now }
-    ensures { Shuts text.now close.now at top es result }
-{
-    let r = sym(text, at, close);
-    let Lexed::Ok(_, next) = r else {
-        return missing(r, at);
-    };
-    Built::Ok(es, next, top)
-}
-
-// A natural.
-fn number(text: &[u8], at: usize, arena: &mut [u32], top: usize) -> Built
-    requires { Room text.now arena.old at top 0 }
-    ensures { Builds tree_words text.now arena.old arena.new at top 1 0 (mapped ILiteral (parse_nat text.now at)) result }
-{
-    match told(natural(&text[at..])) {
-        Lexed::Ok(v, n) => over(
-            arena,
-            top,
-            THREE,
-            I_LITERAL,
-            (v / 4294967296) as u32,
-            (v % 4294967296) as u32,
-            at + n,
-        ),
-        Lexed::None => Built::None,
-        Lexed::Refused(number, place) => Built::Refused(number, at + place),
-    }
-}
-
-// `parseExpr` where no level is left: refusal 3 if an expression's first token stands at `at`.
-pub(crate) fn too_deep(text: &[u8], at: usize) -> Built
-    requires { at ≤ length text.now }
-    ensures { Stopped (inner text.now 0 at) result }
-{
-    if opens(&text[at..]) {
-        return Built::Refused(LEVEL_TOO_DEEP, at);
-    }
-    Built::None
-}
-
-// Whether an expression's first token stands at the start.
-fn opens(s: &[u8]) -> bool
-    ensures { result ≡ opens_expr s.now }
-{
-    if 0 < identifier_length(s) {
-        return true;
-    }
-    opens_at(peek(s, 0), peek(s, 1))
-}
-
-// The byte at `i`, 0 past the end.
-pub(crate) fn peek(s: &[u8], i: usize) -> u8
-    ensures { result ≡ get_or s.now i 0 }
-{
-    if i < s.len() {
-        return s[i];
-    }
-    0
 }
 
 // Whether an expression that begins with no word has these first two bytes.
+#[tactic(auto, unfolding(grammar::specs::Rules::opens_at, lexing::specs::Bytes::is_digit))]
 fn opens_at(b: u8, after: u8) -> bool
     ensures { result ≡ opens_at b after }
 {
-    if b == b'!' {
-        return after != b'=';
+    match b {
+        b'!' => after != b'=',
+        b'|' | b'(' | b'-' | b'0'..=b'9' => true,
+        _ => false,
     }
-    if b == b'|' {
-        return true;
-    }
-    if b == b'(' {
-        return true;
-    }
-    if b == b'-' {
-        return true;
-    }
-    if b'0' <= b {
-        return b <= b'9';
-    }
-    false
 }

@@ -3,18 +3,16 @@
 #![tactic(auto)]
 
 mod arena;
-mod build;
 mod decl;
 mod entry;
 mod expr;
 mod lead;
 mod leaf;
+mod parser;
 mod program;
-mod refusal;
 mod sign;
 mod simple;
-mod step;
 mod stmt;
 
-pub use arena::{BINARY, CLOSED, HEADED, IDENT, ITEM, ONE, PAIR, THREE, TWO, UNARY};
-pub use entry::{Parsed, Whole, parse};
+pub use arena::Node;
+pub use entry::{Whole, parse};

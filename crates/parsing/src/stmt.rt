@@ -1,25 +1,24 @@
 // The reading rules of statements, in one cycle of calls. `depth` is how many levels may still be opened.
+
+#![tactic(auto, using(crate::proofs::Laws::failing, crate::proofs::StatementPlaces::sparing, crate::proofs::StatementEquations::equations), unfolding(grammar::specs::Steps::after, grammar::specs::Statements::parse_variable_declaration, grammar::specs::Statements::after_forall, grammar::specs::Statements::after_label, grammar::specs::Statements::parse_a_expr))]
+
 pub(crate) mod alt;
 
-ghost use Rattle.std.specs.Prelude.{◌≡◌, ◌≤◌, length, take, drop};
+ghost use Rattle.std.specs.Prelude.{◌≤◌, length};
 ghost use Rattle.tree.specs.Words.{stmt_words, a_expr_words};
-ghost use Rattle.grammar.specs.Statements.{rep, parse_stmt, parse_variable_declaration, after_forall, parse_a_expr};
-ghost use Rattle.parsing.specs.Arena.{Room, Builds};
-ghost use Rattle.parsing.specs.Code.{same, turns, opened, Worded, bool_of};
-ghost use Rattle.parsing.specs.Leads.{lead_of, loop_body};
-ghost use Rattle.parsing.specs.Statements.{Leaves, label_stmt, named_stmt, scope_stmt, repeated, repeated_words, repetition_words, repeated_rule};
+ghost use Rattle.grammar.specs.Statements.{rep, parse_stmt, parse_variable_declaration, after_forall, after_label};
+ghost use Rattle.parsing.specs.Contract.{Ready, Reads, Reads_if, same, needed, span};
+ghost use Rattle.parsing.specs.Code.{turns, opened, opening};
+ghost use Rattle.parsing.specs.Statements.{Spares, Spares_if, aexpr_rule, block_rule, stmt_rule, loop_body, named_stmt, scope_stmt, repeated, repeated_words, repetition_words, repeated_rule};
 
-use crate::arena::{Built, HEADED, ITEM, PAIR, THREE, node};
-use crate::build::{close, over};
-use crate::lead::{Lead, lead_at};
-use crate::leaf::{missing, needed, untaken};
-use crate::refusal::LEVEL_TOO_DEEP;
-use crate::step::{Lexed, Word, after_word, keyword, sym, word_length};
-use crate::{leaf, simple};
-use tree::word::{A_ASSERTION, A_EXPR, A_FORALL, BLOCK, FALSE, LABELED_STMT, LOOP, TRUE};
+use crate::arena::{EMPTY, Node};
+use crate::lead::Lead;
+use crate::parser::{Name, Parser, unusable};
+use lexing::refusal::{Reason, Refusal};
+use tree::word::{A_ASSERTION, A_EXPR, A_FORALL, BLOCK, LABELED_STMT, LOOP, VAR_DECL};
 
 // What is repeated.
-#[derive(Clone, Copy)]
+#[derive(Clone, Copy, PartialEq, Eq, Debug)]
 pub(crate) enum Repeated {
     Stmts,
     Nested,
@@ -31,271 +30,217 @@ pub(crate) enum Repeated {
     Whens,
 }
 
-#[cycle(statement)]
-fn one(text: &[u8], at: usize, arena: &mut [u32], top: usize, depth: usize, kind: Repeated) -> Built
-    requires { Room text.now arena.old at top 0 }
-    ensures { Leaves (repeated_words kind) text.now arena.old arena.new at top (repeated_rule kind text.now depth at) result }
-{
-    match kind {
-        Repeated::Stmts => stmt(text, at, arena, top, depth),
-        Repeated::Nested => nested(text, at, arena, top, depth),
-        Repeated::Branches => alt::branch(text, at, arena, top, depth),
-        Repeated::Cases => alt::case(text, at, arena, top, depth),
-        Repeated::Requires => aexpr(text, at, arena, top, depth, b"requires"),
-        Repeated::Ensures => aexpr(text, at, arena, top, depth, b"ensures"),
-        Repeated::Invariants => aexpr(text, at, arena, top, depth, b"invariant"),
-        Repeated::Whens => simple::when(text, at, arena, top, depth),
+impl<'a> Parser<'a> {
+    #[cycle(statement)]
+    fn repeated(&mut self, kind: Repeated, depth: usize) -> Result<Option<u32>, Refusal>
+        requires { Ready self.old 0 }
+        ensures { Spares_if (repeated_words kind) (repeated_rule kind depth) self.old self.new result }
+    {
+        match kind {
+            Repeated::Stmts => self.stmt(depth),
+            Repeated::Nested => self.nested(depth),
+            Repeated::Branches => self.or_branch(depth),
+            Repeated::Cases => self.case(depth),
+            Repeated::Requires => self.aexpr(b"requires", depth),
+            Repeated::Ensures => self.aexpr(b"ensures", depth),
+            Repeated::Invariants => self.aexpr(b"invariant", depth),
+            Repeated::Whens => self.when(depth),
+        }
     }
-}
 
-// `.Rep()`.
-#[cycle(statement)]
-pub(crate) fn many(
-    text: &[u8],
-    start: usize,
-    arena: &mut [u32],
-    free: usize,
-    depth: usize,
-    kind: Repeated,
-) -> Built
-    requires { Room text.now arena.old start free 4 }
-    ensures { Builds (repetition_words kind) text.now arena.old arena.new start free 0 4 (rep (repeated kind) (turns text.now) (repeated_rule kind text.now depth) start) result }
-{
-    let mut list: u32 = 0;
-    let mut at = start;
-    let mut top = free;
-    loop {
-        match one(text, at, arena, top, depth, kind) {
-            Built::Ok(e, next, top1) => {
-                node(arena, top1, ITEM, 0, list, e);
-                list = top1 as u32;
-                at = next;
-                top = top1 + 4;
-            }
-            Built::None => {
-                return close(arena, top, list, at);
-            }
-            Built::Refused(number, place) => {
-                return Built::Refused(number, place);
+    // `.Rep()`.
+    #[cycle(statement)]
+    pub(crate) fn many(&mut self, kind: Repeated, depth: usize) -> Result<u32, Refusal>
+        requires { Ready self.old 1 }
+        ensures { Reads (repetition_words kind) (λ text. rep (repeated kind) (turns text) (repeated_rule kind depth text)) 0 1 self.old self.new result }
+    {
+        let mut list = EMPTY;
+        while let Some(item) = self.repeated(kind, depth)? {
+            list = self.push(Node::Item(list, item));
+        }
+        Ok(self.close(list))
+    }
+
+    // "block" of `stmtGallery`.
+    #[cycle(statement)]
+    pub(crate) fn block(&mut self, depth: usize) -> Result<Option<u32>, Refusal>
+        requires { Ready self.old 0 }
+        ensures { Spares_if (stmt_words same) (block_rule depth) self.old self.new result }
+    {
+        let at = self.at;
+        if !self.sym(b"{")? {
+            return Ok(None);
+        }
+        if depth == 0 {
+            return Err(Refusal {
+                reason: Reason::LevelTooDeep,
+                place: at,
+            });
+        }
+        let stmts = self.many(Repeated::Stmts, depth - 1)?;
+        self.need_sym(b"}")?;
+        Ok(Some(self.push(Node::Headed(BLOCK, stmts))))
+    }
+
+    #[cycle(statement)]
+    fn need_block(&mut self, depth: usize) -> Result<u32, Refusal>
+        requires { Ready self.old 0 }
+        ensures { Spares (stmt_words same) (needed (block_rule depth)) self.old self.new result }
+    {
+        let at = self.at;
+        self.block(depth)?.ok_or(unusable(at))
+    }
+
+    // After `loop`, which stands at `start`: its invariants and its body.
+    #[cycle(statement)]
+    fn looped(&mut self, start: usize, depth: usize) -> Result<u32, Refusal>
+        requires { Ready self.old 3 }
+        ensures { Reads (stmt_words same) (loop_body depth start) 1 3 self.old self.new result }
+    {
+        if depth == 0 {
+            return Err(Refusal {
+                reason: Reason::LevelTooDeep,
+                place: start,
+            });
+        }
+        let invariants = self.many(Repeated::Invariants, depth - 1)?;
+        let head = self.push(Node::Headed(LOOP, invariants));
+        let body = self.need_block(depth - 1)?;
+        Ok(self.pair(head, body))
+    }
+
+    // "stmt" of `stmtGallery`.
+    #[cycle(statement)]
+    fn nested(&mut self, depth: usize) -> Result<Option<u32>, Refusal>
+        requires { Ready self.old 0 }
+        ensures { Spares_if (stmt_words same) (stmt_rule depth) self.old self.new result }
+    {
+        if depth == 0 {
+            self.too_deep_stmt()?;
+            return Ok(None);
+        }
+        self.stmt(depth - 1)
+    }
+
+    // `parseStmt`: by the word that stands here. Where a name stands that no mark follows, nothing is kept.
+    #[cycle(statement)]
+    fn stmt(&mut self, depth: usize) -> Result<Option<u32>, Refusal>
+        requires { Ready self.old 0 }
+        ensures { Spares_if (stmt_words same) (opening parse_stmt depth) self.old self.new result }
+    {
+        let start = self.at;
+        let len = self.word_ahead();
+        if len == 0 {
+            return self.block(depth);
+        }
+        let lead = self.lead_at(len);
+        let name = self.pass_word(len)?;
+        match lead {
+            Lead::Var => Ok(Some(self.var_decl(true, depth)?)),
+            Lead::Val => Ok(Some(self.var_decl(false, depth)?)),
+            Lead::Simple(kind) => Ok(Some(self.simple(kind, depth)?)),
+            Lead::Forall => Ok(Some(self.forall_stmt(depth)?)),
+            Lead::Choose => Ok(Some(self.choose(depth)?)),
+            Lead::If => Ok(Some(self.if_cont(depth)?)),
+            Lead::Loop => Ok(Some(self.looped(start, depth)?)),
+            Lead::Name => {
+                let Some(stmt) = self.named_stmt(name, depth)? else {
+                    self.at = start;
+                    return Ok(None);
+                };
+                Ok(Some(stmt))
             }
         }
     }
-}
 
-// "block" of `stmtGallery`.
-#[cycle(statement)]
-pub(crate) fn block(text: &[u8], at: usize, arena: &mut [u32], top: usize, depth: usize) -> Built
-    requires { Room text.now arena.old at top 0 }
-    ensures { Leaves (stmt_words same) text.now arena.old arena.new at top ((opened text.now depth).block at) result }
-{
-    let brace = sym(text, at, b"{");
-    let Lexed::Ok(_, at1) = brace else {
-        return untaken(brace);
-    };
-    if depth == 0 {
-        return Built::Refused(LEVEL_TOO_DEEP, at);
-    }
-    let body = many(text, at1, arena, top, depth - 1, Repeated::Stmts);
-    let Built::Ok(stmts, at2, top1) = body else {
-        return needed(body, at1);
-    };
-    let shut = sym(text, at2, b"}");
-    let Lexed::Ok(_, at3) = shut else {
-        return missing(shut, at2);
-    };
-    over(arena, top1, HEADED, BLOCK, stmts, 0, at3)
-}
-
-// After `loop`, which stands at `start`: its invariants and its body.
-#[cycle(statement)]
-fn looped(
-    text: &[u8],
-    at: usize,
-    arena: &mut [u32],
-    top: usize,
-    depth: usize,
-    start: usize,
-) -> Built
-    requires { Room text.now arena.old at top 12 }
-    ensures { Builds (stmt_words same) text.now arena.old arena.new at top 1 12 (loop_body text.now depth start at) result }
-{
-    if depth == 0 {
-        return Built::Refused(LEVEL_TOO_DEEP, start);
-    }
-    let marked = many(text, at, arena, top, depth - 1, Repeated::Invariants);
-    let Built::Ok(invariants, at1, top1) = marked else {
-        return needed(marked, at);
-    };
-    node(arena, top1, HEADED, LOOP, invariants, 0);
-    let body = block(text, at1, arena, top1 + 4, depth - 1);
-    let Built::Ok(s, at2, top2) = body else {
-        return needed(body, at1);
-    };
-    over(arena, top2, PAIR, 0, top1 as u32, s, at2)
-}
-
-// "stmt" of `stmtGallery`.
-#[cycle(statement)]
-fn nested(text: &[u8], at: usize, arena: &mut [u32], top: usize, depth: usize) -> Built
-    requires { Room text.now arena.old at top 0 }
-    ensures { Leaves (stmt_words same) text.now arena.old arena.new at top ((opened text.now depth).stmt at) result }
-{
-    if depth == 0 {
-        return simple::too_deep(text, at);
-    }
-    stmt(text, at, arena, top, depth - 1)
-}
-
-// `parseStmt`.
-#[cycle(statement)]
-fn stmt(text: &[u8], at: usize, arena: &mut [u32], top: usize, depth: usize) -> Built
-    requires { Room text.now arena.old at top 0 }
-    ensures { Leaves (stmt_words same) text.now arena.old arena.new at top (parse_stmt text.now (turns text.now) (opened text.now depth) at) result }
-{
-    let len = word_length(text, at);
-    if len == 0 {
-        return block(text, at, arena, top, depth);
-    }
-    let lead = lead_at(text, at, len);
-    match after_word(text, at, len) {
-        Lexed::Ok(_, next) => {
-            let w = Word {
-                at: at,
-                len: len,
-                next: next,
-            };
-            word(text, w, arena, top, depth, lead)
+    // After a name: its mark, and what follows it.
+    #[cycle(statement)]
+    fn named_stmt(&mut self, name: Name, depth: usize) -> Result<Option<u32>, Refusal>
+        requires { Ready self.old 2 }
+        ensures { Reads_if (stmt_words same) (named_stmt depth (span name)) 1 1 self.old self.new result }
+    {
+        if self.sym(b":=")? {
+            return Ok(Some(self.assign_stmt(name, depth)?));
         }
-        Lexed::None => Built::None,
-        Lexed::Refused(number, place) => Built::Refused(number, place),
+        if self.sym(b":")? {
+            return Ok(Some(self.labeled_stmt(name, depth)?));
+        }
+        if self.sym(b"(")? {
+            return Ok(Some(self.call_stmt(name, depth)?));
+        }
+        Ok(None)
     }
-}
 
-// A statement that begins with the word `w`, by its lead.
-#[cycle(statement)]
-fn word(text: &[u8], w: Word, arena: &mut [u32], top: usize, depth: usize, lead: Lead) -> Built
-    requires room { Room text.now arena.old w.at top 0 }
-    requires worded { Worded text.now w }
-    requires lead_value { lead ≡ lead_of (take w.len (drop w.at text.now)) }
-    ensures { Leaves (stmt_words same) text.now arena.old arena.new w.at top (parse_stmt text.now (turns text.now) (opened text.now depth) w.at) result }
-{
-    match lead {
-        Lead::Var => var(text, w.next, arena, top, depth, TRUE),
-        Lead::Val => var(text, w.next, arena, top, depth, FALSE),
-        Lead::Simple(kind) => simple::simple(text, w.next, arena, top, depth, kind),
-        Lead::Forall => forall(text, w.next, arena, top, depth),
-        Lead::Choose => alt::choose(text, w.next, arena, top, depth),
-        Lead::If => needed(alt::cont(text, w.next, arena, top, depth), w.next),
-        Lead::Loop => looped(text, w.next, arena, top, depth, w.at),
-        Lead::Name => named(text, w, arena, top, depth),
+    // After the name and `:`.
+    #[cycle(statement)]
+    fn labeled_stmt(&mut self, name: Name, depth: usize) -> Result<u32, Refusal>
+        requires { Ready self.old 2 }
+        ensures { Reads (stmt_words same) (λ text. after_label text (turns text) (opened depth text) (span name)) 1 2 self.old self.new result }
+    {
+        let head = self.push(Node::Three(LABELED_STMT, name.start, name.len));
+        let body = self.need_scope(depth)?;
+        Ok(self.pair(head, body))
     }
-}
 
-// A statement that begins with the name `w` and a mark.
-#[cycle(statement)]
-fn named(text: &[u8], w: Word, arena: &mut [u32], top: usize, depth: usize) -> Built
-    requires room { Room text.now arena.old w.next top 8 }
-    requires worded { Worded text.now w }
-    ensures { Builds (stmt_words same) text.now arena.old arena.new w.next top 1 4 (named_stmt text.now depth w) result }
-{
-    let assigned = simple::assign(text, w, arena, top, depth);
-    let Built::None = assigned else {
-        return assigned;
-    };
-    let labelled = label(text, w, arena, top, depth);
-    let Built::None = labelled else {
-        return labelled;
-    };
-    simple::call(text, w, arena, top, depth)
-}
+    // A block or a loop, which must follow.
+    #[cycle(statement)]
+    fn need_scope(&mut self, depth: usize) -> Result<u32, Refusal>
+        requires { Ready self.old 0 }
+        ensures { Spares (stmt_words same) (needed (scope_stmt depth)) self.old self.new result }
+    {
+        let start = self.at;
+        if let Some(block) = self.block(depth)? {
+            return Ok(block);
+        }
+        if self.keyword(b"loop")? {
+            return self.looped(start, depth);
+        }
+        Err(unusable(start))
+    }
 
-// After the name `w`: `:`, and a block or a loop.
-#[cycle(statement)]
-fn label(text: &[u8], w: Word, arena: &mut [u32], top: usize, depth: usize) -> Built
-    requires room { Room text.now arena.old w.next top 8 }
-    requires worded { Worded text.now w }
-    ensures { Builds (stmt_words same) text.now arena.old arena.new w.next top 1 4 (label_stmt text.now depth w) result }
-{
-    let colon = sym(text, w.next, b":");
-    let Lexed::Ok(_, at1) = colon else {
-        return untaken(colon);
-    };
-    node(arena, top, THREE, LABELED_STMT, w.at as u32, w.len as u32);
-    let body = scope(text, at1, arena, top + 4, depth);
-    let Built::Ok(s, at2, top1) = body else {
-        return needed(body, at1);
-    };
-    over(arena, top1, PAIR, 0, top as u32, s, at2)
-}
+    // After `var` or `val`.
+    #[cycle(statement)]
+    fn var_decl(&mut self, mutable: bool, depth: usize) -> Result<u32, Refusal>
+        requires { Ready self.old 6 }
+        ensures { Reads (stmt_words same) (λ text. parse_variable_declaration text (turns text) (opened depth text) mutable) 1 6 self.old self.new result }
+    {
+        let name = self.need_name()?;
+        let head = self.push(Node::Three(VAR_DECL, name.start, name.len));
+        let typ = self.optional_type()?;
+        let marked = self.push(Node::Headed(u32::from(mutable), typ));
+        let inv = self.auto_invariant(depth)?;
+        let init = self.init(depth)?;
+        let declaration = self.four(head, marked, inv, init);
+        let stmts = self.many(Repeated::Nested, depth)?;
+        let body = self.push(Node::Headed(BLOCK, stmts));
+        Ok(self.pair(declaration, body))
+    }
 
-// A block or a loop.
-#[cycle(statement)]
-fn scope(text: &[u8], at: usize, arena: &mut [u32], top: usize, depth: usize) -> Built
-    requires { Room text.now arena.old at top 0 }
-    ensures { Leaves (stmt_words same) text.now arena.old arena.new at top (scope_stmt text.now depth at) result }
-{
-    let r = block(text, at, arena, top, depth);
-    let Built::None = r else {
-        return r;
-    };
-    let word = keyword(text, at, b"loop");
-    let Lexed::Ok(_, at1) = word else {
-        return untaken(word);
-    };
-    looped(text, at1, arena, top, depth, at)
-}
+    // After `forall`.
+    #[cycle(statement)]
+    fn forall_stmt(&mut self, depth: usize) -> Result<u32, Refusal>
+        requires { Ready self.old 2 }
+        ensures { Reads (stmt_words same) (opening after_forall depth) 1 2 self.old self.new result }
+    {
+        let binding = self.need_id_type()?;
+        let head = self.push(Node::Headed(A_FORALL, binding));
+        let body = self.need_block(depth)?;
+        Ok(self.pair(head, body))
+    }
 
-// After `var` or `val`.
-#[cycle(statement)]
-fn var(text: &[u8], at: usize, arena: &mut [u32], top: usize, depth: usize, mutable: u32) -> Built
-    requires room { Room text.now arena.old at top 24 }
-    requires mutable_bound { mutable ≤ 1 }
-    ensures { Builds (stmt_words same) text.now arena.old arena.new at top 1 24 (parse_variable_declaration text.now (turns text.now) (opened text.now depth) (bool_of mutable) at) result }
-{
-    let head = simple::declared(text, at, arena, top, depth, mutable);
-    let Built::Ok(declaration, at1, top1) = head else {
-        return needed(head, at);
-    };
-    let rest = many(text, at1, arena, top1, depth, Repeated::Nested);
-    let Built::Ok(stmts, at2, top2) = rest else {
-        return needed(rest, at1);
-    };
-    node(arena, top2, HEADED, BLOCK, stmts, 0);
-    over(arena, top2 + 4, PAIR, 0, declaration, top2 as u32, at2)
-}
-
-// After `forall`.
-#[cycle(statement)]
-fn forall(text: &[u8], at: usize, arena: &mut [u32], top: usize, depth: usize) -> Built
-    requires { Room text.now arena.old at top 8 }
-    ensures { Builds (stmt_words same) text.now arena.old arena.new at top 1 8 (after_forall text.now (turns text.now) (opened text.now depth) at) result }
-{
-    let typed = leaf::id_type(text, at, arena, top);
-    let Built::Ok(binding, at1, top1) = typed else {
-        return needed(typed, at);
-    };
-    node(arena, top1, HEADED, A_FORALL, binding, 0);
-    let body = block(text, at1, arena, top1 + 4, depth);
-    let Built::Ok(s, at2, top2) = body else {
-        return needed(body, at1);
-    };
-    over(arena, top2, PAIR, 0, top1 as u32, s, at2)
-}
-
-// `parseAExpr`.
-#[cycle(statement)]
-fn aexpr(text: &[u8], at: usize, arena: &mut [u32], top: usize, depth: usize, w: &[u8]) -> Built
-    requires room { Room text.now arena.old at top 0 }
-    requires in_bounds { 7 ≤ length w.now }
-    ensures { Leaves (a_expr_words same) text.now arena.old arena.new at top (parse_a_expr text.now (turns text.now) (opened text.now depth) w.now at) result }
-{
-    let word = keyword(text, at, w);
-    let Lexed::Ok(_, at1) = word else {
-        return untaken(word);
-    };
-    match block(text, at1, arena, top, depth) {
-        Built::Ok(s, at2, top1) => over(arena, top1, HEADED, A_ASSERTION, s, 0, at2),
-        Built::None => simple::stated(text, at1, arena, top, depth, A_EXPR),
-        Built::Refused(number, place) => Built::Refused(number, place),
+    // `parseAExpr`.
+    #[cycle(statement)]
+    fn aexpr(&mut self, bytes: &[u8], depth: usize) -> Result<Option<u32>, Refusal>
+        requires ready { Ready self.old 0 }
+        requires in_bounds { 7 ≤ length bytes.now }
+        ensures { Spares_if (a_expr_words same) (aexpr_rule bytes.now depth) self.old self.new result }
+    {
+        if !self.keyword(bytes)? {
+            return Ok(None);
+        }
+        if let Some(block) = self.block(depth)? {
+            return Ok(Some(self.push(Node::Headed(A_ASSERTION, block))));
+        }
+        Ok(Some(self.stated(A_EXPR, depth)?))
     }
 }

@@ -1,143 +1,114 @@
 // Statements with alternatives: `choose` and `if`.
+
+#![tactic(auto, using(crate::proofs::Laws::failing, crate::proofs::StatementPlaces::sparing, crate::proofs::StatementEquations::equations), unfolding(grammar::specs::Statements::after_choose, grammar::specs::Statements::parse_or, grammar::specs::Statements::parse_else, grammar::specs::Statements::parse_case))]
+
 ghost use Rattle.tree.specs.Words.{stmt_words};
 ghost use Rattle.grammar.specs.Statements.{after_choose, parse_or, parse_if_cont, parse_else, parse_case};
-ghost use Rattle.parsing.specs.Arena.{Room, Builds};
-ghost use Rattle.parsing.specs.Code.{same, turns, opened};
-ghost use Rattle.parsing.specs.Statements.{Leaves, case_words, cond_stmt};
+ghost use Rattle.parsing.specs.Contract.{Ready, Reads, same, needed};
+ghost use Rattle.parsing.specs.Code.{opening};
+ghost use Rattle.parsing.specs.Statements.{Spares_if, cont_rule, case_words, cond_stmt};
 
-use crate::arena::{Built, HEADED, PAIR, TWO, node};
-use crate::build::over;
-use crate::expr::expr;
-use crate::leaf::{needed, untaken};
-use crate::step::{Lexed, keyword};
+use crate::arena::Node;
+use crate::parser::{Parser, unusable};
 use crate::stmt::Repeated;
-use crate::{leaf, stmt};
+use lexing::refusal::Refusal;
 use tree::word::{BLOCK, CHOOSE, IF, IF_CASE, MORE, NO_MORE};
 
-// After `choose`.
-#[cycle(statement)]
-pub(crate) fn choose(text: &[u8], at: usize, arena: &mut [u32], top: usize, depth: usize) -> Built
-    requires { Room text.now arena.old at top 12 }
-    ensures { Builds (stmt_words same) text.now arena.old arena.new at top 1 12 (after_choose text.now (turns text.now) (opened text.now depth) at) result }
-{
-    let first = stmt::block(text, at, arena, top, depth);
-    let Built::Ok(s, at1, top1) = first else {
-        return needed(first, at);
-    };
-    node(arena, top1, HEADED, MORE, s, 0);
-    let rest = stmt::many(text, at1, arena, top1 + 4, depth, Repeated::Branches);
-    let Built::Ok(stmts, at2, top2) = rest else {
-        return needed(rest, at1);
-    };
-    node(arena, top2, PAIR, 0, top1 as u32, stmts);
-    over(arena, top2 + 4, HEADED, CHOOSE, top2 as u32, 0, at2)
-}
-
-// `or` and a block.
-#[cycle(statement)]
-pub(crate) fn branch(text: &[u8], at: usize, arena: &mut [u32], top: usize, depth: usize) -> Built
-    requires { Room text.now arena.old at top 0 }
-    ensures { Leaves (stmt_words same) text.now arena.old arena.new at top (parse_or text.now (turns text.now) (opened text.now depth) at) result }
-{
-    let word = keyword(text, at, b"or");
-    let Lexed::Ok(_, at1) = word else {
-        return untaken(word);
-    };
-    let body = stmt::block(text, at1, arena, top, depth);
-    needed(body, at1)
-}
-
-// "if-cont" of `stmtGallery`.
-#[cycle(statement)]
-fn elsif(text: &[u8], at: usize, arena: &mut [u32], top: usize, depth: usize) -> Built
-    requires { Room text.now arena.old at top 12 }
-    ensures { Builds (stmt_words same) text.now arena.old arena.new at top 1 12 ((opened text.now depth).if_cont at) result }
-{
-    if depth == 0 {
-        return leaf::too_deep(text, at);
+impl<'a> Parser<'a> {
+    // After `choose`.
+    #[cycle(statement)]
+    pub(crate) fn choose(&mut self, depth: usize) -> Result<u32, Refusal>
+        requires { Ready self.old 3 }
+        ensures { Reads (stmt_words same) (opening after_choose depth) 1 3 self.old self.new result }
+    {
+        let first = self.need_block(depth)?;
+        let head = self.push(Node::Headed(MORE, first));
+        let branches = self.many(Repeated::Branches, depth)?;
+        let all = self.pair(head, branches);
+        Ok(self.push(Node::Headed(CHOOSE, all)))
     }
-    cont(text, at, arena, top, depth - 1)
-}
 
-// `parseIfCont`.
-#[cycle(statement)]
-pub(crate) fn cont(text: &[u8], at: usize, arena: &mut [u32], top: usize, depth: usize) -> Built
-    requires { Room text.now arena.old at top 12 }
-    ensures { Builds (stmt_words same) text.now arena.old arena.new at top 1 12 (parse_if_cont text.now (turns text.now) (opened text.now depth) at) result }
-{
-    match case(text, at, arena, top, depth) {
-        Built::Ok(first, at1, top1) => {
-            node(arena, top1, HEADED, MORE, first, 0);
-            let rest = stmt::many(text, at1, arena, top1 + 4, depth, Repeated::Cases);
-            let Built::Ok(cases, at2, top2) = rest else {
-                return needed(rest, at1);
-            };
-            node(arena, top2, PAIR, 0, top1 as u32, cases);
-            over(arena, top2 + 4, HEADED, IF_CASE, top2 as u32, 0, at2)
+    // `or` and a block.
+    #[cycle(statement)]
+    pub(crate) fn or_branch(&mut self, depth: usize) -> Result<Option<u32>, Refusal>
+        requires { Ready self.old 0 }
+        ensures { Spares_if (stmt_words same) (opening parse_or depth) self.old self.new result }
+    {
+        if !self.keyword(b"or")? {
+            return Ok(None);
         }
-        Built::None => cond(text, at, arena, top, depth),
-        Built::Refused(number, place) => Built::Refused(number, place),
+        Ok(Some(self.need_block(depth)?))
     }
-}
 
-// A condition, a block and what follows them.
-#[cycle(statement)]
-fn cond(text: &[u8], at: usize, arena: &mut [u32], top: usize, depth: usize) -> Built
-    requires { Room text.now arena.old at top 12 }
-    ensures { Builds (stmt_words same) text.now arena.old arena.new at top 1 12 (cond_stmt text.now depth at) result }
-{
-    let guard = expr(text, at, arena, top, depth);
-    let Built::Ok(e, at1, top1) = guard else {
-        return guard;
-    };
-    let body = stmt::block(text, at1, arena, top1, depth);
-    let Built::Ok(thn, at2, top2) = body else {
-        return needed(body, at1);
-    };
-    let other = els(text, at2, arena, top2, depth);
-    let Built::Ok(alt, at3, top3) = other else {
-        return needed(other, at2);
-    };
-    node(arena, top3, HEADED, IF, e, 0);
-    let both = top3 + 4;
-    node(arena, both, PAIR, 0, thn, alt);
-    over(arena, both + 4, PAIR, 0, top3 as u32, both as u32, at3)
-}
-
-// `else` and what it leads, or the empty block.
-#[cycle(statement)]
-fn els(text: &[u8], at: usize, arena: &mut [u32], top: usize, depth: usize) -> Built
-    requires { Room text.now arena.old at top 4 }
-    ensures { Builds (stmt_words same) text.now arena.old arena.new at top 0 4 (parse_else text.now (turns text.now) (opened text.now depth) at) result }
-{
-    match keyword(text, at, b"else") {
-        Lexed::Ok(_, at1) => match keyword(text, at1, b"if") {
-            Lexed::Ok(_, at2) => needed(elsif(text, at2, arena, top, depth), at2),
-            Lexed::None => needed(stmt::block(text, at1, arena, top, depth), at1),
-            Lexed::Refused(number, place) => Built::Refused(number, place),
-        },
-        Lexed::None => over(arena, top, TWO, BLOCK, NO_MORE, 0, at),
-        Lexed::Refused(number, place) => Built::Refused(number, place),
+    // "if-cont" of `stmtGallery`, which must follow.
+    #[cycle(statement)]
+    fn else_if(&mut self, depth: usize) -> Result<u32, Refusal>
+        requires { Ready self.old 3 }
+        ensures { Reads (stmt_words same) (needed (cont_rule depth)) 1 3 self.old self.new result }
+    {
+        if depth == 0 {
+            let at = self.at;
+            self.too_deep_expr()?;
+            return Err(unusable(at));
+        }
+        self.if_cont(depth - 1)
     }
-}
 
-// `parseCase`.
-#[cycle(statement)]
-pub(crate) fn case(text: &[u8], at: usize, arena: &mut [u32], top: usize, depth: usize) -> Built
-    requires { Room text.now arena.old at top 0 }
-    ensures { Leaves case_words text.now arena.old arena.new at top (parse_case text.now (turns text.now) (opened text.now depth) at) result }
-{
-    let word = keyword(text, at, b"case");
-    let Lexed::Ok(_, at1) = word else {
-        return untaken(word);
-    };
-    let guard = expr(text, at1, arena, top, depth);
-    let Built::Ok(e, at2, top1) = guard else {
-        return needed(guard, at1);
-    };
-    let body = stmt::block(text, at2, arena, top1, depth);
-    let Built::Ok(s, at3, top2) = body else {
-        return needed(body, at2);
-    };
-    over(arena, top2, PAIR, 0, e, s, at3)
+    // `parseIfCont`, which must follow.
+    #[cycle(statement)]
+    pub(crate) fn if_cont(&mut self, depth: usize) -> Result<u32, Refusal>
+        requires { Ready self.old 3 }
+        ensures { Reads (stmt_words same) (needed (opening parse_if_cont depth)) 1 3 self.old self.new result }
+    {
+        let Some(first) = self.case(depth)? else {
+            return self.if_cond(depth);
+        };
+        let head = self.push(Node::Headed(MORE, first));
+        let cases = self.many(Repeated::Cases, depth)?;
+        let all = self.pair(head, cases);
+        Ok(self.push(Node::Headed(IF_CASE, all)))
+    }
+
+    // A condition, which must follow, a block and what follows them.
+    #[cycle(statement)]
+    fn if_cond(&mut self, depth: usize) -> Result<u32, Refusal>
+        requires { Ready self.old 3 }
+        ensures { Reads (stmt_words same) (needed (cond_stmt depth)) 1 3 self.old self.new result }
+    {
+        let guard = self.need_expr(depth)?;
+        let head = self.push(Node::Headed(IF, guard));
+        let thn = self.need_block(depth)?;
+        let els = self.if_else(depth)?;
+        let both = self.pair(thn, els);
+        Ok(self.pair(head, both))
+    }
+
+    // `else` and what it leads, or the empty block.
+    #[cycle(statement)]
+    fn if_else(&mut self, depth: usize) -> Result<u32, Refusal>
+        requires { Ready self.old 1 }
+        ensures { Reads (stmt_words same) (opening parse_else depth) 0 1 self.old self.new result }
+    {
+        if !self.keyword(b"else")? {
+            return Ok(self.push(Node::Two(BLOCK, NO_MORE)));
+        }
+        if self.keyword(b"if")? {
+            return self.else_if(depth);
+        }
+        self.need_block(depth)
+    }
+
+    // `parseCase`.
+    #[cycle(statement)]
+    pub(crate) fn case(&mut self, depth: usize) -> Result<Option<u32>, Refusal>
+        requires { Ready self.old 0 }
+        ensures { Spares_if case_words (opening parse_case depth) self.old self.new result }
+    {
+        if !self.keyword(b"case")? {
+            return Ok(None);
+        }
+        let guard = self.need_expr(depth)?;
+        let body = self.need_block(depth)?;
+        Ok(Some(self.pair(guard, body)))
+    }
 }

@@ -1,0 +1,196 @@
+-- Places of the rules of expressions: operators, layers that wait for their last operand, and how a rule ends with another one.
+use Rattle.std.proofs.Common.{ℕ, zero, suc, ◌+◌, ◌*◌, ◌-◌, ◌≤◌, ◌<◌, ◌≡◌, ◌∙◌, refl, sym, ap, subst, List, [], ◌∷◌, length, Bool, true, false, leb, Option, Some, None, Result, Ok, Err, arith}
+use Rattle.std.specs.Result.{IsErrAnd}
+use Rattle.std.proofs.lemmas.Result.{err_from_is_err_and}
+use borrow.Author.Tests.{leb-true}
+use Rattle.lexing.specs.Answer.{Answer, ok, refused}
+use Rattle.lexing.specs.CodeAnswers.{number}
+use Rattle.lexing.specs.declared.refusal.Refusal.{Refusal}
+use Rattle.tree.specs.Ast.{Span, Expr, Operator}
+use Rattle.grammar.specs.Grammar.{Build, build}
+use Rattle.grammar.specs.Steps.{after, need, must}
+use Rattle.grammar.specs.Rules.{unary_operator}
+use Rattle.grammar.specs.Reading.{tree_words}
+use Rattle.parsing.specs.Arena.{Run, Holds}
+use Rattle.parsing.specs.Contract.{Rule, needed, Later, Went, Ready, Read, Reads, Reads_if, Took, Missing, Standing, Made, Closes}
+use Rattle.parsing.specs.Expressions.{Seen, Sees}
+use Rattle.parsing.specs.Code.{Folded, Foldable, Links, Layer, fold_layers, Layered}
+use Rattle.parsing.specs.declared.parser.Parser.{Parser}
+use Rattle.parsing.proofs.Laws.{need-ok, need-refused, after-ok, after-none, after-refused}
+use Rattle.parsing.proofs.Places.{Place, later-next, stand-on, noted, made-standing}
+
+-- ---- steps
+module _ {A : Type 0} {answer : Answer A} {lent : ℕ} {p q : Parser} {at bytes spare : ℕ} where
+  -- the last node stands for the same run in other words
+  pub respelt : {n : ℕ} {f g : Run} {rest : Answer A} {made : List (ℕ × Run)} → f ≡ g → Place answer lent p q at bytes spare rest ((n, f) ∷ made)
+      → Place answer lent p q at bytes spare rest ((n, g) ∷ made)
+  respelt {n} {f} {g} {made = made} e l =
+      record {
+        says = l.says;
+        here = l.here;
+        later = l.later;
+        forward = l.forward;
+        within = l.within;
+        ready = l.ready;
+        stands = (record { holds = subst (Holds q.arena.now n) e l.stands.0.holds; below = l.stands.0.below }, l.stands.1);
+      }
+
+  -- without the two under the last node
+  pub over-two : {n a b : ℕ} {f g h : Run} {rest : Answer A} {made : List (ℕ × Run)}
+      → Place answer lent p q at bytes spare rest ((n, f) ∷ (a, g) ∷ (b, h) ∷ made) → Place answer lent p q at bytes spare rest ((n, f) ∷ made)
+  over-two l =
+      record { says = l.says; here = l.here; later = l.later; forward = l.forward; within = l.within; ready = l.ready; stands = (l.stands.0, l.stands.1.1.1) }
+
+  -- fewer bytes kept, and fewer nodes to spare
+  pub lessened : {rest : Answer A} {made : List (ℕ × Run)} (bytes₁ spare₁ : ℕ) → bytes₁ ≤ bytes → spare₁ ≤ spare
+      → Place answer lent p q at bytes spare rest made → Place answer lent p q at bytes₁ spare₁ rest made
+  lessened bytes₁ spare₁ b w l =
+      record {
+        says = l.says;
+        here = l.here;
+        later = l.later;
+        forward = omega (arith, l.forward);
+        within = omega (arith, l.within);
+        ready = l.ready;
+        stands = l.stands;
+      }
+
+  -- room for what is to spare
+  pub ready-spare : {rest : Answer A} {made : List (ℕ × Run)} → Ready p lent → Place answer lent p q at bytes spare rest made → Ready q spare
+  ready-spare r l =
+      let k = l.later.kept.length-kept in
+      let t = l.later.text_same in
+      record {
+        short = l.ready.short;
+        small = l.ready.small;
+        inside = l.ready.inside;
+        above = l.ready.above;
+        room = omega (arith, r.room, l.within, l.here, ap length t, k);
+        based = l.ready.based;
+      }
+
+  -- an operator stands here
+  pub seen : {B : Type 0} (rule : Rule B) (stop go : Answer A) {s : Parser} {made : List (ℕ × Run)} → Seen rule q s
+      → Place answer lent p q at bytes spare (after (rule p.text.now at) stop (λ b at₁. go)) made → Place answer lent p s at bytes spare go made
+  seen rule stop go {s = s} {made} r l =
+      let h : rule p.text.now at ≡ ok r.value r.next = rw (← l.here, ← l.later.text_same) r.says in
+      record {
+        says = l.says ∙ after-ok (rule p.text.now at) stop (λ b at₁. go) h;
+        here = r.at_same ∙ l.here;
+        later = later-next l.later r.later;
+        forward = l.forward;
+        within = omega (arith, l.within, r.top_same);
+        ready = r.ready;
+        stands = stand-on r.later made l.stands;
+      }
+
+  -- nodes were made, of which the rule has no need yet
+  pub unused : {k n : ℕ} {s : Parser} {rest : Answer A} {made : List (ℕ × Run)} → Made k q s n → Place answer lent p q at bytes spare rest made
+      → k ≤ spare → Place answer lent p s at bytes (spare - k) rest made
+  unused {made = made} m l c =
+      record {
+        says = l.says;
+        here = m.at_same ∙ l.here;
+        later = later-next l.later m.later;
+        forward = l.forward;
+        within = omega (arith, l.within, m.top);
+        ready = m.ready;
+        stands = stand-on m.later made l.stands;
+      }
+
+  -- a sequence with its end
+  pub closed : {list n : ℕ} {f : Run} {s : Parser} {rest : Answer A} {made : List (ℕ × Run)} → Closes list q s n
+      → Place answer lent p q at bytes spare rest ((list, f) ∷ made) → ((list ≡ 0 → ⊥) → 1 ≤ spare)
+      → Place answer lent p s at bytes 0 rest ((n, λ r. f (0 ∷ r)) ∷ [])
+  closed {list} {n} {s = s} m l c =
+      record {
+        says = l.says;
+        here = m.at_same ∙ l.here;
+        later = later-next l.later m.later;
+        forward = l.forward;
+        within = by-list list refl;
+        ready = m.ready;
+        stands = (record { holds = m.holds l.stands.0; below = m.below }, tt);
+      }
+    where
+      by-list : (k : ℕ) → list ≡ k → s.top + 0 + 2 * p.at ≤ p.top + lent + 2 * at
+      by-list zero z = omega (arith, l.within, m.stays z)
+      by-list (suc k) z = let h = c (λ e. omega arith) in omega (arith, l.within, m.grows)
+
+  -- a step that may follow, or must, is refused
+  pub stopped : {B : Type 0} (rule : Rule B) (stop : Answer A) (go : B → ℕ → Answer A) {made : List (ℕ × Run)} {n m : ℕ}
+      → rule q.text.now q.at ≡ refused n m → Place answer lent p q at bytes spare (after (rule p.text.now at) stop go) made → answer ≡ refused n m
+  stopped rule stop go f l = l.says ∙ after-refused (rule p.text.now at) stop go (rw (← l.here, ← l.later.text_same) f)
+
+  pub unmet : {B : Type 0} (rule : Rule B) (go : B → ℕ → Answer A) {made : List (ℕ × Run)} {n m : ℕ}
+      → needed rule q.text.now q.at ≡ refused n m → Place answer lent p q at bytes spare (need at (rule p.text.now at) go) made → answer ≡ refused n m
+  unmet rule go {n = n} {m} f l =
+      let h : needed rule p.text.now at ≡ refused n m = rw (← l.here, ← l.later.text_same) f in
+      l.says ∙ need-refused at (rule p.text.now at) go h
+
+  -- the rest of the answer is another rule's, which is refused
+  pub fails : (rule : Rule A) {made : List (ℕ × Run)} {n m : ℕ} → rule q.text.now q.at ≡ refused n m
+      → Place answer lent p q at bytes spare (rule p.text.now at) made → answer ≡ refused n m
+  fails rule f l = l.says ∙ rw (← l.here, ← l.later.text_same) f
+
+-- a rule that always keeps something, as one that must follow
+pub must-stands : {A : Type 0} (at : ℕ) (r : Answer A) {v : A} {n : ℕ} → r ≡ ok v n → must at r ≡ ok v n
+unfolding after
+must-stands at r e = ap (must at) e
+
+abbrev pub sure : {A : Type 0} {words : A → Run} {rule : Rule A} {least credit n : ℕ} {p q : Parser} → Read words rule least credit p q n
+    → Read words (needed rule) least credit p q n
+sure {rule = rule} {p = p} f =
+    record { value = f.value; says = must-stands p.at (rule p.text.now p.at) f.says; holds = f.holds; below = f.below; went = f.went }
+
+-- ---- a rule that ends with another one
+module _ {A : Type 0} {words : A → Run} (whole rule : Rule A) {least credit least₁ credit₁ lent : ℕ} {p q s : Parser} {at bytes spare : ℕ} {made : List (ℕ × Run)} where
+  pub ends : {n : ℕ} → Read words rule least₁ credit₁ q s n → Place (whole p.text.now p.at) lent p q at bytes spare (rule p.text.now at) made
+      → leb least (bytes + least₁) ≡ true → leb (lent + credit₁) (credit + spare) ≡ true → Read words whole least credit p s n
+  ends f l b w =
+      let k = leb-true _ _ b in
+      let m = leb-true _ _ w in
+      let h : rule p.text.now at ≡ ok f.value s.at = rw (← l.here, ← l.later.text_same) f.says in
+      record {
+        value = f.value;
+        says = l.says ∙ h;
+        holds = f.holds;
+        below = f.below;
+        went = record {
+          later = later-next l.later f.went.later;
+          onward = omega (arith, l.forward, l.here, f.went.onward);
+          paid = omega (arith, l.within, l.here, f.went.paid);
+          ready = f.went.ready;
+        };
+      }
+
+-- where nothing was kept before
+module _ {A : Type 0} (words : A → Run) (whole rule : Rule A) (least credit least₁ credit₁ : ℕ) {p q : Parser} (s : Parser) where
+  pub tail_if : (r : Result (Option ℕ) Refusal) → q ≡ p → whole p.text.now p.at ≡ rule p.text.now p.at → Reads_if words rule least₁ credit₁ q s r
+      → leb least least₁ ≡ true → leb credit₁ credit ≡ true → Reads_if words whole least credit p s r
+  tail_if (Ok (Some n)) e o f b w =
+      let k = leb-true _ _ b in
+      let m = leb-true _ _ w in
+      let g : Read words rule least₁ credit₁ p s n = rw e at f in
+      record {
+        value = g.value;
+        says = o ∙ g.says;
+        holds = g.holds;
+        below = g.below;
+        went = record { later = g.went.later; onward = omega (arith, g.went.onward); paid = omega (arith, g.went.paid); ready = g.went.ready };
+      }
+  tail_if (Ok None) e o f b w = let g : Missing rule p s = rw e at f in record { says = o ∙ g.says; same = g.same }
+  tail_if (Err d) e o f b w = let g : rule p.text.now p.at ≡ refused (number d.reason) d.place = rw e at f in o ∙ g
+
+pub sees_err : {A : Type 0} (rule : Rule A) (p q : Parser) (r : Result Bool Refusal) (e : Refusal)
+    → IsErrAnd r (λ y. y ≡ e) → rule p.text.now p.at ≡ refused (number e.reason) e.place → Sees rule p q r
+sees_err rule p q r e h s = let p = err_from_is_err_and r h in rw (p.1, p.2) s
+
+-- a test of a `bool`, after `sees`
+pub was-seen : {A : Type 0} (rule : Rule A) (p q : Parser) {b : Bool} → Sees rule p q (Ok b) → b ≡ true → Seen rule p q
+was-seen rule p q {b = true} t e = t
+was-seen rule p q {b = false} t e = cc
+
+pub not-seen : {A : Type 0} (rule : Rule A) (p q : Parser) {b : Bool} → Sees rule p q (Ok b) → b ≡ false → Missing rule p q
+not-seen rule p q {b = true} t e = cc
+not-seen rule p q {b = false} t e = t

@@ -1,2 +1,0 @@
--- What is written to the arena.
-pub mod Nodes

@@ -1,2 +1,0 @@
--- The tree of a whole text: the answers of `parse`.
-pub mod Answers

@@ -1,2 +1,0 @@
--- The rules that open no expression.
-pub mod Pairs

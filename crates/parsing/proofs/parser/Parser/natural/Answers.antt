@@ -1,0 +1,10 @@
+use Rattle.lexing.specs.Tokens.{natural}
+use Rattle.lexing.specs.TokenLaws.{natural-within}
+use Rattle.parsing.proofs.Tokens.{token-lies, natural-operates}
+use Rattle.parsing.proofs.parser.Parser.natural.Goals as goal
+
+pub pass-requires-clause-inside : goal.pass-requires-clause-inside
+pass-requires-clause-inside c = token-lies natural 1 natural-within _ c.requires _ c.natural-lexed.ensures
+
+pub returns : goal.returns
+returns c = natural-operates _ c.requires _ c.natural-lexed.ensures _ _ c.pass.ensures

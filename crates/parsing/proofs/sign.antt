@@ -1,3 +1,0 @@
--- Signs of operators.
-pub mod Signs
-pub mod FirstBytes

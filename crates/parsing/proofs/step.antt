@@ -1,2 +1,0 @@
--- Tokens at a place of the text.
-pub mod Tokens

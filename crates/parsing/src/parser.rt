@@ -1,0 +1,348 @@
+// A text that is read, and the arena that its tree is built in: tokens and nodes.
+ghost use Rattle.std.specs.Prelude.{◌≡◌, ◌+◌, ◌≤◌, ◌<◌, ◌^◌, length, take, drop, get_or};
+ghost use Rattle.lexing.specs.Bytes.{same_bytes};
+ghost use Rattle.grammar.specs.Steps.{parse_name, parse_literal_text, parse_nat};
+ghost use Rattle.grammar.specs.Statements.{mark as mark_rule};
+ghost use Rattle.parsing.specs.Contract.{Ready, Pushed, Four, Chosen, Closable, Closes, needed, word, sign, sign_but, Lies, Passed, Stands, Takes, Takes_if, Names, Names_if, Spelt, Passes_word};
+ghost use Rattle.parsing.specs.Code.{Combined, Foldable, Folded};
+ghost use Rattle.parsing.specs.Signs.{Operates};
+ghost use Rattle.lexing.specs.declared.refusal.Reason.TheVariants.{UnusableToken};
+ghost use Rattle.parsing.specs.declared.arena.Node.TheVariants.{Pair};
+
+use crate::arena::{END, Node};
+use crate::sign::Sign;
+use lexing::Lexed;
+use lexing::refusal::{Reason, Refusal};
+use tree::word::{IF_THEN_ELSE, OPERATOR_EXPR};
+
+// The text and the place that was come to, the arena and the number of its nodes.
+#[derive(Drop)]
+pub(crate) struct Parser<'a> {
+    pub(crate) text: &'a [u8],
+    pub(crate) arena: &'a mut [Node],
+    pub(crate) at: usize,
+    pub(crate) top: usize,
+}
+
+// Where a name stands in the text, and its length.
+#[derive(Clone, Copy, PartialEq, Eq, Debug)]
+pub(crate) struct Name {
+    pub(crate) start: u32,
+    pub(crate) len: u32,
+}
+
+// Nodes.
+impl<'a> Parser<'a> {
+    #[inline(always)]
+    pub(crate) fn push(&mut self, node: Node) -> u32
+        requires { Ready self.old 1 }
+        ensures { Pushed node self.old self.new result }
+    {
+        let n = self.top;
+        self.arena[n] = node;
+        self.top = n + 1;
+        n as u32
+    }
+
+    // Two runs, one after the other.
+    pub(crate) fn pair(&mut self, a: u32, b: u32) -> u32
+        requires { Ready self.old 1 }
+        ensures { Pushed (Pair a b) self.old self.new result }
+    {
+        self.push(Node::Pair(a, b))
+    }
+
+    // Four.
+    pub(crate) fn four(&mut self, a: u32, b: u32, c: u32, d: u32) -> u32
+        requires { Ready self.old 3 }
+        ensures { Four a b c d self.old self.new result }
+    {
+        let first = self.pair(a, b);
+        let second = self.pair(c, d);
+        self.pair(first, second)
+    }
+
+    // IfThenElse over three operands.
+    pub(crate) fn choice(&mut self, guard: u32, thn: u32, els: u32) -> u32
+        requires { Ready self.old 5 }
+        ensures { Chosen guard thn els self.old self.new result }
+    {
+        let head = self.push(Node::Two(OPERATOR_EXPR, IF_THEN_ELSE));
+        let first = self.push(Node::Item(head, guard));
+        let second = self.push(Node::Item(first, thn));
+        let third = self.push(Node::Item(second, els));
+        self.push(Node::Closed(third))
+    }
+
+    // A sequence with its end: `END` where it has no items.
+    pub(crate) fn close(&mut self, list: u32) -> u32
+        requires { Closable list self.old }
+        ensures { Closes list self.old self.new result }
+    {
+        if list == 0 {
+            return END;
+        }
+        self.push(Node::Closed(list))
+    }
+
+    // An operator over two operands, which may swap.
+    pub(crate) fn combine(&mut self, sign: Sign, a: u32, b: u32) -> u32
+        requires { Ready self.old 1 }
+        ensures { Combined sign a b self.old self.new result }
+    {
+        let op = sign.op.word();
+        if sign.swap {
+            return self.push(Node::Binary(op, b, a));
+        }
+        self.push(Node::Binary(op, a, b))
+    }
+
+    // The operators that `first` leads back through, over the operand `last`. While they wait, each has the one before it in the place of its last
+    // operand; before the first is node 0.
+    pub(crate) fn fold(&mut self, first: u32, last: u32) -> u32
+        requires { Foldable first last self.old }
+        ensures { Folded first last self.old self.new result }
+    {
+        let mut e = last;
+        let mut link = first;
+        loop {
+            match self.arena[link as usize] {
+                Node::Unary(op, before) => {
+                    e = self.push(Node::Unary(op, e));
+                    link = before;
+                }
+                Node::Binary(op, a, before) => {
+                    e = self.push(Node::Binary(op, a, e));
+                    link = before;
+                }
+                _ => return e,
+            }
+        }
+    }
+}
+
+// Tokens, with the blanks after them.
+impl<'a> Parser<'a> {
+    // Passes a token that was read here.
+    fn pass(&mut self, lexed: Lexed) -> Result<Option<u64>, Refusal>
+        requires ready { Ready self.old 0 }
+        requires inside { Lies self.old lexed }
+        ensures { Passed lexed self.old self.new result }
+    {
+        match lexed {
+            Ok(Some(token)) => {
+                self.at += token.size;
+                Ok(Some(token.value))
+            }
+            Ok(None) => Ok(None),
+            Err(refusal) => Err(Refusal {
+                reason: refusal.reason,
+                place: self.at + refusal.place,
+            }),
+        }
+    }
+
+    // Passes a token whose value does not matter; whether it stands here.
+    fn stands(&mut self, lexed: Lexed) -> Result<bool, Refusal>
+        requires ready { Ready self.old 0 }
+        requires inside { Lies self.old lexed }
+        ensures { Stands lexed self.old self.new result }
+    {
+        Ok(self.pass(lexed)?.is_some())
+    }
+
+    // The byte `i` places on, 0 past the end.
+    pub(crate) fn peek(&self, i: usize) -> u8
+        requires { self.now.at + i < 2 ^ 63 }
+        ensures { result ≡ get_or self.now.text.now (self.now.at + i) 0 }
+    {
+        let at = self.at + i;
+        if at < self.text.len() {
+            return self.text[at];
+        }
+        0
+    }
+
+    // How many bytes the word or name that stands here has, 0 where there is none.
+    pub(crate) fn word_ahead(&self) -> usize
+        requires { self.now.at ≤ length self.now.text.now }
+        ensures { Spelt self.now result }
+    {
+        lexing::identifier_length(&self.text[self.at..])
+    }
+
+    // Whether the word of `len` bytes that stands here is these.
+    pub(crate) fn word_is(&self, len: usize, bytes: &[u8]) -> bool
+        requires { self.now.at + len ≤ length self.now.text.now }
+        ensures { result ≡ same_bytes (take len (drop self.now.at self.now.text.now)) bytes.now }
+    {
+        let end = self.at + len;
+        lexing::same_bytes(&self.text[self.at..end], bytes)
+    }
+
+    // Passes the word or name of `len` bytes that stands here.
+    pub(crate) fn pass_word(&mut self, len: usize) -> Result<Name, Refusal>
+        requires ready { Ready self.old 0 }
+        requires spelt { Spelt self.old len }
+        requires filled { 1 ≤ len }
+        ensures { Passes_word len self.old self.new result }
+    {
+        let start = self.at as u32;
+        let lexed = lexing::lexeme(&self.text[self.at..], 0, len);
+        self.stands(lexed)?;
+        Ok(Name {
+            start,
+            len: len as u32,
+        })
+    }
+
+    // `T(bytes)`, where the word that stands here has `len` bytes.
+    pub(crate) fn keyword_of(&mut self, len: usize, bytes: &[u8]) -> Result<bool, Refusal>
+        requires ready { Ready self.old 0 }
+        requires spelt { Spelt self.old len }
+        ensures { Takes_if (word bytes.now) (length bytes.now) self.old self.new result }
+    {
+        if !self.word_is(len, bytes) {
+            return Ok(false);
+        }
+        let lexed = lexing::lexeme(&self.text[self.at..], 0, len);
+        self.stands(lexed)
+    }
+
+    // `T(bytes)`.
+    pub(crate) fn keyword(&mut self, bytes: &[u8]) -> Result<bool, Refusal>
+        requires { Ready self.old 0 }
+        ensures { Takes_if (word bytes.now) (length bytes.now) self.old self.new result }
+    {
+        let len = self.word_ahead();
+        self.keyword_of(len, bytes)
+    }
+
+    // `Sym(bytes)`.
+    pub(crate) fn sym(&mut self, bytes: &[u8]) -> Result<bool, Refusal>
+        requires { Ready self.old 0 }
+        ensures { Takes_if (sign bytes.now) (length bytes.now) self.old self.new result }
+    {
+        let lexed = lexing::sym(&self.text[self.at..], bytes);
+        self.stands(lexed)
+    }
+
+    // `SymNotPrefix(bytes, [longer])`.
+    pub(crate) fn sym_not_prefix(&mut self, bytes: &[u8], longer: &[u8]) -> Result<bool, Refusal>
+        requires { Ready self.old 0 }
+        ensures { Takes_if (sign_but bytes.now longer.now) (length bytes.now) self.old self.new result }
+    {
+        let lexed = lexing::sym_not_prefix(&self.text[self.at..], bytes, longer);
+        self.stands(lexed)
+    }
+
+    // `:=`, `:` or `(`.
+    #[tactic(auto, using(crate::proofs::Laws::failing), unfolding(grammar::specs::Statements::mark))]
+    pub(crate) fn mark(&mut self) -> Result<bool, Refusal>
+        requires { Ready self.old 0 }
+        ensures { Takes_if mark_rule 1 self.old self.new result }
+    {
+        if self.sym(b":=")? {
+            return Ok(true);
+        }
+        if self.sym(b":")? {
+            return Ok(true);
+        }
+        self.sym(b"(")
+    }
+
+    pub(crate) fn name(&mut self) -> Result<Option<Name>, Refusal>
+        requires { Ready self.old 0 }
+        ensures { Names_if parse_name self.old self.new result }
+    {
+        let len = self.word_ahead();
+        if len == 0 {
+            return Ok(None);
+        }
+        Ok(Some(self.pass_word(len)?))
+    }
+
+    // The text of a custom literal.
+    pub(crate) fn literal_text(&mut self) -> Result<Option<Name>, Refusal>
+        requires { Ready self.old 0 }
+        ensures { Names_if parse_literal_text self.old self.new result }
+    {
+        let start = self.at as u32;
+        let lexed = lexing::parse_custom_literal(&self.text[self.at..]);
+        match self.pass(lexed)? {
+            Some(len) => Ok(Some(Name {
+                start,
+                len: len as u32,
+            })),
+            None => Ok(None),
+        }
+    }
+
+    // A natural.
+    pub(crate) fn natural(&mut self) -> Result<Option<u64>, Refusal>
+        requires { Ready self.old 0 }
+        ensures { Operates (λ v. v) parse_nat self.old self.new result }
+    {
+        let lexed = lexing::natural(&self.text[self.at..]);
+        self.pass(lexed)
+    }
+}
+
+// Tokens that must follow: refusal 2 where they don't.
+impl<'a> Parser<'a> {
+    #[inline]
+    #[tactic(auto, using(crate::proofs::Laws::failing), unfolding(grammar::specs::Steps::after))]
+    pub(crate) fn need_keyword(&mut self, bytes: &[u8]) -> Result<(), Refusal>
+        requires { Ready self.old 0 }
+        ensures { Takes (needed (word bytes.now)) (length bytes.now) self.old self.new result }
+    {
+        let place = self.at;
+        if self.keyword(bytes)? {
+            return Ok(());
+        }
+        Err(unusable(place))
+    }
+
+    #[inline(always)]
+    #[tactic(auto, using(crate::proofs::Laws::failing), unfolding(grammar::specs::Steps::after))]
+    pub(crate) fn need_sym(&mut self, bytes: &[u8]) -> Result<(), Refusal>
+        requires { Ready self.old 0 }
+        ensures { Takes (needed (sign bytes.now)) (length bytes.now) self.old self.new result }
+    {
+        let place = self.at;
+        if self.sym(bytes)? {
+            return Ok(());
+        }
+        Err(unusable(place))
+    }
+
+    #[inline]
+    #[tactic(auto, using(crate::proofs::Laws::failing), unfolding(grammar::specs::Steps::after))]
+    pub(crate) fn need_name(&mut self) -> Result<Name, Refusal>
+        requires { Ready self.old 0 }
+        ensures { Names (needed parse_name) self.old self.new result }
+    {
+        let place = self.at;
+        self.name()?.ok_or(unusable(place))
+    }
+
+    #[inline]
+    #[tactic(auto, using(crate::proofs::Laws::failing), unfolding(grammar::specs::Steps::after))]
+    pub(crate) fn need_literal_text(&mut self) -> Result<Name, Refusal>
+        requires { Ready self.old 0 }
+        ensures { Names (needed parse_literal_text) self.old self.new result }
+    {
+        let place = self.at;
+        self.literal_text()?.ok_or(unusable(place))
+    }
+}
+
+// Refusal 2 at a place.
+pub(crate) fn unusable(place: usize) -> Refusal
+    ensures { result ≡ record { reason = UnusableToken; place = place } }
+{
+    Refusal {
+        reason: Reason::UnusableToken,
+        place,
+    }
+}
