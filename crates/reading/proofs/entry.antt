@@ -1,3 +1,2 @@
--- The entry: the table cleared, and the outcome of what was read.
-pub mod Clearing
+-- What the functions of an entry answer.
 pub mod Outcomes

@@ -14,8 +14,8 @@ use Rattle.grammar.specs.OperatorTrees.{OperatorTree, DerivesWithin}
 use Rattle.grammar.specs.Reading.{Outcome, words, refusal, tree_words, outcome, read_tree, read_expression}
 use Rattle.reading.specs.TreeRead.{Answered, Leaves}
 use Rattle.grammar.proofs.Bridge.Limits.{read-derives, derives-gives, stored-inv, stored-fits}
-use Rattle.reading.specs.declared.entry.Reading.{Reading}
-use Rattle.reading.specs.declared.entry.Reading.TheVariants.{Words, Refused}
+use Rattle.std.specs.Prelude.{Result, Ok, Err}
+use Rattle.lexing.specs.declared.refusal.Refusal.{Refusal}
 
 -- the parts of an answer that is no refusal
 abbrev count : Outcome → ℕ
@@ -47,16 +47,16 @@ module _ (text : List ℕ) (n : ℕ) where
       by_answer (refused number place) r h = impossible (cc)
 
   -- the code leaves an operator tree: the text has a derivation of it
-  pub leaves-derives : {r : Reading} {after : List ℕ} {t : Tree} → Answered text n r after → Leaves text n t r after → OperatorTree t → DerivesWithin n text t
+  pub leaves-derives : {r : Result ℕ Refusal} {after : List ℕ} {t : Tree} → Answered text n r after → Leaves text n t r after → OperatorTree t → DerivesWithin n text t
   leaves-derives {t} a l x =
       let h : read_expression text n ≡ words (length (tree_words l.tree [])) (tree_words l.tree [] ++ replicate (n - length (tree_words l.tree [])) 0) =
       sym (rw (l.counted, l.held) at a) in
       rw l.named at (read-derives text n h (read_held l.tree (n - length (tree_words l.tree [])) h).1 (rw l.named x))
 
   -- and the other way round
-  pub derives-leaves : (r : Reading) {after : List ℕ} {t : Tree} → Answered text n r after → DerivesWithin n text t → Leaves text n t r after
-  derives-leaves (Words k) a d =
+  pub derives-leaves : (r : Result ℕ Refusal) {after : List ℕ} {t : Tree} → Answered text n r after → DerivesWithin n text t → Leaves text n t r after
+  derives-leaves (Ok k) a d =
       let g = derives-gives text n d in
-      record { tree = g.tree; named = g.named; counted = ap Words (ap count (a ∙ g.answered)); held = ap table (a ∙ g.answered) }
-  derives-leaves (Refused number place) a d =
-      let e = a ∙ (derives-gives text n d).answered in impossible (cc e)
+      record { tree = g.tree; named = g.named; counted = ap Ok (ap count (a ∙ g.answered)); held = ap table (a ∙ g.answered) }
+  derives-leaves (Err e) a d =
+      let h = a ∙ (derives-gives text n d).answered in impossible (cc h)

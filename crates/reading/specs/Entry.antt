@@ -1,20 +1,19 @@
--- What the functions of an entry need: the buffers; and what they answer, for either kind of tree.
-use Rattle.std.specs.Prelude.{ℕ, ◌+◌, ◌*◌, ◌≤◌, ◌≡◌, List, [], length, replicate}
+-- What the functions of an entry need: room; and what they answer, for either kind of tree.
+use Rattle.std.specs.Prelude.{ℕ, ◌≤◌, ◌≡◌, List, [], length, replicate}
 use Rattle.parsing.specs.Arena.{most_arena}
 use Rattle.tree.specs.Limits.{most_text}
 use Rattle.tree.specs.Words.{program_words}
 use Rattle.grammar.specs.Reading.{Outcome, outcome, outcome_by, parse_text, parse_program, read_expression, read_program}
-use Rattle.parsing.specs.Code.{same}
-use Rattle.parsing.specs.Parse.{arena_words}
+use Rattle.parsing.specs.Contract.{same}
+use Rattle.parsing.specs.Parse.{arena_nodes}
 use Rattle.parsing.specs.declared.entry.Whole.{Whole}
 use Rattle.parsing.specs.declared.entry.Whole.TheVariants.{Expression, Program}
 
--- what reading a text takes: an arena of 44 words and eight for each byte, a stack of eleven words and two for each byte, and a table of zeros
-pub record Buffers (text arena stack table : List ℕ) : Type 0 where
+-- what reading a text takes: an arena and a stack of `size` places, eleven and two for each byte, and a table of zeros
+pub record Sized (text : List ℕ) (size : ℕ) (table : List ℕ) : Type 0 where
   pub short : length text ≤ most_text
-  pub small : length arena ≤ most_arena
-  pub arena-room : arena_words (length text) ≤ length arena
-  pub stack-room : 11 + 2 * length text ≤ length stack
+  pub small : size ≤ most_arena
+  pub room : arena_nodes (length text) ≤ size
   pub clear : table ≡ replicate (length table) 0
 
 -- what is read of a text within the limit, and of any text

@@ -1,72 +1,77 @@
 -- A node's words in a table. The walk keeps a stack of frames, each of which stands for a run of words: its first words are written, and the
 -- frames of its parts take its place. Contracts of the walk's functions.
-use Rattle.std.specs.Prelude.{ℕ, zero, suc, ◌+◌, ◌*◌, ◌-◌, ◌/◌, ◌%◌, ◌^◌, ◌≤◌, ◌<◌, min, ◌≡◌, List, [], ◌∷◌, ◌++◌, length, get_or, drop, replicate, eqb}
+use Rattle.std.specs.Prelude.{ℕ, zero, suc, ◌+◌, ◌≤◌, ◌<◌, min, ◌≡◌, List, [], ◌∷◌, ◌++◌, length, get_or, replicate, Option, Some, None}
 use Rattle.tree.specs.Tags.{more, no_more, id_expr_tag, operator_expr_tag}
-use Rattle.lexing.specs.Answer.{pick}
-use Rattle.parsing.specs.Arena.{Run, Holds, most_arena, one_node, two_node, three_node, ident_node, unary_node, binary_node, item_node, pair_node, closed_node, headed_node}
+use Rattle.parsing.specs.Arena.{Run, Holds, most_arena, outside}
+use Rattle.parsing.specs.declared.arena.Node.{Node}
+use Rattle.parsing.specs.declared.arena.Node.TheVariants.{Empty, One, Two, Three, Ident, Unary, Binary, Item, Pair, Closed, Headed}
+use Rattle.reading.specs.declared.flat.Frame.{Frame}
+use Rattle.reading.specs.declared.flat.Frame.TheVariants.{Whole, Next, Last, End}
 
 -- ---- frames
 
 -- the words of a node before its parts
-unfoldable pub node_head : ℕ → ℕ → ℕ → ℕ → Run
-node_head tag x y z r =
-    pick (eqb tag one_node) (x ∷ r)
-    (pick (eqb tag two_node) (x ∷ y ∷ r)
-    (pick (eqb tag three_node) (x ∷ y ∷ z ∷ r)
-    (pick (eqb tag ident_node) (id_expr_tag ∷ x ∷ y ∷ z ∷ r)
-    (pick (eqb tag unary_node) (operator_expr_tag ∷ x ∷ more ∷ r) (pick (eqb tag binary_node) (operator_expr_tag ∷ x ∷ more ∷ r) (pick (eqb tag headed_node) (x ∷ r) r))))))
-
--- a frame is 0, which stands for the word 0, or one of these: a node; 1 and the node; 1, the node and 0
-abbrev pub whole : ℕ → ℕ
-whole n = n * 4 + 1
-
-abbrev pub next : ℕ → ℕ
-next n = n * 4 + 2
-
-abbrev pub last : ℕ → ℕ
-last n = n * 4 + 3
+abbrev pub node_head : Node → Run
+node_head Empty r = r
+node_head (One x) r = x ∷ r
+node_head (Two x y) r = x ∷ y ∷ r
+node_head (Three x y z) r = x ∷ y ∷ z ∷ r
+node_head (Ident x y z) r = id_expr_tag ∷ x ∷ y ∷ z ∷ r
+node_head (Unary x y) r = operator_expr_tag ∷ x ∷ more ∷ r
+node_head (Binary x y z) r = operator_expr_tag ∷ x ∷ more ∷ r
+node_head (Item y z) r = r
+node_head (Pair y z) r = r
+node_head (Closed y) r = r
+node_head (Headed x y) r = x ∷ r
 
 -- the frames of a node's parts, the first one on top
-unfoldable pub node_parts : ℕ → ℕ → ℕ → List ℕ
-node_parts tag y z =
-    pick (eqb tag unary_node) (whole y ∷ 0 ∷ [])
-    (pick (eqb tag binary_node) (whole y ∷ last z ∷ [])
-    (pick (eqb tag item_node) (whole y ∷ next z ∷ [])
-    (pick (eqb tag pair_node) (whole y ∷ whole z ∷ [])
-    (pick (eqb tag closed_node) (whole y ∷ 0 ∷ []) (pick (eqb tag headed_node) (whole y ∷ []) [])))))
+abbrev pub node_parts : Node → List Frame
+node_parts Empty = []
+node_parts (One x) = []
+node_parts (Two x y) = []
+node_parts (Three x y z) = []
+node_parts (Ident x y z) = []
+node_parts (Unary x y) = Whole y ∷ End ∷ []
+node_parts (Binary x y z) = Whole y ∷ Last z ∷ []
+node_parts (Item y z) = Whole y ∷ Next z ∷ []
+node_parts (Pair y z) = Whole y ∷ Whole z ∷ []
+node_parts (Closed y) = Whole y ∷ End ∷ []
+node_parts (Headed x y) = Whole y ∷ []
 
-module _ (arena : List ℕ) (frame : ℕ) where
-  abbrev pub field : ℕ → ℕ
-  field i = get_or arena (frame / 4 + i) 0
-
+module _ (arena : List Node) where
   -- the words that a frame begins with
-  unfoldable pub head_of : Run
-  head_of r =
-      pick (eqb (frame % 4) 0) (no_more ∷ r)
-      (pick (eqb (frame % 4) 1) (node_head (get_or arena (frame / 4) 0) (field 1) (field 2) (field 3) r) (more ∷ r))
+  abbrev pub head_of : Frame → Run
+  head_of (Whole n) r = node_head (get_or arena n outside) r
+  head_of (Next n) r = more ∷ r
+  head_of (Last n) r = more ∷ r
+  head_of End r = no_more ∷ r
 
   -- the frames that take its place
-  unfoldable pub parts_of : List ℕ
-  parts_of =
-      pick (eqb (frame % 4) 0) []
-      (pick (eqb (frame % 4) 2) ((frame - 1) ∷ [])
-      (pick (eqb (frame % 4) 3) ((frame - 2) ∷ 0 ∷ []) (node_parts (get_or arena (frame / 4) 0) (field 2) (field 3))))
+  abbrev pub parts_of : Frame → List Frame
+  parts_of (Whole n) = node_parts (get_or arena n outside)
+  parts_of (Next n) = Whole n ∷ []
+  parts_of (Last n) = Whole n ∷ End ∷ []
+  parts_of End = []
 
--- frames that fit the stack's words
-abbrev pub Small : List ℕ → Type 0
-Small [] = Unit {0}
-Small (w ∷ ws) = (w < 2 ^ 32) × Small ws
+-- a frame's node is one of n
+abbrev pub Inside : ℕ → Frame → Type 0
+Inside n (Whole m) = m < n
+Inside n (Next m) = m < n
+Inside n (Last m) = m < n
+Inside n End = Unit {0}
 
--- frames can take the place of the one at `sp`
-pub record Fit (frames stack : List ℕ) (sp : ℕ) : Type 0 where
-  pub inside : sp < length stack
-  pub room : length frames ≤ sp + 1
-  pub small : Small frames
+-- a frame, if there is one, on others
+abbrev pub onto : Option Frame → List Frame → List Frame
+onto (Some f) fs = f ∷ fs
+onto None fs = fs
 
--- and have taken it
-pub record Replaced (frames before after : List ℕ) (sp top : ℕ) : Type 0 where
-  pub inside : top ≤ length after
-  pub stacked : drop top after ≡ frames ++ drop (sp + 1) before
+-- the frames that the code gives, the first one on top
+abbrev pub frames_of : Option Frame × Option Frame → List Frame
+frames_of p = onto p.0 (onto p.1 [])
+
+-- a frame can be put on those from the place `top` on of a stack of n
+abbrev pub Spare : Option Frame → ℕ → ℕ → Type 0
+Spare f top n = (length (onto f []) ≤ top) × (top ≤ n)
 
 -- ---- words
 
@@ -89,15 +94,15 @@ Writes run before out after next = (total rest : List ℕ) → Written total (ru
 
 -- ---- the walk
 
--- what the walk from a root needs: the node and its parts below `top`, and a stack word for each node
-pub record Rooted (arena stack table : List ℕ) (root : ℕ) : Type 0 where
+-- what the walk from a root needs: the node and its parts below `top`, and a stack of `frames` places, one for each node
+pub record Rooted (arena : List Node) (frames : ℕ) (table : List ℕ) (root : ℕ) : Type 0 where
   pub run : Run
   pub top : ℕ
   pub holds : Holds arena root run
-  pub below : root + 4 ≤ top
+  pub below : root < top
   pub inside : top ≤ length arena
   pub small : length arena ≤ most_arena
-  pub room : top ≤ 4 * length stack
+  pub room : top ≤ frames
   pub clear : table ≡ replicate (length table) 0
 
 -- and what it gives

@@ -5,4 +5,5 @@
 mod entry;
 mod flat;
 
-pub use entry::{Reading, read_expression, read_program};
+pub use entry::{read_expression, read_program};
+pub use lexing::refusal::Refusal;

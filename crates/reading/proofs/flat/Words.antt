@@ -2,9 +2,10 @@
 use Prim.Native.Nat.{ℕ, zero, suc, ◌+◌, ◌-◌, ◌≤◌, ◌<◌}
 use native.Mathlib.Omega.{arith}
 use mathlib.Core.Path.{◌≡◌, refl, sym, ap, ◌∙◌}
-use mathlib.Core.List.{List, [], ◌∷◌, ◌++◌}
-use lib.ListN.{length, set, replicate, length-append, length-set}
-use lib.Seq.{append_snoc}
+use mathlib.Core.List.{List, [], ◌∷◌, ◌++◌, append_assoc}
+use lib.ListN.{length, get_or, set, take, replicate, length-append, length-set}
+use lib.Seq.{append_snoc, take_all}
+use Rattle.std.proofs.lemmas.List.{take_more}
 use Rattle.parsing.specs.Arena.{Run}
 use Rattle.reading.specs.Flat.{fill, Writes}
 
@@ -65,6 +66,21 @@ module _ {w out : ℕ} (table : List ℕ) where
         counted = omega (arith, p.counted, d);
       }
 
+-- no word
+pub writes_none : {t : List ℕ} {i : ℕ} → Writes (λ r. r) t i t i
+writes_none total rest p = p
+
 -- a run after another
 pub writes_more : {f g : Run} {t u v : List ℕ} {i j k : ℕ} → Writes f t i u j → Writes g u j v k → Writes (λ r. f (g r)) t i v k
 writes_more {g = g} p q total rest o = q total rest (p total (g rest) o)
+
+-- one word more of a slice, and all of them
+pub writes_further : (ws : List ℕ) (i : ℕ) {t u v : List ℕ} {a b c : ℕ} → i < length ws → Writes (λ r. take i ws ++ r) t a u b
+    → Writes (λ r. get_or ws i 0 ∷ r) u b v c → Writes (λ r. take (i + 1) ws ++ r) t a v c
+writes_further ws i h p q total rest o =
+    let e : take (i + 1) ws ++ rest ≡ take i ws ++ (get_or ws i 0 ∷ rest) =
+    ap (λ (l : List ℕ). l ++ rest) (take_more ws i 0 h) ∙ append_assoc (take i ws) (get_or ws i 0 ∷ []) rest in
+    q total rest (p total (get_or ws i 0 ∷ rest) (rw e at o))
+
+pub writes_all : (ws : List ℕ) (i : ℕ) {t u : List ℕ} {a b : ℕ} → length ws ≤ i → Writes (λ r. take i ws ++ r) t a u b → Writes (λ r. ws ++ r) t a u b
+writes_all ws i h p total rest o = p total rest (rw (sym (take_all i ws h)) at o)

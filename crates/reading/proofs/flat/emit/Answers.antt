@@ -1,9 +1,12 @@
--- `flat::emit` meets its contract: one word more, in the table or past its end (Words).
-use Rattle.reading.proofs.flat.Words.{emit-inside, emit-past}
+-- `flat::emit` meets its contract: each turn writes one word more (Words).
+use Rattle.reading.proofs.flat.Words.{writes_none, writes_further, writes_all}
 use Rattle.reading.proofs.flat.emit.Goals as goal
 
-pub returns-then-out-table : goal.returns-then-out-table
-returns-then-out-table c = emit-inside c.args.table.now c.if-out-table.true
+pub loop-word-init : goal.loop-word-init
+loop-word-init c = writes_none
+
+pub loop-word-preserved : goal.loop-word-preserved
+loop-word-preserved c = writes_further c.args.words.now c.loop-word.word-index c.loop-word-test.true c.loop-word.invariant c.put-count.ensures
 
 pub returns : goal.returns
-returns c = emit-past c.args.table.now c.if-out-table.false
+returns c = writes_all c.args.words.now c.loop-word.word-index c.loop-word-test.false c.loop-word.invariant

@@ -1,51 +1,52 @@
--- `flat::flatten` meets its contract: its loop's invariant is `Walks`, and the stack's weight falls (Walk, Frames).
+-- `flat::flatten` meets its contract, by the loop's invariant (Walk).
 use native.Mathlib.Omega.{arith}
-use Rattle.reading.proofs.flat.Walk.{rooted-stack, rooted-small, walks-start, walks-stack, walks-inside, walks-fits, walks_less, walks_next, walks-end}
+use native.Mathlib.Nat.{le_refl}
+use mathlib.Core.Path.{◌∙◌}
+use lib.ListN.{length, drop_of_length-le}
+use Rattle.reading.proofs.flat.Walk.{walks-start, walks-inside, walks-less, walks-room, walks-next, walks-end, first-is, first-none, replaced, room-left}
 use Rattle.reading.proofs.flat.flatten.Goals as goal
 
-pub overflow_sub-sp : goal.overflow_sub-sp
-overflow_sub-sp c = omega (arith, rooted-stack c.requires)
-
-pub overflow_mul-stack : goal.overflow_mul-stack
-overflow_mul-stack c = omega (arith, rooted-small c.requires)
-
-pub overflow_add-stack : goal.overflow_add-stack
-overflow_add-stack c = omega (arith, rooted-small c.requires)
-
-pub bounds-stack-sp : goal.bounds-stack-sp
-bounds-stack-sp c = omega (arith, rooted-stack c.requires)
-
-pub loop-sp-init : goal.loop-sp-init
-loop-sp-init c = walks-start c.requires
-
-pub offset_bounds-stack-sp-in-loop-sp : goal.offset_bounds-stack-sp-in-loop-sp
-offset_bounds-stack-sp-in-loop-sp c = omega (arith, walks-stack c.requires c.loop-sp.invariant, c.well_formed.1.1.0, c.loop-sp-test.true)
+pub loop-frame-init : goal.loop-frame-init
+loop-frame-init c =
+    record {
+      len = c.push-top.ensures.len;
+      inside = c.push-top.ensures.inside;
+      walks = rw (c.push-top.ensures.stacked, drop_of_length-le c.args.stack.now (le_refl (length c.args.stack.now))) (walks-start c.requires);
+    }
 
 pub head-out-requires : goal.head-out-requires
-head-out-requires c = walks-inside c.requires c.loop-sp.invariant c.loop-sp-test.true
+head-out-requires c = walks-inside c.requires (rw (first-is c.first.ensures c.in-Some.is) at c.loop-frame.invariant.walks)
 
-pub parts-sp-requires : goal.parts-sp-requires
-parts-sp-requires c = (
-  walks-inside c.requires c.loop-sp.invariant
-      c.loop-sp-test.true,
-  walks-fits c.requires
-      c.loop-sp.invariant c.loop-sp-test.true,
-)
+pub parts-upper-requires : goal.parts-upper-requires
+parts-upper-requires c = walks-inside c.requires (rw (first-is c.first.ensures c.in-Some.is) at c.loop-frame.invariant.walks)
 
-pub loop-sp-smaller : goal.loop-sp-smaller
-loop-sp-smaller c = walks_less c.requires c.loop-sp.invariant c.loop-sp-test.true c.parts-sp.ensures
+pub push-top-requires-in-Some-2 : goal.push-top-requires-in-Some-2
+push-top-requires-in-Some-2 c =
+    let o = rw (first-is c.first.ensures c.in-Some.is) at c.loop-frame.invariant.walks in
+    let p = c.push-top-in-Some.ensures in (
+      room-left c.parts-upper.result.0 c.parts-upper.result.1 c.push-top-in-Some.new.stack _ c.push-top-in-Some.result (length c.args.stack.now)
+          c.parts-upper.ensures (walks-room c.requires o) (p.len ∙ c.loop-frame.invariant.len) p.inside p.stacked,
+      p.inside,
+    )
 
-pub loop-sp-preserved : goal.loop-sp-preserved
-loop-sp-preserved c =
-    walks_next c.requires c.loop-sp.invariant
-    c.loop-sp-test.true c.parts-sp.ensures c.parts-sp.auto.stack
-    c.head-out.auto.table c.head-out.ensures
+pub loop-frame-smaller : goal.loop-frame-smaller
+loop-frame-smaller c =
+    let e = first-is c.first.ensures c.in-Some.is in
+    let o = rw e at c.loop-frame.invariant.walks in
+    rw (replaced c.parts-upper.result.0 c.parts-upper.result.1 _ c.parts-upper.ensures c.push-top-in-Some.ensures.stacked c.push-top-in-Some-2.ensures.stacked, e)
+    (walks-less c.requires o)
 
-pub shape_of-stack : goal.shape_of-stack
-shape_of-stack c = walks-stack c.requires c.loop-sp.invariant
-
-pub shape_of-table : goal.shape_of-table
-shape_of-table c = c.loop-sp.invariant.table_kept
+pub loop-frame-preserved : goal.loop-frame-preserved
+loop-frame-preserved c =
+    let o = rw (first-is c.first.ensures c.in-Some.is) at c.loop-frame.invariant.walks in
+    record {
+      len = c.push-top-in-Some-2.ensures.len ∙ c.push-top-in-Some.ensures.len ∙ c.loop-frame.invariant.len;
+      inside = c.push-top-in-Some-2.ensures.inside;
+      walks =
+          rw (replaced c.parts-upper.result.0 c.parts-upper.result.1 _ c.parts-upper.ensures c.push-top-in-Some.ensures.stacked c.push-top-in-Some-2.ensures.stacked)
+          (walks-next c.requires o c.head-out.auto.table c.head-out.ensures);
+    }
 
 pub returns : goal.returns
-returns c = walks-end c.requires c.loop-sp.invariant c.loop-sp-test.false
+returns c = λ f h.
+    walks-end c.requires (rw (first-none c.loop-frame.stack c.loop-frame.top c.first.ensures c.in_default.not-Some) at c.loop-frame.invariant.walks) f h

@@ -1,7 +1,0 @@
--- `entry::read_small` meets its contract, by that of `read_in` over `buffers` (Outcomes).
-use lib.Dec.{lit≤}
-use Rattle.reading.proofs.entry.Outcomes.{buffers}
-use Rattle.reading.proofs.entry.read_small.Goals as goal
-
-pub read_in-requires : goal.read_in-requires
-read_in-requires c = buffers 512 (lit≤ tt) c.requires
