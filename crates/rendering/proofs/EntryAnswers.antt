@@ -2,7 +2,7 @@
 use Prim.Native.Nat.{ℕ, ◌+◌, ◌≤◌, ◌<◌, min}
 use native.Mathlib.Omega.{arith}
 use mathlib.Core.Path.{◌≡◌, refl, sym, ap, ◌∙◌, subst}
-use mathlib.Core.Option.{Option, none, some}
+use mathlib.Core.Option.{Option, none}
 use mathlib.Core.List.{List, [], append-nil}
 use lib.ListN.{length, take}
 use borrow.Author.Tests.{le-leb, lt-leb}
@@ -11,14 +11,13 @@ use Rattle.tree.specs.Limits.{most_text, most_words}
 use Rattle.tree.specs.Check.{Refusal, oversized, misfitting}
 use Rattle.tree.specs.CountLaws.{expression-counted, program-counted}
 use Rattle.rendering.specs.declared.printer.Printer.{Printer}
-use Rattle.rendering.specs.declared.printer.Source.{Source}
 use Rattle.std.specs.Prelude.{Result, Ok, Err}
-use Rattle.tree.specs.Check.{Checked, refusal as check_refusal}
+use Rattle.tree.specs.Check.{refusal as check_refusal}
 use Rattle.tree.specs.declared.CheckError.{CheckError}
 use Rattle.tree.specs.declared.CheckError.TheVariants.{Misfit as CheckMisfit, TooLong as CheckTooLong}
 use Rattle.rendering.specs.declared.PrintError.{PrintError}
 use Rattle.rendering.specs.declared.PrintError.TheVariants.{Oversized, Misfit, TooLong}
-use Rattle.rendering.specs.Errors.{Refuses, of_check}
+use Rattle.rendering.specs.Errors.{of_check}
 use Rattle.rendering.specs.declared.Root.{Root}
 use Rattle.rendering.specs.declared.Root.TheVariants.{AnExpression, AProgram}
 use Rattle.rendering.specs.Tables.{most_indent, Printable, print_of, program_print_of, Held, held, refused, held_by, Within}

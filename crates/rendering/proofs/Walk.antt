@@ -1,15 +1,14 @@
 -- What a printer has printed of a tree's words since it stood at a place.
-use Rattle.std.proofs.Common.{ℕ, suc, Bool, true, false, eqb, ◌+◌, ◌*◌, ◌^◌, ◌≤◌, ◌<◌, ◌≡◌, refl, sym, ap, ◌∙◌, subst, List, [], ◌∷◌, ◌++◌, length, drop, get_or, arith}
+use Rattle.std.proofs.Common.{ℕ, Bool, eqb, ◌+◌, ◌*◌, ◌^◌, ◌≤◌, ◌<◌, ◌≡◌, refl, ap, ◌∙◌, subst, List, ◌∷◌, ◌++◌, length, drop, get_or, arith}
 use Rattle.tree.specs.Walk.{head_at, natural-at}
 use Rattle.tree.specs.Trees.{names_in}
 use Rattle.tree.specs.Resolve.{part as part_of}
-use Rattle.tree.specs.Words.{name_words, natural_words}
 use Rattle.layout.specs.Text.{decimal}
 use Rattle.rendering.specs.Tables.{name_in}
 use Rattle.rendering.specs.declared.printer.Printer.{Printer}
 use Rattle.rendering.specs.declared.printer.Source.{Source}
 use Rattle.rendering.specs.Wrote.{Wrote, Puts}
-use Rattle.rendering.specs.Parts.{Parts, Part, Done, PrintsOf, Told, Prints, Reads, Looks, Ends, a_name, a_natural}
+use Rattle.rendering.specs.Parts.{Parts, Done, PrintsOf, Told, Prints, Reads, Looks, Ends, a_name, a_natural}
 use Rattle.rendering.specs.ExprParts.{Ready}
 use Rattle.rendering.proofs.Writing.Bytes.{none, then}
 
@@ -73,15 +72,9 @@ left-as {s₀} {s} {X} e l = subst (λ (us : List ℕ). Walk s₀ X us s) e l
 pub done : {s₀ s : Printer} {X : List ℕ → List ℕ} {ws : List ℕ} → Walk s₀ X ws s → Done s₀.source.words.now X ws s₀ s
 done l = record { after = l.left; wrote = l.wrote }
 
--- what a printer keeps, and how it goes on
-pub record Keeps (s s' : Printer) : Type 0 where
-  pub source : s'.source ≡ s.source
-  pub output : s'.out.ghost_name ≡ s.out.ghost_name
-  pub forward : s.at ≤ s'.at
-
 -- a part was printed, whatever its tree
-pub prints : {P : Parts} {s s' : Printer} → Keeps s s' → Told P s s' → Prints P s s'
-prints k t = record { source = k.source; output = k.output; forward = k.forward; prints = t }
+pub prints : {P : Parts} {s s' : Printer} → s'.source ≡ s.source → s'.out.ghost_name ≡ s.out.ghost_name → s.at ≤ s'.at → Told P s s' → Prints P s s'
+prints e o f t = record { source = e; output = o; forward = f; prints = t }
 
 -- a name was printed
 pub printed-name : {s s₁ s₂ s₃ : Printer} {v w : ℕ} {x : List ℕ} → Reads s v s₁ → Reads s₁ w s₂ → x ≡ part_of s₂.source.text.now v w → Puts (λ r. x ++ r) s₂ s₃ → Told a_name s s₃

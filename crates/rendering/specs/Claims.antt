@@ -1,6 +1,6 @@
 -- What `render` promises, whatever the text, the table and the buffer (`Renders` is its contract): r is its answer, b the buffer before the call
 -- and b' the buffer after it. A table is past the limits, or its words are no tree's, or it holds a tree (`table`): refusal 6, 7, or the print.
-use Rattle.std.specs.Prelude.{ℕ, ◌≤◌, ◌<◌, ◌≡◌, List, length, take, Result, Ok, Err}
+use Rattle.std.specs.Prelude.{ℕ, ◌≤◌, ◌<◌, ◌≡◌, List, length, take, Result, Ok}
 use Rattle.std.proofs.Common.{◌∙◌, refl, le-leb}
 use Rattle.std.proofs.lemmas.Bool.{lt-leb}
 use Rattle.rendering.specs.declared.PrintError.{PrintError}

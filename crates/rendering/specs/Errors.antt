@@ -1,5 +1,5 @@
 -- The errors of a print, by the numbers and places of its refusals (REFERENCE, "The refusals").
-use Rattle.std.specs.Prelude.{ℕ, ◌≡◌, Result, Ok, Err}
+use Rattle.std.specs.Prelude.{ℕ, ◌≡◌, Result, Err}
 use Rattle.tree.specs.Check.{oversized, misfitting}
 use Rattle.tree.specs.declared.CheckError.{CheckError}
 use Rattle.tree.specs.declared.CheckError.TheVariants.{Misfit as CheckMisfit, TooLong as CheckTooLong}

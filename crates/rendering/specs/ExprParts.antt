@@ -1,7 +1,6 @@
 -- The parts of a table that hold expressions, with their prints: what the methods of src/expression.rt print.
 use Rattle.std.specs.Prelude.{ℕ, ◌+◌, ◌*◌, ◌≤◌, ◌≡◌, Bool, List, length, drop}
 use Rattle.std.proofs.Math.Option.{Option}
-use Rattle.lexing.specs.Bytes.{bytes}
 use Rattle.tree.specs.Ast as ast
 use Rattle.tree.specs.Ast.{Binding, Expr, OperatorExpr, FunctionCallExpr, LabeledExpr, LetExpr, QuantifierExpr, ClosureExpr}
 use Rattle.tree.specs.Ast.{Exprs, no_exprs, ◌then◌, Patterns, ClosureBindings, ClosureProperties}
@@ -16,11 +15,10 @@ use Rattle.layout.specs.declared.format.ExprFormatOption.TheVariants.{SingleLine
 use Rattle.layout.specs.PrintUtil.{start_indent, Init}
 use Rattle.layout.specs.Printer as layout
 use Rattle.layout.specs.Printer.{Operand, ExpressionList, is_if, Expression, operands, patterns, closure_bindings, triggers, properties}
-use Rattle.layout.specs.Text.{unless}
 use Rattle.rendering.specs.declared.printer.Printer.{Printer}
 use Rattle.rendering.specs.declared.printer.Source.{Source}
 use Rattle.rendering.specs.Tables.{most_indent}
-use Rattle.rendering.specs.Parts.{N, named, Part, Parts}
+use Rattle.rendering.specs.Parts.{N, named, Parts}
 
 -- an operand of an operator
 abbrev pub operand : (S : Source) → Expr (N S) → Operand
@@ -116,10 +114,10 @@ an_else context format deeper =
 
 -- ---- sequences
 
-abbrev pub expression_list : (first : Bool) → Parts
-expression_list first =
+abbrev pub expression_list : (separator : List ℕ) → Parts
+expression_list separator =
     counted (λ S. CountedExprs {N = N S} (λ n. n.span) S.counts.now (length S.words.now)) (λ S. exprs_words (λ n. n.span))
-    (λ S es rest. ExpressionList (unless first (bytes ", ")) (operands (named S) S.step es) rest) (λ S. 0)
+    (λ S es rest. ExpressionList separator (operands (named S) S.step es) rest) (λ S. 0)
 
 abbrev pub pattern_list : ExprFormatOption → Parts
 pattern_list format =
@@ -131,12 +129,12 @@ trigger_list =
     counted (λ S. CountedPatterns {N = N S} (λ n. n.span) S.counts.now (length S.words.now)) (λ S. patterns_words (λ n. n.span))
     (λ S ps rest. triggers (named S) S.step ps rest) (λ S. 0)
 
-abbrev pub closure_list : (first : Bool) → Parts
-closure_list first =
+abbrev pub closure_list : (separator : List ℕ) → Parts
+closure_list separator =
     counted (λ S. CountedClosureBindings {N = N S} (λ n. n.span) S.counts.now (length S.words.now)) (λ S. closure_bindings_words (λ n. n.span))
-    (λ S bs rest. closure_bindings (named S) S.step bs (unless first (bytes ", ")) rest) (λ S. 0)
+    (λ S bs rest. closure_bindings (named S) S.step bs separator rest) (λ S. 0)
 
-abbrev pub property_list : (first : Bool) → Parts
-property_list first =
+abbrev pub property_list : (separator : List ℕ) → Parts
+property_list separator =
     counted (λ S. CountedClosureProperties {N = N S} (λ n. n.span) S.counts.now (length S.words.now)) (λ S. closure_properties_words (λ n. n.span))
-    (λ S ps rest. properties (named S) S.step ps (unless first (bytes ", ")) rest) (λ S. 0)
+    (λ S ps rest. properties (named S) S.step ps separator rest) (λ S. 0)

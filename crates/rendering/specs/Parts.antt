@@ -1,16 +1,12 @@
 -- What the functions that print the words at a place of a table do: the place after those words, and the print of the tree that they are.
-use Rattle.std.specs.Prelude.{ℕ, ◌+◌, ◌≤◌, ◌<◌, ◌≡◌, Bool, List, [], ◌∷◌, length, drop, get_or, eqb}
+use Rattle.std.specs.Prelude.{ℕ, ◌+◌, ◌≤◌, ◌<◌, ◌≡◌, Bool, List, ◌∷◌, length, drop, get_or, eqb}
 use Rattle.std.proofs.Math.Option.{Option}
 use Rattle.lexing.specs.Bytes.{bytes}
-use Rattle.tree.specs.Ast.{Binding, Expr}
-use Rattle.tree.specs.Words.{bool_word, natural_words, name_words, option_words, seq_words, binding_words, expr_words}
+use Rattle.tree.specs.Ast.{Binding}
+use Rattle.tree.specs.Words.{bool_word, natural_words, name_words, option_words, seq_words, binding_words}
 use Rattle.tree.specs.Check.{NameIn}
-use Rattle.layout.specs.declared.power.Side.TheVariants.{Left}
-use Rattle.layout.specs.declared.power.BindingPower.{BindingPower}
-use Rattle.layout.specs.declared.format.ExprFormatOption.{ExprFormatOption}
 use Rattle.layout.specs.Text.{◌▹◌, ◌▸◌, decimal}
-use Rattle.layout.specs.PrintUtil.{EndlessOperator, Parenthesis}
-use Rattle.layout.specs.Printer.{bool_text, old_text, quantifier_text, IdTypeDecl, Bindings, parameters, Expression, is_if}
+use Rattle.layout.specs.Printer.{bool_text, old_text, quantifier_text, IdTypeDecl, Bindings, parameters}
 use Rattle.rendering.specs.declared.printer.Printer.{Printer}
 use Rattle.rendering.specs.declared.printer.Source.{Source}
 use Rattle.rendering.specs.Tables.{name_in}

@@ -1,9 +1,9 @@
 -- The parts of a table that hold statements, with their prints: what the methods of src/items.rt, src/simple.rt and src/statement.rt print.
-use Rattle.std.specs.Prelude.{ℕ, ◌+◌, ◌≤◌, ◌≡◌, Bool, false, List, [], ◌∷◌, length, drop, Option as Maybe, Some, None}
+use Rattle.std.specs.Prelude.{ℕ, ◌+◌, ◌≡◌, Bool, false, List, [], ◌∷◌, length, drop, Option as Maybe, Some, None}
 use Rattle.std.proofs.Math.Option.{Option}
 use Rattle.lexing.specs.Answer.{pick}
 use Rattle.lexing.specs.Bytes.{bytes}
-use Rattle.tree.specs.Ast.{Expr, CallArgument, FParameter, PParameter, Variable, Stmt, VarDecl, Assign, Reinit, Block, Call, AForall, Choose, If, IfCase, Loop, LabeledStmt, Exit, Return, Stmts, Cases, AExprs}
+use Rattle.tree.specs.Ast.{Expr, CallArgument, FParameter, PParameter, Variable, Stmt, VarDecl, Assign, Reinit, Block, Call, AForall, Choose, If, IfCase, Loop, LabeledStmt, Exit, Stmts, Cases, AExprs}
 use Rattle.tree.specs.Words.{name_words, option_words, seq_words, expr_words, variable_words, call_argument_words, f_parameter_words, p_parameter_words}
 use Rattle.tree.specs.Words.{stmt_words, stmts_words, cases_words, a_expr_words, a_exprs_words}
 use Rattle.tree.specs.Counted.{Noted, stmt_count, CountedOption, CountedItems, CountedStmt, CountedStmts, CountedCases, CountedAExpr, CountedAExprs}

@@ -145,7 +145,7 @@ impl Printer<'_> {
     {
         self.put(spelling(op));
         self.put(b"(");
-        self.exprs(true);
+        self.exprs(b"");
         self.put(b")");
     }
 
@@ -154,7 +154,7 @@ impl Printer<'_> {
         ensures { Prints a_call self.old self.new }
     {
         self.name_then(b"(");
-        self.exprs(true);
+        self.exprs(b"");
         self.put(b")");
     }
 
@@ -202,11 +202,11 @@ impl Printer<'_> {
         ensures { Prints a_closure self.old self.new }
     {
         self.put(b"lift ");
-        self.closures(true);
+        self.closures(b"");
         self.put(b" into ");
         self.typed();
         self.put(b" by { ");
-        self.properties(true);
+        self.properties(b"");
         self.put(b" }");
     }
 }

@@ -70,6 +70,7 @@ impl Printer<'_> {
         }
     }
 
+    // Kept: a trait with an impl for each kind would be no plainer than these arms.
     fn item(&mut self, kind: Item)
         ensures { Prints (an_item kind) self.old self.new }
     {

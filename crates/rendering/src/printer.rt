@@ -1,9 +1,8 @@
 // A printer, which reads the words of a table from a place on and writes their print into a buffer.
 ghost use Rattle.std.specs.Prelude.{IsTrue, ◌↔◌, ◌≡◌, ◌++◌, ◌+◌, ◌≤◌, length, take, drop, replicate};
 ghost use Rattle.lexing.specs.Answer.{pick};
-ghost use Rattle.lexing.specs.Bytes.{bytes as text};
 ghost use Rattle.layout.specs.PrintUtil.{Indent, Space, Parenthesis};
-ghost use Rattle.layout.specs.Text.{decimal, unless};
+ghost use Rattle.layout.specs.Text.{decimal};
 ghost use Rattle.rendering.specs.Wrote.{Puts};
 ghost use Rattle.rendering.specs.Parts.{Reads, Looks, Ends, Counts};
 
@@ -48,6 +47,7 @@ fn store_spaces(out: &mut [u8], pos: usize, size: usize)
 }
 
 // One text or the other.
+// Kept: the arms of an `if` in its place would be arrays of two types.
 pub(crate) fn either<'a>(test: bool, yes: &'a [u8], other: &'a [u8]) -> &'a [u8]
     ensures { result.now ≡ pick test yes.now other.now }
 {
@@ -108,7 +108,8 @@ impl Printer<'_> {
         self.pos <= self.out.len() && size <= self.out.len() - self.pos
     }
 
-    // Writes `bytes`.
+    // Writes `bytes`. Inlined, so that a fixed text is stored without a loop.
+    #[inline(always)]
     pub(crate) fn put(&mut self, bytes: &[u8])
         ensures { Puts (λ rest. bytes.now ++ rest) self.old self.new }
     {
@@ -155,15 +156,6 @@ impl Printer<'_> {
                 self.put(b"\n");
                 self.indent(indent);
             }
-        }
-    }
-
-    // Writes the separator of a list, unless before its first item.
-    pub(crate) fn separator(&mut self, first: bool)
-        ensures { Puts (λ rest. unless first (text ", ") ++ rest) self.old self.new }
-    {
-        if !first {
-            self.put(b", ");
         }
     }
 

@@ -41,6 +41,7 @@ impl Printer<'_> {
         }
     }
 
+    // Kept: a trait with an impl for each kind would be no plainer than these arms.
     fn declaration(&mut self, kind: DeclKind)
         ensures { Prints (a_decl kind) self.old self.new }
     {

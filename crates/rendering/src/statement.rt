@@ -10,6 +10,7 @@ use tree::word::{AExprTag, BLOCK, FALSE, IF, IF_CASE, LOOP, NO_MORE, StmtTag};
 
 impl Printer<'_> {
     // A statement without its initial indent. `followed`: it is followed by a `}`.
+    // Kept: the flag is upstream's `followedByEndCurly`, and an enum of two names would be no plainer.
     #[cycle(statement)]
     pub(crate) fn stmt(&mut self, indent: usize, followed: bool)
         ensures { Prints (a_stmt indent followed) self.old self.new }
@@ -152,6 +153,7 @@ impl Printer<'_> {
     }
 
     // A statement after `else` or a label: on the line where it stays there, else as a block.
+    // Kept: two methods in place of the flag would differ in a test alone.
     #[cycle(statement)]
     fn onward(&mut self, stays: bool, indent: usize)
         ensures { Prints (an_onward stays indent) self.old self.new }

@@ -10,7 +10,7 @@ use Rattle.grammar.specs.Reading.{read_program, words}
 use Rattle.grammar.proofs.Claims as Grammar
 use Rattle.reading.specs.TreeRead.{Answered, Leaves}
 use Rattle.reading.specs.Claims as Reader
-use Rattle.reading.specs.declared.entry.Reading.{Reading}
+use Rattle.lexing.specs.declared.refusal.Refusal.{Refusal}
 use Rattle.layout.specs.declared.format.ExprFormatOption.{ExprFormatOption}
 use Rattle.rendering.specs.declared.PrintError.{PrintError}
 use Rattle.layout.specs.PrintUtil.{Init}
@@ -27,7 +27,7 @@ derivations-agree = Grammar.derivations-agree
 
 -- Second: `read_expression`, which answers r and leaves its table of n words so, gives an operator tree exactly when the text has a derivation
 -- that keeps the limits, and it is the derivation's tree.
-pub reading-is-deriving : (text : List ℕ) (n : ℕ) (r : Reading) (table : List ℕ) (t : Tree) → Answered text n r table
+pub reading-is-deriving : (text : List ℕ) (n : ℕ) (r : Result ℕ Refusal) (table : List ℕ) (t : Tree) → Answered text n r table
     → (Leaves text n t r table × OperatorTree t) ↔ DerivesWithin n text t
 reading-is-deriving = Reader.read-expression-exact
 
@@ -41,7 +41,7 @@ print-is-derived = written-derives
 -- .. and where the print keeps the reading limits, `read_expression` reads it back as that tree.
 pub print-is-read-back : (text words out out' : List ℕ) (format : ExprFormatOption) (n : ℕ) (e : Expr (NameIn (length text)))
     → Holds text words e → Faithful (tree_in text e) → PrintAnswered text words format out (Ok n) out'
-    → (m : ℕ) (t : Tree) → DerivesWithin m (take n out') t → (r : Reading) (table : List ℕ) → Answered (take n out') m r table
+    → (m : ℕ) (t : Tree) → DerivesWithin m (take n out') t → (r : Result ℕ Refusal) (table : List ℕ) → Answered (take n out') m r table
     → Leaves (take n out') m (tree_in text e) r table
 print-is-read-back = written_read
 
@@ -50,7 +50,7 @@ print-is-read-back = written_read
 pub short-print-is-read-back : (text words out out' : List ℕ) (format : ExprFormatOption) (n : ℕ) (e : Expr (NameIn (length text)))
     → Holds text words e → Faithful (tree_in text e) → PrintAnswered text words format out (Ok n) out'
     → Words32 words → n ≤ most_text → nesting (tree_in text e) Init < most_depth
-    → (m : ℕ) → length words ≤ m → (r : Reading) (table : List ℕ) → Answered (take n out') m r table
+    → (m : ℕ) → length words ≤ m → (r : Result ℕ Refusal) (table : List ℕ) → Answered (take n out') m r table
     → Leaves (take n out') m (tree_in text e) r table
 short-print-is-read-back = written-read-plainly
 

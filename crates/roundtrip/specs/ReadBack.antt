@@ -16,8 +16,8 @@ use Rattle.grammar.specs.OperatorTrees.{Faithful, most_depth, word_count, Derive
 use Rattle.grammar.proofs.Claims.{derivations-agree}
 use Rattle.reading.specs.TreeRead.{Answered, Leaves}
 use Rattle.reading.specs.Claims.{read-expression-exact}
-use Rattle.reading.specs.declared.entry.Reading.{Reading}
-use Rattle.std.specs.Prelude.{Ok}
+use Rattle.lexing.specs.declared.refusal.Refusal.{Refusal}
+use Rattle.std.specs.Prelude.{Result, Ok}
 use Rattle.layout.specs.declared.format.ExprFormatOption.{ExprFormatOption}
 use Rattle.layout.specs.PrintUtil.{Init}
 use Rattle.layout.specs.Printer.{Expression}
@@ -84,7 +84,7 @@ module _ (text words out out' : List ℕ) (format : ExprFormatOption) (n : ℕ) 
   written-derives d h = subst (λ p. Derives d p (tree_in text e)) is-print (print-derives 2 format (tree_in text e) d x h)
 
   -- and is read back where it keeps the reading limits
-  pub written_read : (m : ℕ) (t : Tree) → DerivesWithin m (take n out') t → (r : Reading) (table : List ℕ) → Answered (take n out') m r table
+  pub written_read : (m : ℕ) (t : Tree) → DerivesWithin m (take n out') t → (r : Result ℕ Refusal) (table : List ℕ) → Answered (take n out') m r table
       → Leaves (take n out') m (tree_in text e) r table
   written_read m t y r table b =
       let z : DerivesWithin m (print 2 format (tree_in text e)) t = rw is-print y in
@@ -106,6 +106,6 @@ module _ (text words out out' : List ℕ) (format : ExprFormatOption) (n : ℕ) 
         subst (λ p. DerivesWithin m p t) is-print
         (print-keeps 2 format m t x (words_small (name_in text) e [] (subst Words32 (sym holds) w)) k flat (omega arith) (omega arith))
 
-    pub written-read-plainly : (m : ℕ) → length words ≤ m → (r : Reading) (table : List ℕ) → Answered (take n out') m r table
+    pub written-read-plainly : (m : ℕ) → length words ≤ m → (r : Result ℕ Refusal) (table : List ℕ) → Answered (take n out') m r table
         → Leaves (take n out') m (tree_in text e) r table
     written-read-plainly m h = written_read m (tree_in text e) (keeps m h)

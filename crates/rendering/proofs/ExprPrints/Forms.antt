@@ -1,5 +1,5 @@
 -- The alternatives of an operator by its operands, each in the order in which it is printed.
-use Rattle.std.proofs.Common.{ℕ, suc, ◌+◌, ◌≤◌, ◌<◌, ◌≡◌, refl, sym, ap, ◌∙◌, arith, Bool, true, false, List, ◌++◌, length, drop}
+use Rattle.std.proofs.Common.{ℕ, ◌+◌, ◌≤◌, ◌<◌, ◌≡◌, refl, ◌∙◌, arith, Bool, true, false, List, ◌++◌, length, drop}
 use borrow.Author.Tests.{ne_eqb}
 use Rattle.lexing.specs.Answer.{pick}
 use Rattle.lexing.specs.Bytes.{bytes}
@@ -16,7 +16,7 @@ use Rattle.layout.specs.declared.format.ExprFormatOption.{ExprFormatOption}
 use Rattle.layout.specs.declared.format.ExprFormatOption.TheVariants.{SingleLine, MultipleLines}
 use Rattle.layout.specs.Indents.{held-format}
 use Rattle.layout.specs.PrintUtil.{Space, More, Deeper, start_indent, SubexpressionPower, ToString, BindingStrength}
-use Rattle.layout.specs.Printer.{breaks_line, is_if, unary, binary, conditional, listed, operator_form, right_operand, else_branch, operands}
+use Rattle.layout.specs.Printer.{breaks_line, unary, binary, conditional, listed, operator_form, right_operand, operands}
 use Rattle.rendering.specs.declared.printer.Source.{Source}
 use Rattle.rendering.specs.declared.printer.Printer.{Printer}
 use Rattle.rendering.specs.Parts.{N, named, Counts}

@@ -1,8 +1,8 @@
 -- An expression by its first word.
-use Rattle.std.proofs.Common.{ℕ, ◌+◌, ◌*◌, ◌-◌, ◌≤◌, ◌<◌, ◌≡◌, refl, sym, ap, ◌∙◌, subst, arith, List, [], zero, suc, ◌∷◌, length, drop, get_or, Option, Some, None}
+use Rattle.std.proofs.Common.{ℕ, ◌+◌, ◌-◌, ◌<◌, ◌≡◌, refl, sym, ap, ◌∙◌, arith, length, get_or, Option, Some, None}
 use Rattle.tree.specs.Ast as ast
 use Rattle.tree.specs.Ast.{Expr, BLiteral, ILiteral, CustomLiteral, IdExpr, OperatorExpr, FunctionCallExpr, LabeledExpr, LetExpr, QuantifierExpr, ClosureExpr}
-use Rattle.tree.specs.Words.{operator_word, expr_words}
+use Rattle.tree.specs.Words.{operator_word}
 use Rattle.tree.specs.Codes.{Decodes, expr_code, operator_code, as_operator}
 use Rattle.tree.specs.declared.word.ExprTag.{ExprTag}
 use Rattle.tree.specs.declared.word.ExprTag.TheVariants as tag
@@ -10,15 +10,13 @@ use Rattle.tree.specs.declared.word.Operator.{Operator}
 use Rattle.tree.specs.declared.word.Operator.TheVariants as op
 use Rattle.tree.specs.Kind.{expr}
 use Rattle.tree.specs.Trees.{names_in}
-use Rattle.tree.specs.Walk.{head_at, tree-at-word}
+use Rattle.tree.specs.Walk.{tree-at-word}
 use Rattle.layout.specs.declared.power.BindingPower.{BindingPower}
 use Rattle.layout.specs.declared.format.ExprFormatOption.{ExprFormatOption}
-use Rattle.layout.specs.PrintUtil.{start_indent}
 use Rattle.layout.specs.Printer.{Expression}
 use Rattle.rendering.specs.declared.printer.Printer.{Printer}
-use Rattle.rendering.specs.OperatorWords.{operator_of}
-use Rattle.rendering.specs.Parts.{N, named, Parts, Done, Told, Prints, Reads, a_bool, a_natural, custom_literal, identifier}
-use Rattle.rendering.specs.ExprParts.{Ready, Numbered, an_expr, an_operator_expr, a_call, a_label, a_let, a_quantifier, a_closure}
+use Rattle.rendering.specs.Parts.{Told, Prints, Reads, a_bool, a_natural, custom_literal, identifier}
+use Rattle.rendering.specs.ExprParts.{Ready, an_expr, an_operator_expr, a_call, a_label, a_let, a_quantifier, a_closure}
 use Rattle.rendering.proofs.Walk.{begin, reads}
 use Rattle.rendering.proofs.Words.{found, passed, by-word}
 

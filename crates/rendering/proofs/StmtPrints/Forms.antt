@@ -1,5 +1,5 @@
 -- The prints of statements by what their tests say, and the ends of items.
-use Rattle.std.proofs.Common.{ℕ, suc, ◌+◌, ◌-◌, ◌≡◌, refl, sym, ap, ◌∙◌, arith, Bool, true, false, eqb, List, [], ◌∷◌, ◌++◌}
+use Rattle.std.proofs.Common.{ℕ, suc, ◌≡◌, ap, arith, Bool, false, eqb, List, ◌++◌}
 use Rattle.std.proofs.Math.Option.{none}
 use borrow.Author.Tests.{ne_eqb}
 use Rattle.lexing.specs.Answer.{pick}

@@ -1,5 +1,5 @@
 -- Modes, and the pieces of a variable's declaration.
-use Rattle.std.proofs.Common.{ℕ, ◌≡◌, refl, sym, ap, ◌∙◌, Option, Some, List, [], ◌∷◌, ◌++◌}
+use Rattle.std.proofs.Common.{ℕ, ◌≡◌, refl, sym, ap, Option, List, [], ◌∷◌, ◌++◌}
 use Rattle.lexing.specs.Bytes.{bytes}
 use Rattle.tree.specs.Ast as ast
 use Rattle.tree.specs.Words.{mode_word}

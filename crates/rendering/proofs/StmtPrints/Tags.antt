@@ -1,5 +1,5 @@
 -- A statement by its first word.
-use Rattle.std.proofs.Common.{ℕ, zero, suc, ◌+◌, ◌*◌, ◌-◌, ◌≤◌, ◌<◌, ◌≡◌, refl, sym, ap, ◌∙◌, arith, Bool, List, [], ◌∷◌, ◌++◌, length, drop, get_or, Option, Some, None}
+use Rattle.std.proofs.Common.{ℕ, ◌+◌, ◌-◌, ◌<◌, ◌≡◌, refl, sym, ap, ◌∙◌, arith, Bool, List, ◌++◌, length, drop, get_or, Option, Some, None}
 use Rattle.lexing.specs.Bytes.{bytes}
 use Rattle.tree.specs.Ast.{Stmt, VarDecl, Assign, Reinit, Block, Call, Check, Assume, Reach, Assert, AForall, Choose, If, IfCase, Loop, LabeledStmt, Exit, Return, Probe}
 use Rattle.tree.specs.Ast.{Stmts, no_stmts, stmts}
@@ -16,7 +16,7 @@ use Rattle.layout.specs.Statements.{shown}
 use Rattle.rendering.specs.declared.printer.Printer.{Printer}
 use Rattle.rendering.specs.declared.printer.Source.{Source}
 use Rattle.rendering.specs.Wrote.{Puts}
-use Rattle.rendering.specs.Parts.{N, Parts, Told, Prints, Reads, Looks, free}
+use Rattle.rendering.specs.Parts.{N, Told, Prints, Reads, Looks, free}
 use Rattle.rendering.specs.ExprParts.{Ready}
 use Rattle.rendering.specs.StmtParts.{a_stmt, an_inner, statement_list, a_variable, an_assign, a_reinit, a_braces, a_call_stmt, an_expression_stmt, a_forall, a_choose, an_if, an_if_case, a_loop, a_labelled, an_exit}
 use Rattle.rendering.proofs.Walk.{begin, reads, inside}

@@ -1,10 +1,10 @@
 -- Writes one after the other, and the writes of bytes.
-use Prim.Native.Nat.{ℕ, suc, ◌+◌, ◌≤◌, ◌<◌, min}
+use Prim.Native.Nat.{ℕ, ◌+◌, ◌≤◌, ◌<◌, min}
 use native.Mathlib.Omega.{arith}
 use mathlib.Core.Path.{◌≡◌, refl, sym, ap, ◌∙◌, subst}
 use mathlib.Core.List.{List, ◌++◌, append_assoc}
-use lib.ListN.{length, take, drop, get_or, set, replicate, length-append, length-replicate, get_or-replicate}
-use lib.Seq.{paste, paste-zero, paste-suc, take-paste, length-paste, take-length}
+use lib.ListN.{length, take, drop, replicate, length-append, length-replicate}
+use lib.Seq.{paste, take-paste, length-paste, take-length}
 use Rattle.rendering.specs.declared.printer.Printer.{Printer}
 use Rattle.rendering.specs.Wrote.{Wrote, Puts}
 
@@ -43,9 +43,6 @@ then {X} {Y} {b} {b₁} {b₂} {p} {p₁} {p₂} u v =
 pub puts-then : {X Y : List ℕ → List ℕ} {s s₁ s₂ : Printer} → Puts X s s₁ → Puts Y s₁ s₂ → Puts (λ rest. X (Y rest)) s s₂
 puts-then u v =
     record { source = v.source ∙ u.source; output = v.output ∙ u.output; still = v.still ∙ u.still; wrote = then u.wrote v.wrote }
-
-pub puts-none : (s : Printer) → Puts (λ rest. rest) s s
-puts-none s = record { source = refl; output = refl; still = refl; wrote = none s.out.now s.pos }
 
 -- bytes that fit, and bytes that do not
 pub stored : (b : List ℕ) (p : ℕ) (x b' : List ℕ) → p + length x ≤ length b → b' ≡ take p b ++ x ++ drop (p + length x) b

@@ -7,15 +7,15 @@ use layout::{BindingPower, ExprFormatOption};
 use tree::word::NO_MORE;
 
 impl Printer<'_> {
-    // `ExpressionList`.
+    // `ExpressionList`, with the separator before its first item.
     #[cycle(expression)]
-    pub(crate) fn exprs(&mut self, first: bool)
-        ensures { Prints (expression_list first) self.old self.new }
+    pub(crate) fn exprs(&mut self, separator: &[u8])
+        ensures { Prints (expression_list separator.now) self.old self.new }
     {
         if self.word() != NO_MORE {
-            self.separator(first);
+            self.put(separator);
             self.expr(BindingPower::INIT, ExprFormatOption::SingleLine);
-            self.exprs(false);
+            self.exprs(b", ");
         }
     }
 
@@ -27,7 +27,7 @@ impl Printer<'_> {
         if self.word() != NO_MORE {
             self.space(format);
             self.put(b"pattern ");
-            self.exprs(true);
+            self.exprs(b"");
             self.patterns(format);
         }
     }
@@ -39,7 +39,7 @@ impl Printer<'_> {
     {
         if self.word() != NO_MORE {
             self.put(b"trigger ");
-            self.exprs(true);
+            self.exprs(b"");
             self.put(b" ");
             self.triggers();
         }
@@ -47,31 +47,31 @@ impl Printer<'_> {
 
     // A closure's bindings.
     #[cycle(expression)]
-    pub(crate) fn closures(&mut self, first: bool)
-        ensures { Prints (closure_list first) self.old self.new }
+    pub(crate) fn closures(&mut self, separator: &[u8])
+        ensures { Prints (closure_list separator.now) self.old self.new }
     {
         if self.word() != NO_MORE {
-            self.separator(first);
+            self.put(separator);
             self.name();
             self.parameters();
             self.put(b" := ");
             self.expr(BindingPower::INIT, ExprFormatOption::SingleLine);
-            self.closures(false);
+            self.closures(b", ");
         }
     }
 
     // A closure's properties.
     #[cycle(expression)]
-    pub(crate) fn properties(&mut self, first: bool)
-        ensures { Prints (property_list first) self.old self.new }
+    pub(crate) fn properties(&mut self, separator: &[u8])
+        ensures { Prints (property_list separator.now) self.old self.new }
     {
         if self.word() != NO_MORE {
-            self.separator(first);
+            self.put(separator);
             let is_bare = self.is_at_end();
             self.triggers();
             self.put(either(is_bare, b"", b":: "));
             self.expr(BindingPower::INIT, ExprFormatOption::SingleLine);
-            self.properties(false);
+            self.properties(b", ");
         }
     }
 }

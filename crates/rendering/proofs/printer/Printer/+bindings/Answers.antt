@@ -18,7 +18,7 @@ none _ c [] rest g d = done (word (begin d) c.word.ensures)
 none _ c (binding n t ∷ bs) rest g d = let e = reads (begin d) c.word.ensures in absurd (omega (arith, e, c.if-word-ne-NO_MORE.false))
 
 pub returns-then-word-ne-NO_MORE : goal.returns-then-word-ne-NO_MORE
-returns-then-word-ne-NO_MORE t c = prints (record { source = cc; output = cc; forward = omega arith }) (some t c)
+returns-then-word-ne-NO_MORE t c = prints (cc) (cc) (omega arith) (some t c)
 
 pub returns-else-word-ne-NO_MORE : goal.returns-else-word-ne-NO_MORE
-returns-else-word-ne-NO_MORE t c = prints (record { source = cc; output = cc; forward = omega arith }) (none t c)
+returns-else-word-ne-NO_MORE t c = prints (cc) (cc) (omega arith) (none t c)

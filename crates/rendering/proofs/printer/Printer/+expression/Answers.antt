@@ -1,5 +1,5 @@
 -- The methods that print expressions, each by its steps.
-use Rattle.std.proofs.Common.{arith, ℕ, suc, ◌≡◌, ◌<◌, refl, ap, sym, ◌∙◌, Bool, true, false, List, [], ◌∷◌, Option, None, Some}
+use Rattle.std.proofs.Common.{arith, ℕ, ◌≡◌, ap, sym, ◌∙◌, Bool, List, [], None, Some}
 use Rattle.lexing.specs.Answer.{pick}
 use Rattle.lexing.specs.Bytes.{bytes}
 use Rattle.tree.specs.Ast.{Span, Operator, ArgumentCount, OperatorExpr, Patterns}
@@ -8,14 +8,12 @@ use Rattle.rendering.specs.declared.printer.Printer.{Printer}
 use Rattle.rendering.specs.Parts.{Ends}
 use Rattle.rendering.proofs.Walk.{Walk}
 use Rattle.tree.specs.Ast.{no_exprs, ◌then◌, no_patterns, pattern, no_closure_bindings, closure_binding, no_closure_properties, closure_property}
-use Rattle.tree.specs.declared.word.ExprTag.TheVariants as tag
 use Rattle.layout.specs.Printer.{Expression, ExpressionList, operands, patterns, triggers, closure_bindings, properties, triggers_end, else_branch}
 use Rattle.layout.specs.declared.format.ExprFormatOption.TheVariants.{SingleLine}
-use Rattle.layout.specs.PrintUtil.{BindingStrength}
 use Rattle.tree.specs.Codes.{as_operator}
 use Rattle.rendering.specs.Parts.{Told, named}
-use Rattle.rendering.specs.ExprParts.{operand, a_form, an_else, expression_list, pattern_list, trigger_list, closure_list, property_list}
-use Rattle.rendering.proofs.Walk.{prints, ready, begin, reads, first, inside, word, text, these, part, done, at-end, as-print}
+use Rattle.rendering.specs.ExprParts.{operand, a_form, expression_list, pattern_list, trigger_list, closure_list, property_list}
+use Rattle.rendering.proofs.Walk.{prints, ready, begin, reads, inside, word, text, these, part, done, at-end, as-print}
 use Rattle.rendering.proofs.ExprPrints.Forms.{right_format, deeper-is, more-indent, more-least, right-indent, binary-print, unary-form, binary-form, conditional-form, listed-form, noted-operands, takes-three}
 use Rattle.rendering.proofs.ExprPrints.Tags.{operator-is, same-operator, tagged, is-bool, is-natural, is-custom, is-identifier, is-operator, is-call, is-label, is-let, is-quantifier, is-closure, is-none}
 use Rattle.rendering.proofs.printer.Printer.+expression.Goals as goal
@@ -23,62 +21,62 @@ use Rattle.rendering.proofs.printer.Printer.+expression.Goals as goal
 -- ---- an expression by its first word
 
 pub expr-returns-in-Some-BLiteral : goal.expr-returns-in-Some-BLiteral
-expr-returns-in-Some-BLiteral t c = prints (record { source = cc; output = cc; forward = omega arith }) (is-bool c.word.ensures c.from_word.ensures c.args.context c.args.format c.in-Some-BLiteral.is c.in-Some-BLiteral.field-0-is c.bool_literal.ensures)
+expr-returns-in-Some-BLiteral t c = prints (cc) (cc) (omega arith) (is-bool c.word.ensures c.from_word.ensures c.args.context c.args.format c.in-Some-BLiteral.is c.in-Some-BLiteral.field-0-is c.bool_literal.ensures)
 
 pub expr-returns-in-Some-ILiteral : goal.expr-returns-in-Some-ILiteral
-expr-returns-in-Some-ILiteral t c = prints (record { source = cc; output = cc; forward = omega arith }) (is-natural c.word.ensures c.from_word.ensures c.args.context c.args.format c.in-Some-ILiteral.is c.in-Some-ILiteral.field-0-is c.natural_literal.ensures)
+expr-returns-in-Some-ILiteral t c = prints (cc) (cc) (omega arith) (is-natural c.word.ensures c.from_word.ensures c.args.context c.args.format c.in-Some-ILiteral.is c.in-Some-ILiteral.field-0-is c.natural_literal.ensures)
 
 pub expr-returns-in-Some-CustomLiteral : goal.expr-returns-in-Some-CustomLiteral
-expr-returns-in-Some-CustomLiteral t c = prints (record { source = cc; output = cc; forward = omega arith }) (is-custom c.word.ensures c.from_word.ensures c.args.context c.args.format c.in-Some-CustomLiteral.is c.in-Some-CustomLiteral.field-0-is c.custom_literal.ensures)
+expr-returns-in-Some-CustomLiteral t c = prints (cc) (cc) (omega arith) (is-custom c.word.ensures c.from_word.ensures c.args.context c.args.format c.in-Some-CustomLiteral.is c.in-Some-CustomLiteral.field-0-is c.custom_literal.ensures)
 
 pub expr-returns-in-Some-IdExpr : goal.expr-returns-in-Some-IdExpr
-expr-returns-in-Some-IdExpr t c = prints (record { source = cc; output = cc; forward = omega arith }) (is-identifier c.word.ensures c.from_word.ensures c.args.context c.args.format c.in-Some-IdExpr.is c.in-Some-IdExpr.field-0-is c.identifier.ensures)
+expr-returns-in-Some-IdExpr t c = prints (cc) (cc) (omega arith) (is-identifier c.word.ensures c.from_word.ensures c.args.context c.args.format c.in-Some-IdExpr.is c.in-Some-IdExpr.field-0-is c.identifier.ensures)
 
 pub expr-returns-in-Some-OperatorExpr : goal.expr-returns-in-Some-OperatorExpr
-expr-returns-in-Some-OperatorExpr t c = prints (record { source = cc; output = cc; forward = omega arith }) (is-operator c.word.ensures c.from_word.ensures c.args.context c.args.format c.in-Some-OperatorExpr.is c.in-Some-OperatorExpr.field-0-is c.operator_expr.ensures)
+expr-returns-in-Some-OperatorExpr t c = prints (cc) (cc) (omega arith) (is-operator c.word.ensures c.from_word.ensures c.args.context c.args.format c.in-Some-OperatorExpr.is c.in-Some-OperatorExpr.field-0-is c.operator_expr.ensures)
 
 pub expr-operator_expr-requires : goal.expr-operator_expr-requires
 expr-operator_expr-requires t c = (let p = tagged c.word.ensures c.from_word.ensures c.in-Some-OperatorExpr.is in omega arith, tt)
 
 pub expr-returns-in-Some-FunctionCallExpr : goal.expr-returns-in-Some-FunctionCallExpr
-expr-returns-in-Some-FunctionCallExpr t c = prints (record { source = cc; output = cc; forward = omega arith }) (is-call c.word.ensures c.from_word.ensures c.args.context c.args.format c.in-Some-FunctionCallExpr.is c.in-Some-FunctionCallExpr.field-0-is c.call_expr.ensures)
+expr-returns-in-Some-FunctionCallExpr t c = prints (cc) (cc) (omega arith) (is-call c.word.ensures c.from_word.ensures c.args.context c.args.format c.in-Some-FunctionCallExpr.is c.in-Some-FunctionCallExpr.field-0-is c.call_expr.ensures)
 
 pub expr-call_expr-requires : goal.expr-call_expr-requires
 expr-call_expr-requires t c = (let p = tagged c.word.ensures c.from_word.ensures c.in-Some-FunctionCallExpr.is in omega arith, tt)
 
 pub expr-returns-in-Some-LabeledExpr : goal.expr-returns-in-Some-LabeledExpr
-expr-returns-in-Some-LabeledExpr t c = prints (record { source = cc; output = cc; forward = omega arith }) (is-label c.word.ensures c.from_word.ensures c.args.context c.args.format c.in-Some-LabeledExpr.is c.in-Some-LabeledExpr.field-0-is c.labeled_expr.ensures)
+expr-returns-in-Some-LabeledExpr t c = prints (cc) (cc) (omega arith) (is-label c.word.ensures c.from_word.ensures c.args.context c.args.format c.in-Some-LabeledExpr.is c.in-Some-LabeledExpr.field-0-is c.labeled_expr.ensures)
 
 pub expr-labeled_expr-requires : goal.expr-labeled_expr-requires
 expr-labeled_expr-requires t c = (let p = tagged c.word.ensures c.from_word.ensures c.in-Some-LabeledExpr.is in omega arith, tt)
 
 pub expr-returns-in-Some-LetExpr : goal.expr-returns-in-Some-LetExpr
-expr-returns-in-Some-LetExpr t c = prints (record { source = cc; output = cc; forward = omega arith }) (is-let c.word.ensures c.from_word.ensures c.args.context c.args.format c.in-Some-LetExpr.is c.in-Some-LetExpr.field-0-is c.let_expr.ensures)
+expr-returns-in-Some-LetExpr t c = prints (cc) (cc) (omega arith) (is-let c.word.ensures c.from_word.ensures c.args.context c.args.format c.in-Some-LetExpr.is c.in-Some-LetExpr.field-0-is c.let_expr.ensures)
 
 pub expr-let_expr-requires : goal.expr-let_expr-requires
 expr-let_expr-requires t c = (let p = tagged c.word.ensures c.from_word.ensures c.in-Some-LetExpr.is in omega arith, tt)
 
 pub expr-returns-in-Some-QuantifierExpr : goal.expr-returns-in-Some-QuantifierExpr
-expr-returns-in-Some-QuantifierExpr t c = prints (record { source = cc; output = cc; forward = omega arith }) (is-quantifier c.word.ensures c.from_word.ensures c.args.context c.args.format c.in-Some-QuantifierExpr.is c.in-Some-QuantifierExpr.field-0-is c.quantifier_expr.ensures)
+expr-returns-in-Some-QuantifierExpr t c = prints (cc) (cc) (omega arith) (is-quantifier c.word.ensures c.from_word.ensures c.args.context c.args.format c.in-Some-QuantifierExpr.is c.in-Some-QuantifierExpr.field-0-is c.quantifier_expr.ensures)
 
 pub expr-quantifier_expr-requires : goal.expr-quantifier_expr-requires
 expr-quantifier_expr-requires t c = (let p = tagged c.word.ensures c.from_word.ensures c.in-Some-QuantifierExpr.is in omega arith, tt)
 
 pub expr-returns-in-Some-ClosureExpr : goal.expr-returns-in-Some-ClosureExpr
-expr-returns-in-Some-ClosureExpr t c = prints (record { source = cc; output = cc; forward = omega arith }) (is-closure c.word.ensures c.from_word.ensures c.args.context c.args.format c.in-Some-ClosureExpr.is c.in-Some-ClosureExpr.field-0-is c.closure_expr.ensures)
+expr-returns-in-Some-ClosureExpr t c = prints (cc) (cc) (omega arith) (is-closure c.word.ensures c.from_word.ensures c.args.context c.args.format c.in-Some-ClosureExpr.is c.in-Some-ClosureExpr.field-0-is c.closure_expr.ensures)
 
 pub expr-closure_expr-requires : goal.expr-closure_expr-requires
 expr-closure_expr-requires t c = (let p = tagged c.word.ensures c.from_word.ensures c.in-Some-ClosureExpr.is in omega arith, tt)
 
 pub expr-returns-in-None : goal.expr-returns-in-None
-expr-returns-in-None t c = prints (record { source = cc; output = cc; forward = omega arith }) (is-none c.word.ensures c.from_word.ensures c.args.context c.args.format c.in-None.is)
+expr-returns-in-None t c = prints (cc) (cc) (omega arith) (is-none c.word.ensures c.from_word.ensures c.args.context c.args.format c.in-None.is)
 
 -- ---- operators
 
 pub operator_expr-returns-in-Some : goal.operator_expr-returns-in-Some
 unfolding Expression
 operator_expr-returns-in-Some t c =
-    prints (record { source = cc; output = cc; forward = omega arith })
+    prints (cc) (cc) (omega arith)
     (λ a rest g d.
     let e = same-operator a.0 c.from_word.ensures c.in-Some.is (reads (begin {s = c.args.self.now} d) c.word.ensures) in
     let strength = c.binding_strength-strength.ensures in
@@ -88,7 +86,7 @@ operator_expr-returns-in-Some t c =
 
 pub operator_expr-returns-in_default : goal.operator_expr-returns-in_default
 operator_expr-returns-in_default t c =
-    prints (record { source = cc; output = cc; forward = omega arith })
+    prints (cc) (cc) (omega arith)
     (λ a rest g d.
     let e = operator-is a.0 c.from_word.ensures (reads (begin {s = c.args.self.now} d) c.word.ensures) in
     let z : None ≡ Some e.0 = sym c.in_default.is ∙ e.1 in
@@ -96,7 +94,7 @@ operator_expr-returns-in_default t c =
 
 pub operands-returns-then-count-argument_count : goal.operands-returns-then-count-argument_count
 operands-returns-then-count-argument_count t c =
-    prints (record { source = cc; output = cc; forward = omega arith })
+    prints (cc) (cc) (omega arith)
     (λ es rest g d.
     let n = noted-operands c.count-count.ensures es rest d g.1.0 in
     as-print (listed-form c.args.self.now.source (as_operator c.args.op) c.args.context c.args.format es (λ e. c.if-count-argument_count.true (n ∙ e ∙ sym c.argument_count.ensures)))
@@ -130,18 +128,18 @@ three _ c (◌then◌ a (◌then◌ b (◌then◌ e no_exprs))) rest g d =
 three _ c (◌then◌ a (◌then◌ b (◌then◌ e (◌then◌ f es)))) rest g d = absurd (let n = noted-operands c.count-count.ensures (◌then◌ a (◌then◌ b (◌then◌ e (◌then◌ f es)))) rest d g.1.0 in let k = three-taken _ c in omega arith)
 
 pub operands-returns-in-1 : goal.operands-returns-in-1
-operands-returns-in-1 t c = prints (record { source = cc; output = cc; forward = omega arith }) (one t c)
+operands-returns-in-1 t c = prints (cc) (cc) (omega arith) (one t c)
 
 pub operands-returns-in-2 : goal.operands-returns-in-2
-operands-returns-in-2 t c = prints (record { source = cc; output = cc; forward = omega arith }) (two t c)
+operands-returns-in-2 t c = prints (cc) (cc) (omega arith) (two t c)
 
 pub operands-returns-in_default : goal.operands-returns-in_default
-operands-returns-in_default t c = prints (record { source = cc; output = cc; forward = omega arith }) (three t c)
+operands-returns-in_default t c = prints (cc) (cc) (omega arith) (three t c)
 
 pub unary-returns : goal.unary-returns
 unfolding Expression
 unary-returns t c =
-    prints (record { source = cc; output = cc; forward = omega arith })
+    prints (cc) (cc) (omega arith)
     (λ a rest g d.
     let sign = text (begin d) (these c.spelling.ensures c.put.ensures) in
     let operand = part (rw (c.subexpression_power-right.ensures, c.binding_strength.ensures) at c.expr.ensures) a (ready g.0 (omega arith) (omega arith), g.1.1.0) (word sign c.word.ensures) in
@@ -150,7 +148,7 @@ unary-returns t c =
 pub binary-returns : goal.binary-returns
 unfolding Expression
 binary-returns t c =
-    prints (record { source = cc; output = cc; forward = omega arith })
+    prints (cc) (cc) (omega arith)
     (λ a rest g d.
     let strength = c.binding_strength-strength.ensures in
     let i = right-indent (as_operator c.args.op) c.args.format in
@@ -162,7 +160,7 @@ binary-returns t c =
 
 pub conditional-returns : goal.conditional-returns
 conditional-returns t c =
-    prints (record { source = cc; output = cc; forward = omega arith })
+    prints (cc) (cc) (omega arith)
     (λ a rest g d.
     let e = c.more-deeper.ensures ∙ deeper-is c.args.format g.0 (inside (begin {s = c.args.self.now} d)) in
     let i = more-indent c.args.self.now.source.step c.args.format in
@@ -175,7 +173,7 @@ conditional-returns t c =
 
 pub else_branch-returns-then-is_if : goal.else_branch-returns-then-is_if
 else_branch-returns-then-is_if t c =
-    prints (record { source = cc; output = cc; forward = omega arith })
+    prints (cc) (cc) (omega arith)
     (λ e rest g d.
     let h = g.1.0 in
     as-print (ap (λ (v : Bool). else_branch v (operand c.args.self.now.source e) c.args.context c.args.format c.args.deeper) (c.if-is_if.ensures.tells e rest d))
@@ -183,14 +181,14 @@ else_branch-returns-then-is_if t c =
 
 pub else_branch-returns-else-is_if : goal.else_branch-returns-else-is_if
 else_branch-returns-else-is_if t c =
-    prints (record { source = cc; output = cc; forward = omega arith })
+    prints (cc) (cc) (omega arith)
     (λ e rest g d.
     as-print (ap (λ (v : Bool). else_branch v (operand c.args.self.now.source e) c.args.context c.args.format c.args.deeper) (c.if-is_if.ensures.tells e rest d))
     (done (part c.expr-else-is_if.ensures e (ready g.0 (omega arith) (omega arith), g.1.1) (text (begin d) c.space.ensures))))
 
 pub listed-returns : goal.listed-returns
 listed-returns t c =
-    prints (record { source = cc; output = cc; forward = omega arith })
+    prints (cc) (cc) (omega arith)
     (λ es rest g d.
     let sign = text (text (begin d) (these c.spelling.ensures c.put.ensures)) c.put-2.ensures in
     done (text (part c.exprs.ensures es (ready g.0 (omega arith) (omega arith), g.1.1) sign) c.put-3.ensures))
@@ -198,7 +196,7 @@ listed-returns t c =
 pub call_expr-returns : goal.call_expr-returns
 unfolding Expression
 call_expr-returns t c =
-    prints (record { source = cc; output = cc; forward = omega arith })
+    prints (cc) (cc) (omega arith)
     (λ a rest g d.
     let name = part c.name_then.ensures a.0 tt (begin d) in
     done (text (part c.exprs.ensures a.1 (ready g.0 (omega arith) (omega arith), g.1.1) name) c.put.ensures))
@@ -206,7 +204,7 @@ call_expr-returns t c =
 pub labeled_expr-returns : goal.labeled_expr-returns
 unfolding Expression
 labeled_expr-returns t c =
-    prints (record { source = cc; output = cc; forward = omega arith })
+    prints (cc) (cc) (omega arith)
     (λ a rest g d.
     let name = part c.name_then.ensures a.0 tt (text (begin d) c.parenthesis.ensures) in
     let body = part (rw c.subexpression_power-right.ensures at c.expr.ensures) a.1 (ready g.0 (omega arith) (omega arith), g.1) name in
@@ -215,7 +213,7 @@ labeled_expr-returns t c =
 pub let_expr-returns : goal.let_expr-returns
 unfolding Expression
 let_expr-returns t c =
-    prints (record { source = cc; output = cc; forward = omega arith })
+    prints (cc) (cc) (omega arith)
     (λ a rest g d.
     let name = part c.id_type.ensures (a.0, a.1) tt (text (begin d) c.parenthesis.ensures) in
     let value = part c.expr.ensures a.2 (ready g.0 (omega arith) (omega arith), g.1.0) (text name c.put.ensures) in
@@ -225,7 +223,7 @@ let_expr-returns t c =
 pub closure_expr-returns : goal.closure_expr-returns
 unfolding Expression
 closure_expr-returns t c =
-    prints (record { source = cc; output = cc; forward = omega arith })
+    prints (cc) (cc) (omega arith)
     (λ a rest g d.
     let bindings = part c.closures.ensures a.0 (ready g.0 (omega arith) (omega arith), g.1.1) (text (begin d) c.put.ensures) in
     let result = part c.typed.ensures (a.1, a.2) tt (text bindings c.put-2.ensures) in
@@ -235,7 +233,7 @@ closure_expr-returns t c =
 pub quantifier_expr-returns : goal.quantifier_expr-returns
 unfolding Expression
 quantifier_expr-returns t c =
-    prints (record { source = cc; output = cc; forward = omega arith })
+    prints (cc) (cc) (omega arith)
     (λ a rest g d.
     let e = c.more-deeper.ensures ∙ deeper-is c.args.format g.0 (inside (begin {s = c.args.self.now} d)) in
     let i = more-indent c.args.self.now.source.step c.args.format in
@@ -246,24 +244,24 @@ quantifier_expr-returns t c =
 
 -- ---- sequences
 
-exprs-none : (t : _) (c : goal.exprs-Else-word-ne-NO_MORE t) → Told (expression_list c.args.first) c.args.self.now c.word.new.self
+exprs-none : (t : _) (c : goal.exprs-Else-word-ne-NO_MORE t) → Told (expression_list c.args.separator.now) c.args.self.now c.word.new.self
 unfolding ExpressionList operands
 exprs-none _ c no_exprs rest g d = done (word (begin d) c.word.ensures)
 exprs-none _ c (◌then◌ e es) rest g d = let z = reads (begin d) c.word.ensures in absurd (omega (arith, z, c.if-word-ne-NO_MORE.false))
 
-exprs-some : (t : _) (c : goal.exprs-After-exprs t) → Told (expression_list c.args.first) c.args.self.now c.exprs.new.self
+exprs-some : (t : _) (c : goal.exprs-After-exprs t) → Told (expression_list c.args.separator.now) c.args.self.now c.exprs.new.self
 unfolding ExpressionList operands
 exprs-some _ c no_exprs rest g d = absurd (c.if-word-ne-NO_MORE.true (reads (begin d) c.word.ensures))
 exprs-some _ c (◌then◌ e es) rest g d =
     let item = word (begin d) c.word.ensures in
-    let expr = part c.expr.ensures e (ready g.0 (omega arith) (omega arith), g.1.0) (text item c.separator.ensures) in
+    let expr = part c.expr.ensures e (ready g.0 (omega arith) (omega arith), g.1.0) (text item c.put.ensures) in
     done (part c.exprs.ensures es (ready g.0 (omega arith) (omega arith), g.1.1) expr)
 
 pub exprs-returns-then-word-ne-NO_MORE : goal.exprs-returns-then-word-ne-NO_MORE
-exprs-returns-then-word-ne-NO_MORE t c = prints (record { source = cc; output = cc; forward = omega arith }) (exprs-some t c)
+exprs-returns-then-word-ne-NO_MORE t c = prints (cc) (cc) (omega arith) (exprs-some t c)
 
 pub exprs-returns-else-word-ne-NO_MORE : goal.exprs-returns-else-word-ne-NO_MORE
-exprs-returns-else-word-ne-NO_MORE t c = prints (record { source = cc; output = cc; forward = omega arith }) (exprs-none t c)
+exprs-returns-else-word-ne-NO_MORE t c = prints (cc) (cc) (omega arith) (exprs-none t c)
 
 patterns-none : (t : _) (c : goal.patterns-Else-word-ne-NO_MORE t) → Told (pattern_list c.args.format) c.args.self.now c.word.new.self
 unfolding patterns
@@ -279,10 +277,10 @@ patterns-some _ c (pattern es ps) rest g d =
     done (part c.patterns.ensures ps (ready g.0 (omega arith) (omega arith), g.1.2) exprs)
 
 pub patterns-returns-then-word-ne-NO_MORE : goal.patterns-returns-then-word-ne-NO_MORE
-patterns-returns-then-word-ne-NO_MORE t c = prints (record { source = cc; output = cc; forward = omega arith }) (patterns-some t c)
+patterns-returns-then-word-ne-NO_MORE t c = prints (cc) (cc) (omega arith) (patterns-some t c)
 
 pub patterns-returns-else-word-ne-NO_MORE : goal.patterns-returns-else-word-ne-NO_MORE
-patterns-returns-else-word-ne-NO_MORE t c = prints (record { source = cc; output = cc; forward = omega arith }) (patterns-none t c)
+patterns-returns-else-word-ne-NO_MORE t c = prints (cc) (cc) (omega arith) (patterns-none t c)
 
 triggers-none : (t : _) (c : goal.triggers-Else-word-ne-NO_MORE t) → Told trigger_list c.args.self.now c.word.new.self
 unfolding triggers
@@ -298,31 +296,31 @@ triggers-some _ c (pattern es ps) rest g d =
     done (part c.triggers.ensures ps (ready g.0 (omega arith) (omega arith), g.1.2) (text exprs c.put-then-word-ne-NO_MORE.ensures))
 
 pub triggers-returns-then-word-ne-NO_MORE : goal.triggers-returns-then-word-ne-NO_MORE
-triggers-returns-then-word-ne-NO_MORE t c = prints (record { source = cc; output = cc; forward = omega arith }) (triggers-some t c)
+triggers-returns-then-word-ne-NO_MORE t c = prints (cc) (cc) (omega arith) (triggers-some t c)
 
 pub triggers-returns-else-word-ne-NO_MORE : goal.triggers-returns-else-word-ne-NO_MORE
-triggers-returns-else-word-ne-NO_MORE t c = prints (record { source = cc; output = cc; forward = omega arith }) (triggers-none t c)
+triggers-returns-else-word-ne-NO_MORE t c = prints (cc) (cc) (omega arith) (triggers-none t c)
 
-closures-none : (t : _) (c : goal.closures-Else-word-ne-NO_MORE t) → Told (closure_list c.args.first) c.args.self.now c.word.new.self
+closures-none : (t : _) (c : goal.closures-Else-word-ne-NO_MORE t) → Told (closure_list c.args.separator.now) c.args.self.now c.word.new.self
 unfolding closure_bindings
 closures-none _ c no_closure_bindings rest g d = done (word (begin d) c.word.ensures)
 closures-none _ c (closure_binding n ps e bs) rest g d = let z = reads (begin d) c.word.ensures in absurd (omega (arith, z, c.if-word-ne-NO_MORE.false))
 
-closures-some : (t : _) (c : goal.closures-After-closures t) → Told (closure_list c.args.first) c.args.self.now c.closures.new.self
+closures-some : (t : _) (c : goal.closures-After-closures t) → Told (closure_list c.args.separator.now) c.args.self.now c.closures.new.self
 unfolding closure_bindings
 closures-some _ c no_closure_bindings rest g d = absurd (c.if-word-ne-NO_MORE.true (reads (begin d) c.word.ensures))
 closures-some _ c (closure_binding n ps e bs) rest g d =
     let item = word (begin d) c.word.ensures in
-    let name = part c.name.ensures n tt (text item c.separator.ensures) in
+    let name = part c.name.ensures n tt (text item c.put.ensures) in
     let parameters = part c.parameters.ensures ps tt name in
-    let value = part c.expr.ensures e (ready g.0 (omega arith) (omega arith), g.1.1) (text parameters c.put.ensures) in
+    let value = part c.expr.ensures e (ready g.0 (omega arith) (omega arith), g.1.1) (text parameters c.put-then-word-ne-NO_MORE.ensures) in
     done (part c.closures.ensures bs (ready g.0 (omega arith) (omega arith), g.1.2) value)
 
 pub closures-returns-then-word-ne-NO_MORE : goal.closures-returns-then-word-ne-NO_MORE
-closures-returns-then-word-ne-NO_MORE t c = prints (record { source = cc; output = cc; forward = omega arith }) (closures-some t c)
+closures-returns-then-word-ne-NO_MORE t c = prints (cc) (cc) (omega arith) (closures-some t c)
 
 pub closures-returns-else-word-ne-NO_MORE : goal.closures-returns-else-word-ne-NO_MORE
-closures-returns-else-word-ne-NO_MORE t c = prints (record { source = cc; output = cc; forward = omega arith }) (closures-none t c)
+closures-returns-else-word-ne-NO_MORE t c = prints (cc) (cc) (omega arith) (closures-none t c)
 
 -- what follows a property's triggers
 colons : {N : Type 0} (span : N → Span) (ts : Patterns N) (rest : List ℕ) {r : Bool} {x : List ℕ} {s₀ s : Printer} {X : List ℕ → List ℕ} → Walk s₀ X (patterns_words span ts rest) s → Ends s r
@@ -330,23 +328,23 @@ colons : {N : Type 0} (span : N → Span) (ts : Patterns N) (rest : List ℕ) {r
 colons _ no_patterns _ l e h = rw (at-end l e) at h
 colons _ (pattern es ps) _ l e h = rw (at-end l e) at h
 
-properties-none : (t : _) (c : goal.properties-Else-word-ne-NO_MORE t) → Told (property_list c.args.first) c.args.self.now c.word.new.self
+properties-none : (t : _) (c : goal.properties-Else-word-ne-NO_MORE t) → Told (property_list c.args.separator.now) c.args.self.now c.word.new.self
 unfolding properties
 properties-none _ c no_closure_properties rest g d = done (word (begin d) c.word.ensures)
 properties-none _ c (closure_property ts e ps) rest g d = let z = reads (begin d) c.word.ensures in absurd (omega (arith, z, c.if-word-ne-NO_MORE.false))
 
-properties-some : (t : _) (c : goal.properties-After-properties t) → Told (property_list c.args.first) c.args.self.now c.properties.new.self
+properties-some : (t : _) (c : goal.properties-After-properties t) → Told (property_list c.args.separator.now) c.args.self.now c.properties.new.self
 unfolding properties
 properties-some _ c no_closure_properties rest g d = absurd (c.if-word-ne-NO_MORE.true (reads (begin d) c.word.ensures))
 properties-some _ c (closure_property ts e ps) rest g d =
     let item = word (begin d) c.word.ensures in
-    let start = text item c.separator.ensures in
+    let start = text item c.put.ensures in
     let triggers = part c.triggers.ensures ts (ready g.0 (omega arith) (omega arith), g.1.1) start in
-    let body = part c.expr.ensures e (ready g.0 (omega arith) (omega arith), g.1.2) (text triggers (these (colons _ ts _ start c.is_at_end-is_bare.ensures c.either.ensures) c.put.ensures)) in
+    let body = part c.expr.ensures e (ready g.0 (omega arith) (omega arith), g.1.2) (text triggers (these (colons _ ts _ start c.is_at_end-is_bare.ensures c.either.ensures) c.put-then-word-ne-NO_MORE.ensures)) in
     done (part c.properties.ensures ps (ready g.0 (omega arith) (omega arith), g.1.3) body)
 
 pub properties-returns-then-word-ne-NO_MORE : goal.properties-returns-then-word-ne-NO_MORE
-properties-returns-then-word-ne-NO_MORE t c = prints (record { source = cc; output = cc; forward = omega arith }) (properties-some t c)
+properties-returns-then-word-ne-NO_MORE t c = prints (cc) (cc) (omega arith) (properties-some t c)
 
 pub properties-returns-else-word-ne-NO_MORE : goal.properties-returns-else-word-ne-NO_MORE
-properties-returns-else-word-ne-NO_MORE t c = prints (record { source = cc; output = cc; forward = omega arith }) (properties-none t c)
+properties-returns-else-word-ne-NO_MORE t c = prints (cc) (cc) (omega arith) (properties-none t c)

@@ -19,7 +19,7 @@ some _ c (a ∷ l) rest g d =
     done (part c.separated.ensures l (ready g.0 (omega arith) (omega arith), g.1.1) item)
 
 pub returns-then-word-ne-NO_MORE : goal.returns-then-word-ne-NO_MORE
-returns-then-word-ne-NO_MORE t c = prints (record { source = cc; output = cc; forward = omega arith }) (some t c)
+returns-then-word-ne-NO_MORE t c = prints (cc) (cc) (omega arith) (some t c)
 
 pub returns-else-word-ne-NO_MORE : goal.returns-else-word-ne-NO_MORE
-returns-else-word-ne-NO_MORE t c = prints (record { source = cc; output = cc; forward = omega arith }) (none t c)
+returns-else-word-ne-NO_MORE t c = prints (cc) (cc) (omega arith) (none t c)

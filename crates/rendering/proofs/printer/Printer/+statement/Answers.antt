@@ -1,13 +1,12 @@
 -- The methods that print statements, each by its steps.
-use Rattle.std.proofs.Common.{arith, ℕ, suc, ◌+◌, ◌≡◌, ◌<◌, refl, ap, sym, ◌∙◌, subst, Bool, true, false, List, [], ◌∷◌, length, Option, None, Some}
+use Rattle.std.proofs.Common.{arith, ℕ, ◌≡◌, ap, sym, ◌∙◌, Bool, false, List, length, None, Some}
 use Rattle.lexing.specs.Answer.{pick}
-use Rattle.lexing.specs.Bytes.{bytes}
 use Rattle.tree.specs.Ast.{no_stmts, stmts, no_cases, case, a_expr, AAssertion, no_a_exprs, a_exprs, VarDecl}
 use Rattle.tree.specs.declared.word.AExprTag.TheVariants as atag
 use Rattle.layout.specs.Statements.{shown, StatementList, choices, case_list, aexpr, PrintAExprs, StmtAsBlock}
 use Rattle.rendering.specs.Parts.{Told, named}
-use Rattle.rendering.specs.StmtParts.{show, a_choose, an_if, an_if_case, an_a_expr, invariant_list, last_statements, branch_list, case_sequence, a_expr_list}
-use Rattle.rendering.proofs.Walk.{prints, ready, deeper, begin, reads, first, inside, word, text, these, part, done, at-end, as-print, left-as}
+use Rattle.rendering.specs.StmtParts.{show, a_choose, an_if_case, an_a_expr, invariant_list, last_statements, branch_list, case_sequence, a_expr_list}
+use Rattle.rendering.proofs.Walk.{prints, ready, deeper, begin, reads, inside, word, text, these, part, done, at-end, as-print, left-as}
 use Rattle.rendering.proofs.StmtPrints.Tags.{stands, stands-list, one-deeper, tagged, is-variable, is-assign, is-reinit, is-block, is-call, is-check, is-assume, is-reach, is-assert, is-forall, is-choose, is-if, is-if-case, is-loop, is-label, is-exit, is-return, is-probe, is-none, is-list}
 use Rattle.rendering.proofs.StmtPrints.Tests.{told, tells-of, empty-block-words}
 use Rattle.rendering.proofs.StmtPrints.Forms.{bare-print, if-print, branch-end, case-end, stmts-end, cases-end, last-is}
@@ -20,92 +19,92 @@ use Rattle.rendering.proofs.printer.Printer.+statement.Goals as goal
 -- ---- a statement by its first word
 
 pub stmt-returns-in-Some-VarDecl : goal.stmt-returns-in-Some-VarDecl
-stmt-returns-in-Some-VarDecl t c = prints (record { source = cc; output = cc; forward = omega arith }) (is-variable c.word.ensures c.from_word.ensures c.args.indent c.args.followed c.in-Some-VarDecl.is c.in-Some-VarDecl.field-0-is c.var_decl.ensures)
+stmt-returns-in-Some-VarDecl t c = prints (cc) (cc) (omega arith) (is-variable c.word.ensures c.from_word.ensures c.args.indent c.args.followed c.in-Some-VarDecl.is c.in-Some-VarDecl.field-0-is c.var_decl.ensures)
 
 pub stmt-var_decl-requires : goal.stmt-var_decl-requires
 stmt-var_decl-requires t c = (let p = tagged c.word.ensures c.from_word.ensures c.in-Some-VarDecl.is in omega arith, tt)
 
 pub stmt-returns-in-Some-Assign : goal.stmt-returns-in-Some-Assign
-stmt-returns-in-Some-Assign t c = prints (record { source = cc; output = cc; forward = omega arith }) (is-assign c.word.ensures c.from_word.ensures c.args.indent c.args.followed c.in-Some-Assign.is c.in-Some-Assign.field-0-is c.assign.ensures)
+stmt-returns-in-Some-Assign t c = prints (cc) (cc) (omega arith) (is-assign c.word.ensures c.from_word.ensures c.args.indent c.args.followed c.in-Some-Assign.is c.in-Some-Assign.field-0-is c.assign.ensures)
 
 pub stmt-returns-in-Some-Reinit : goal.stmt-returns-in-Some-Reinit
-stmt-returns-in-Some-Reinit t c = prints (record { source = cc; output = cc; forward = omega arith }) (is-reinit c.word.ensures c.from_word.ensures c.args.indent c.args.followed c.in-Some-Reinit.is c.in-Some-Reinit.field-0-is c.reinit.ensures)
+stmt-returns-in-Some-Reinit t c = prints (cc) (cc) (omega arith) (is-reinit c.word.ensures c.from_word.ensures c.args.indent c.args.followed c.in-Some-Reinit.is c.in-Some-Reinit.field-0-is c.reinit.ensures)
 
 pub stmt-returns-in-Some-Block : goal.stmt-returns-in-Some-Block
-stmt-returns-in-Some-Block t c = prints (record { source = cc; output = cc; forward = omega arith }) (is-block c.word.ensures c.from_word.ensures c.args.indent c.args.followed c.in-Some-Block.is c.in-Some-Block.field-0-is c.braces.ensures)
+stmt-returns-in-Some-Block t c = prints (cc) (cc) (omega arith) (is-block c.word.ensures c.from_word.ensures c.args.indent c.args.followed c.in-Some-Block.is c.in-Some-Block.field-0-is c.braces.ensures)
 
 pub stmt-braces-requires : goal.stmt-braces-requires
 stmt-braces-requires t c = (let p = tagged c.word.ensures c.from_word.ensures c.in-Some-Block.is in omega arith, tt)
 
 pub stmt-returns-in-Some-Call : goal.stmt-returns-in-Some-Call
-stmt-returns-in-Some-Call t c = prints (record { source = cc; output = cc; forward = omega arith }) (is-call c.word.ensures c.from_word.ensures c.args.indent c.args.followed c.in-Some-Call.is c.in-Some-Call.field-0-is c.call_stmt.ensures)
+stmt-returns-in-Some-Call t c = prints (cc) (cc) (omega arith) (is-call c.word.ensures c.from_word.ensures c.args.indent c.args.followed c.in-Some-Call.is c.in-Some-Call.field-0-is c.call_stmt.ensures)
 
 pub stmt-returns-in-Some-Check : goal.stmt-returns-in-Some-Check
-stmt-returns-in-Some-Check t c = prints (record { source = cc; output = cc; forward = omega arith }) (is-check c.word.ensures c.from_word.ensures c.args.indent c.args.followed c.in-Some-Check.is c.in-Some-Check.field-0-is c.expression_stmt.ensures)
+stmt-returns-in-Some-Check t c = prints (cc) (cc) (omega arith) (is-check c.word.ensures c.from_word.ensures c.args.indent c.args.followed c.in-Some-Check.is c.in-Some-Check.field-0-is c.expression_stmt.ensures)
 
 pub stmt-returns-in-Some-Assume : goal.stmt-returns-in-Some-Assume
-stmt-returns-in-Some-Assume t c = prints (record { source = cc; output = cc; forward = omega arith }) (is-assume c.word.ensures c.from_word.ensures c.args.indent c.args.followed c.in-Some-Assume.is c.in-Some-Assume.field-0-is c.expression_stmt-in-Some-Assume.ensures)
+stmt-returns-in-Some-Assume t c = prints (cc) (cc) (omega arith) (is-assume c.word.ensures c.from_word.ensures c.args.indent c.args.followed c.in-Some-Assume.is c.in-Some-Assume.field-0-is c.expression_stmt-in-Some-Assume.ensures)
 
 pub stmt-returns-in-Some-Reach : goal.stmt-returns-in-Some-Reach
-stmt-returns-in-Some-Reach t c = prints (record { source = cc; output = cc; forward = omega arith }) (is-reach c.word.ensures c.from_word.ensures c.args.indent c.args.followed c.in-Some-Reach.is c.in-Some-Reach.field-0-is c.expression_stmt-in-Some-Reach.ensures)
+stmt-returns-in-Some-Reach t c = prints (cc) (cc) (omega arith) (is-reach c.word.ensures c.from_word.ensures c.args.indent c.args.followed c.in-Some-Reach.is c.in-Some-Reach.field-0-is c.expression_stmt-in-Some-Reach.ensures)
 
 pub stmt-returns-in-Some-Assert : goal.stmt-returns-in-Some-Assert
-stmt-returns-in-Some-Assert t c = prints (record { source = cc; output = cc; forward = omega arith }) (is-assert c.word.ensures c.from_word.ensures c.args.indent c.args.followed c.in-Some-Assert.is c.in-Some-Assert.field-0-is c.expression_stmt-in-Some-Assert.ensures)
+stmt-returns-in-Some-Assert t c = prints (cc) (cc) (omega arith) (is-assert c.word.ensures c.from_word.ensures c.args.indent c.args.followed c.in-Some-Assert.is c.in-Some-Assert.field-0-is c.expression_stmt-in-Some-Assert.ensures)
 
 pub stmt-returns-in-Some-AForall : goal.stmt-returns-in-Some-AForall
-stmt-returns-in-Some-AForall t c = prints (record { source = cc; output = cc; forward = omega arith }) (is-forall c.word.ensures c.from_word.ensures c.args.indent c.args.followed c.in-Some-AForall.is c.in-Some-AForall.field-0-is c.forall.ensures)
+stmt-returns-in-Some-AForall t c = prints (cc) (cc) (omega arith) (is-forall c.word.ensures c.from_word.ensures c.args.indent c.args.followed c.in-Some-AForall.is c.in-Some-AForall.field-0-is c.forall.ensures)
 
 pub stmt-forall-requires : goal.stmt-forall-requires
 stmt-forall-requires t c = (let p = tagged c.word.ensures c.from_word.ensures c.in-Some-AForall.is in omega arith, tt)
 
 pub stmt-returns-in-Some-Choose : goal.stmt-returns-in-Some-Choose
-stmt-returns-in-Some-Choose t c = prints (record { source = cc; output = cc; forward = omega arith }) (is-choose c.word.ensures c.from_word.ensures c.args.indent c.args.followed c.in-Some-Choose.is c.in-Some-Choose.field-0-is c.choose.ensures)
+stmt-returns-in-Some-Choose t c = prints (cc) (cc) (omega arith) (is-choose c.word.ensures c.from_word.ensures c.args.indent c.args.followed c.in-Some-Choose.is c.in-Some-Choose.field-0-is c.choose.ensures)
 
 pub stmt-choose-requires : goal.stmt-choose-requires
 stmt-choose-requires t c = (let p = tagged c.word.ensures c.from_word.ensures c.in-Some-Choose.is in omega arith, tt)
 
 pub stmt-returns-in-Some-If : goal.stmt-returns-in-Some-If
-stmt-returns-in-Some-If t c = prints (record { source = cc; output = cc; forward = omega arith }) (is-if c.word.ensures c.from_word.ensures c.args.indent c.args.followed c.in-Some-If.is c.in-Some-If.field-0-is c.if_stmt.ensures)
+stmt-returns-in-Some-If t c = prints (cc) (cc) (omega arith) (is-if c.word.ensures c.from_word.ensures c.args.indent c.args.followed c.in-Some-If.is c.in-Some-If.field-0-is c.if_stmt.ensures)
 
 pub stmt-if_stmt-requires : goal.stmt-if_stmt-requires
 stmt-if_stmt-requires t c = (let p = tagged c.word.ensures c.from_word.ensures c.in-Some-If.is in omega arith, tt)
 
 pub stmt-returns-in-Some-IfCase : goal.stmt-returns-in-Some-IfCase
-stmt-returns-in-Some-IfCase t c = prints (record { source = cc; output = cc; forward = omega arith }) (is-if-case c.word.ensures c.from_word.ensures c.args.indent c.args.followed c.in-Some-IfCase.is c.in-Some-IfCase.field-0-is c.if_case.ensures)
+stmt-returns-in-Some-IfCase t c = prints (cc) (cc) (omega arith) (is-if-case c.word.ensures c.from_word.ensures c.args.indent c.args.followed c.in-Some-IfCase.is c.in-Some-IfCase.field-0-is c.if_case.ensures)
 
 pub stmt-if_case-requires : goal.stmt-if_case-requires
 stmt-if_case-requires t c = (let p = tagged c.word.ensures c.from_word.ensures c.in-Some-IfCase.is in omega arith, tt)
 
 pub stmt-returns-in-Some-Loop : goal.stmt-returns-in-Some-Loop
-stmt-returns-in-Some-Loop t c = prints (record { source = cc; output = cc; forward = omega arith }) (is-loop c.word.ensures c.from_word.ensures c.args.indent c.args.followed c.in-Some-Loop.is c.in-Some-Loop.field-0-is c.loop_stmt.ensures)
+stmt-returns-in-Some-Loop t c = prints (cc) (cc) (omega arith) (is-loop c.word.ensures c.from_word.ensures c.args.indent c.args.followed c.in-Some-Loop.is c.in-Some-Loop.field-0-is c.loop_stmt.ensures)
 
 pub stmt-loop_stmt-requires : goal.stmt-loop_stmt-requires
 stmt-loop_stmt-requires t c = (let p = tagged c.word.ensures c.from_word.ensures c.in-Some-Loop.is in omega arith, tt)
 
 pub stmt-returns-in-Some-LabeledStmt : goal.stmt-returns-in-Some-LabeledStmt
-stmt-returns-in-Some-LabeledStmt t c = prints (record { source = cc; output = cc; forward = omega arith }) (is-label c.word.ensures c.from_word.ensures c.args.indent c.args.followed c.in-Some-LabeledStmt.is c.in-Some-LabeledStmt.field-0-is c.labeled_stmt.ensures)
+stmt-returns-in-Some-LabeledStmt t c = prints (cc) (cc) (omega arith) (is-label c.word.ensures c.from_word.ensures c.args.indent c.args.followed c.in-Some-LabeledStmt.is c.in-Some-LabeledStmt.field-0-is c.labeled_stmt.ensures)
 
 pub stmt-labeled_stmt-requires : goal.stmt-labeled_stmt-requires
 stmt-labeled_stmt-requires t c = (let p = tagged c.word.ensures c.from_word.ensures c.in-Some-LabeledStmt.is in omega arith, tt)
 
 pub stmt-returns-in-Some-Exit : goal.stmt-returns-in-Some-Exit
-stmt-returns-in-Some-Exit t c = prints (record { source = cc; output = cc; forward = omega arith }) (is-exit c.word.ensures c.from_word.ensures c.args.indent c.args.followed c.in-Some-Exit.is c.in-Some-Exit.field-0-is c.exit.ensures)
+stmt-returns-in-Some-Exit t c = prints (cc) (cc) (omega arith) (is-exit c.word.ensures c.from_word.ensures c.args.indent c.args.followed c.in-Some-Exit.is c.in-Some-Exit.field-0-is c.exit.ensures)
 
 pub stmt-returns-in-Some-Return : goal.stmt-returns-in-Some-Return
-stmt-returns-in-Some-Return t c = prints (record { source = cc; output = cc; forward = omega arith }) (is-return c.word.ensures c.from_word.ensures c.args.indent c.args.followed c.in-Some-Return.is c.in-Some-Return.field-0-is c.put.ensures)
+stmt-returns-in-Some-Return t c = prints (cc) (cc) (omega arith) (is-return c.word.ensures c.from_word.ensures c.args.indent c.args.followed c.in-Some-Return.is c.in-Some-Return.field-0-is c.put.ensures)
 
 pub stmt-returns-in-Some-Probe : goal.stmt-returns-in-Some-Probe
-stmt-returns-in-Some-Probe t c = prints (record { source = cc; output = cc; forward = omega arith }) (is-probe c.word.ensures c.from_word.ensures c.args.indent c.args.followed c.in-Some-Probe.is c.in-Some-Probe.field-0-is c.expression_stmt-in-Some-Probe.ensures)
+stmt-returns-in-Some-Probe t c = prints (cc) (cc) (omega arith) (is-probe c.word.ensures c.from_word.ensures c.args.indent c.args.followed c.in-Some-Probe.is c.in-Some-Probe.field-0-is c.expression_stmt-in-Some-Probe.ensures)
 
 pub stmt-returns-in-None : goal.stmt-returns-in-None
-stmt-returns-in-None t c = prints (record { source = cc; output = cc; forward = omega arith }) (is-none c.word.ensures c.from_word.ensures c.args.indent c.args.followed c.in-None.is)
+stmt-returns-in-None t c = prints (cc) (cc) (omega arith) (is-none c.word.ensures c.from_word.ensures c.args.indent c.args.followed c.in-None.is)
 
 -- ---- statements in statements
 
 pub var_decl-returns-then-followed : goal.var_decl-returns-then-followed
 unfolding shown
 var_decl-returns-then-followed t c =
-    prints (record { source = cc; output = cc; forward = omega arith })
+    prints (cc) (cc) (omega arith)
     (λ a rest g d.
     let head = part c.variable.ensures (a.0, a.1) (ready g.0 (omega arith) (omega arith), (g.1.0, g.1.1)) (begin d) in
     as-print (ap (λ (v : Bool). (show c.args.self.now.source (VarDecl a.0 a.1 a.2)).print c.args.indent v) (sym c.if-followed.true))
@@ -114,7 +113,7 @@ var_decl-returns-then-followed t c =
 pub var_decl-returns-else-followed : goal.var_decl-returns-else-followed
 unfolding shown
 var_decl-returns-else-followed t c =
-    prints (record { source = cc; output = cc; forward = omega arith })
+    prints (cc) (cc) (omega arith)
     (λ a rest g d.
     let e = c.deeper-own.ensures ∙ one-deeper c.args.indent g.0 (inside (begin {s = c.args.self.now} d)) in
     let start = text (text (begin d) c.put.ensures) (rw e at c.indent.ensures) in
@@ -124,18 +123,18 @@ var_decl-returns-else-followed t c =
     (done (text (text body c.indent-else-followed.ensures) c.put-else-followed.ensures)))
 
 pub inner-returns-then-ahead-eq-BLOCK : goal.inner-returns-then-ahead-eq-BLOCK
-inner-returns-then-ahead-eq-BLOCK t c = prints (record { source = cc; output = cc; forward = omega arith }) (is-list c.word.ensures c.ahead.ensures c.if-ahead-eq-BLOCK.true c.args.indent c.args.followed c.list.ensures)
+inner-returns-then-ahead-eq-BLOCK t c = prints (cc) (cc) (omega arith) (is-list c.word.ensures c.ahead.ensures c.if-ahead-eq-BLOCK.true c.args.indent c.args.followed c.list.ensures)
 
 pub inner-returns-else-ahead-eq-BLOCK : goal.inner-returns-else-ahead-eq-BLOCK
 inner-returns-else-ahead-eq-BLOCK t c =
-    prints (record { source = cc; output = cc; forward = omega arith })
+    prints (cc) (cc) (omega arith)
     (λ s rest g d.
     let e = (told c.ahead.ensures s rest d).no-list c.if-ahead-eq-BLOCK.false in
     as-print (bare-print c.args.self.now.source (show c.args.self.now.source s) c.args.indent c.args.followed e) (done (part c.stmt.ensures s (ready g.0 (omega arith) (omega arith), g.1) (text (begin d) c.indent.ensures))))
 
 pub block-returns : goal.block-returns
 block-returns t c =
-    prints (record { source = cc; output = cc; forward = omega arith })
+    prints (cc) (cc) (omega arith)
     (λ s rest g d.
     let e = c.deeper-inside.ensures ∙ one-deeper c.args.indent g.0 (stands c.args.self.now s rest d) in
     let body = part (rw e at c.inner.ensures) s (ready g.0 (omega arith) (omega arith), g.1) (text (begin d) c.put.ensures) in
@@ -144,7 +143,7 @@ block-returns t c =
 pub braces-returns : goal.braces-returns
 unfolding shown
 braces-returns t c =
-    prints (record { source = cc; output = cc; forward = omega arith })
+    prints (cc) (cc) (omega arith)
     (λ ss rest g d.
     let e = c.deeper-inside.ensures ∙ one-deeper c.args.indent g.0 (stands-list c.args.self.now ss rest d) in
     let body = part (rw e at c.list.ensures) ss (ready g.0 (omega arith) (omega arith), g.1) (text (begin d) c.put.ensures) in
@@ -153,7 +152,7 @@ braces-returns t c =
 pub forall-returns : goal.forall-returns
 unfolding shown
 forall-returns t c =
-    prints (record { source = cc; output = cc; forward = omega arith })
+    prints (cc) (cc) (omega arith)
     (λ a rest g d.
     let head = text (part c.typed.ensures (a.0, a.1) tt (text (begin d) c.put.ensures)) c.put-2.ensures in
     done (text (part c.block.ensures a.2 (ready g.0 (omega arith) (omega arith), g.1) head) c.put-3.ensures))
@@ -169,14 +168,14 @@ some-branches _ c no_stmts rest g d = absurd (let e = at-end (text (begin {s = c
 some-branches _ c (stmts s ss) rest g d = done (part c.branches.ensures (stmts s ss) (ready g.0 (omega arith) (omega arith), g.1.1) (text (begin d) c.put.ensures))
 
 pub choose-returns-then-is_at_end : goal.choose-returns-then-is_at_end
-choose-returns-then-is_at_end t c = prints (record { source = cc; output = cc; forward = omega arith }) (no-branches t c)
+choose-returns-then-is_at_end t c = prints (cc) (cc) (omega arith) (no-branches t c)
 
 pub choose-returns-else-is_at_end : goal.choose-returns-else-is_at_end
-choose-returns-else-is_at_end t c = prints (record { source = cc; output = cc; forward = omega arith }) (some-branches t c)
+choose-returns-else-is_at_end t c = prints (cc) (cc) (omega arith) (some-branches t c)
 
 pub if_stmt-returns-then-is_empty_block : goal.if_stmt-returns-then-is_empty_block
 if_stmt-returns-then-is_empty_block t c =
-    prints (record { source = cc; output = cc; forward = omega arith })
+    prints (cc) (cc) (omega arith)
     (λ a rest g d.
     let test = text (part c.inline.ensures a.0 (ready g.0 (omega arith) (omega arith), g.1.0) (text (begin d) c.put.ensures)) c.put-2.ensures in
     let first = part c.block.ensures a.1 (ready g.0 (omega arith) (omega arith), g.1.1) test in
@@ -186,7 +185,7 @@ if_stmt-returns-then-is_empty_block t c =
 
 pub if_stmt-returns-else-is_empty_block : goal.if_stmt-returns-else-is_empty_block
 if_stmt-returns-else-is_empty_block t c =
-    prints (record { source = cc; output = cc; forward = omega arith })
+    prints (cc) (cc) (omega arith)
     (λ a rest g d.
     let test = text (part c.inline.ensures a.0 (ready g.0 (omega arith) (omega arith), g.1.0) (text (begin d) c.put.ensures)) c.put-2.ensures in
     let first = part c.block.ensures a.1 (ready g.0 (omega arith) (omega arith), g.1.1) test in
@@ -197,7 +196,7 @@ if_stmt-returns-else-is_empty_block t c =
 
 pub onward-returns-else-stays : goal.onward-returns-else-stays
 onward-returns-else-stays t c =
-    prints (record { source = cc; output = cc; forward = omega arith })
+    prints (cc) (cc) (omega arith)
     (λ s rest g d.
     as-print (ap {B = List ℕ → List ℕ} (λ (v : Bool) r. pick v ((show c.args.self.now.source s).print c.args.indent false r) (StmtAsBlock (named c.args.self.now.source) c.args.self.now.source.step (show c.args.self.now.source s) c.args.indent "\n" r)) (sym c.if-stays.false))
     (done (text (part c.block.ensures s (ready g.0 (omega arith) (omega arith), g.1) (begin d)) c.put.ensures)))
@@ -215,15 +214,15 @@ some-cases _ c no_cases rest g d = absurd (let e = at-end (text (begin {s = c.ar
 some-cases _ c (case e s cs) rest g d = done (part c.cases.ensures (case e s cs) (ready g.0 (omega arith) (omega arith), g.1.1) (text (begin d) c.put.ensures))
 
 pub if_case-returns-then-is_at_end : goal.if_case-returns-then-is_at_end
-if_case-returns-then-is_at_end t c = prints (record { source = cc; output = cc; forward = omega arith }) (no-cases t c)
+if_case-returns-then-is_at_end t c = prints (cc) (cc) (omega arith) (no-cases t c)
 
 pub if_case-returns-else-is_at_end : goal.if_case-returns-else-is_at_end
-if_case-returns-else-is_at_end t c = prints (record { source = cc; output = cc; forward = omega arith }) (some-cases t c)
+if_case-returns-else-is_at_end t c = prints (cc) (cc) (omega arith) (some-cases t c)
 
 pub loop_stmt-returns : goal.loop_stmt-returns
 unfolding shown
 loop_stmt-returns t c =
-    prints (record { source = cc; output = cc; forward = omega arith })
+    prints (cc) (cc) (omega arith)
     (λ a rest g d.
     let head = part c.invariants.ensures a.0 (ready g.0 (omega arith) (omega arith), g.1.1) (text (begin d) c.put.ensures) in
     done (text (part c.block.ensures a.1 (ready g.0 (omega arith) (omega arith), g.1.2) head) c.put-2.ensures))
@@ -239,15 +238,15 @@ lines _ c (a_exprs a es) rest g d =
     done (text (part (rw e at c.aexprs.ensures) (a_exprs a es) (ready g.0 (omega arith) (omega arith), g.1) (text (begin d) c.put-else-is_at_end.ensures)) c.indent.ensures)
 
 pub invariants-returns-then-is_at_end : goal.invariants-returns-then-is_at_end
-invariants-returns-then-is_at_end t c = prints (record { source = cc; output = cc; forward = omega arith }) (bare t c)
+invariants-returns-then-is_at_end t c = prints (cc) (cc) (omega arith) (bare t c)
 
 pub invariants-returns-else-is_at_end : goal.invariants-returns-else-is_at_end
-invariants-returns-else-is_at_end t c = prints (record { source = cc; output = cc; forward = omega arith }) (lines t c)
+invariants-returns-else-is_at_end t c = prints (cc) (cc) (omega arith) (lines t c)
 
 pub labeled_stmt-returns : goal.labeled_stmt-returns
 unfolding shown
 labeled_stmt-returns t c =
-    prints (record { source = cc; output = cc; forward = omega arith })
+    prints (cc) (cc) (omega arith)
     (λ a rest g d.
     let name = part c.name_then.ensures a.0 tt (begin d) in
     let stays = tells-of a.1 rest name c.is_loop-stays.ensures in
@@ -270,19 +269,19 @@ no-assertion _ c (a_expr e) rest g d = absurd (let z : None ≡ Some atag.AExpr 
 no-assertion _ c (AAssertion s) rest g d = absurd (let z : None ≡ Some atag.AAssertion = sym c.in-None.is ∙ (c.from_word.ensures atag.AAssertion).1 (sym (reads (begin d) c.word.ensures)) in cc)
 
 pub aexpr-returns-in-Some-AExpr : goal.aexpr-returns-in-Some-AExpr
-aexpr-returns-in-Some-AExpr t c = prints (record { source = cc; output = cc; forward = omega arith }) (plain t c)
+aexpr-returns-in-Some-AExpr t c = prints (cc) (cc) (omega arith) (plain t c)
 
 pub aexpr-returns-in-Some-AAssertion : goal.aexpr-returns-in-Some-AAssertion
-aexpr-returns-in-Some-AAssertion t c = prints (record { source = cc; output = cc; forward = omega arith }) (assertion t c)
+aexpr-returns-in-Some-AAssertion t c = prints (cc) (cc) (omega arith) (assertion t c)
 
 pub aexpr-returns-in-None : goal.aexpr-returns-in-None
-aexpr-returns-in-None t c = prints (record { source = cc; output = cc; forward = omega arith }) (no-assertion t c)
+aexpr-returns-in-None t c = prints (cc) (cc) (omega arith) (no-assertion t c)
 
 -- ---- sequences
 
 pub list-returns : goal.list-returns
 list-returns t c =
-    prints (record { source = cc; output = cc; forward = omega arith })
+    prints (cc) (cc) (omega arith)
     (λ ss rest g d.
     let n = c.count-count.ensures.noted ∙ noted-at (names_in (length c.args.self.now.source.text.now)) c.args.self.now.source.counts.now c.args.self.now.source.words.now c.args.self.now.at of_stmt ss rest d g.1.0 in
     done (part c.stmts.ensures ss (ready g.0 (omega arith) (omega arith), (n, g.1.1)) (begin d)))
@@ -304,10 +303,10 @@ stmts-some _ c (stmts s ss) rest g d =
     done (part c.stmts.ensures ss (ready g.0 (omega arith) (omega arith), (omega arith, g.1.1.1)) stmt)
 
 pub stmts-returns-then-word-ne-NO_MORE : goal.stmts-returns-then-word-ne-NO_MORE
-stmts-returns-then-word-ne-NO_MORE t c = prints (record { source = cc; output = cc; forward = omega arith }) (stmts-some t c)
+stmts-returns-then-word-ne-NO_MORE t c = prints (cc) (cc) (omega arith) (stmts-some t c)
 
 pub stmts-returns-else-word-ne-NO_MORE : goal.stmts-returns-else-word-ne-NO_MORE
-stmts-returns-else-word-ne-NO_MORE t c = prints (record { source = cc; output = cc; forward = omega arith }) (stmts-none t c)
+stmts-returns-else-word-ne-NO_MORE t c = prints (cc) (cc) (omega arith) (stmts-none t c)
 
 branches-none : (t : _) (c : goal.branches-Else-word-ne-NO_MORE t) → Told (branch_list c.args.indent) c.args.self.now c.word.new.self
 unfolding choices
@@ -325,10 +324,10 @@ branches-some _ c (stmts s ss) rest g d =
     done (part c.branches.ensures ss (ready g.0 (omega arith) (omega arith), g.1.1) (text block end))
 
 pub branches-returns-then-word-ne-NO_MORE : goal.branches-returns-then-word-ne-NO_MORE
-branches-returns-then-word-ne-NO_MORE t c = prints (record { source = cc; output = cc; forward = omega arith }) (branches-some t c)
+branches-returns-then-word-ne-NO_MORE t c = prints (cc) (cc) (omega arith) (branches-some t c)
 
 pub branches-returns-else-word-ne-NO_MORE : goal.branches-returns-else-word-ne-NO_MORE
-branches-returns-else-word-ne-NO_MORE t c = prints (record { source = cc; output = cc; forward = omega arith }) (branches-none t c)
+branches-returns-else-word-ne-NO_MORE t c = prints (cc) (cc) (omega arith) (branches-none t c)
 
 cases-none : (t : _) (c : goal.cases-Else-word-ne-NO_MORE t) → Told (case_sequence c.args.indent) c.args.self.now c.word.new.self
 unfolding case_list
@@ -347,10 +346,10 @@ cases-some _ c (case e s cs) rest g d =
     done (part c.cases.ensures cs (ready g.0 (omega arith) (omega arith), g.1.2) (text block end))
 
 pub cases-returns-then-word-ne-NO_MORE : goal.cases-returns-then-word-ne-NO_MORE
-cases-returns-then-word-ne-NO_MORE t c = prints (record { source = cc; output = cc; forward = omega arith }) (cases-some t c)
+cases-returns-then-word-ne-NO_MORE t c = prints (cc) (cc) (omega arith) (cases-some t c)
 
 pub cases-returns-else-word-ne-NO_MORE : goal.cases-returns-else-word-ne-NO_MORE
-cases-returns-else-word-ne-NO_MORE t c = prints (record { source = cc; output = cc; forward = omega arith }) (cases-none t c)
+cases-returns-else-word-ne-NO_MORE t c = prints (cc) (cc) (omega arith) (cases-none t c)
 
 aexprs-none : (t : _) (c : goal.aexprs-Else-word-ne-NO_MORE t) → Told (a_expr_list c.args.prefix.now c.args.indent) c.args.self.now c.word.new.self
 unfolding PrintAExprs
@@ -368,7 +367,7 @@ aexprs-some _ c (a_exprs a es) rest g d =
     done (part c.aexprs.ensures es (ready g.0 (omega arith) (omega arith), g.1.1) assertion)
 
 pub aexprs-returns-then-word-ne-NO_MORE : goal.aexprs-returns-then-word-ne-NO_MORE
-aexprs-returns-then-word-ne-NO_MORE t c = prints (record { source = cc; output = cc; forward = omega arith }) (aexprs-some t c)
+aexprs-returns-then-word-ne-NO_MORE t c = prints (cc) (cc) (omega arith) (aexprs-some t c)
 
 pub aexprs-returns-else-word-ne-NO_MORE : goal.aexprs-returns-else-word-ne-NO_MORE
-aexprs-returns-else-word-ne-NO_MORE t c = prints (record { source = cc; output = cc; forward = omega arith }) (aexprs-none t c)
+aexprs-returns-else-word-ne-NO_MORE t c = prints (cc) (cc) (omega arith) (aexprs-none t c)

@@ -1,5 +1,5 @@
 -- No clause, or one and the others.
-use Rattle.std.proofs.Common.{arith, [], ◌∷◌}
+use Rattle.std.proofs.Common.{arith}
 use Rattle.tree.specs.Ast.{no_exprs, ◌then◌}
 use Rattle.layout.specs.Program.{when_clauses}
 use Rattle.rendering.specs.Parts.{Told}
@@ -21,7 +21,7 @@ some _ c (◌then◌ e es) rest g d =
     done (part c.whens.ensures es (ready g.0 (omega arith) (omega arith), g.1.1) (text clause c.put-then-word-ne-NO_MORE.ensures))
 
 pub returns-then-word-ne-NO_MORE : goal.returns-then-word-ne-NO_MORE
-returns-then-word-ne-NO_MORE t c = prints (record { source = cc; output = cc; forward = omega arith }) (some t c)
+returns-then-word-ne-NO_MORE t c = prints (cc) (cc) (omega arith) (some t c)
 
 pub returns-else-word-ne-NO_MORE : goal.returns-else-word-ne-NO_MORE
-returns-else-word-ne-NO_MORE t c = prints (record { source = cc; output = cc; forward = omega arith }) (none t c)
+returns-else-word-ne-NO_MORE t c = prints (cc) (cc) (omega arith) (none t c)

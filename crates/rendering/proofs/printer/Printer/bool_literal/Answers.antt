@@ -13,7 +13,7 @@ is-true c true rest g d = done (text (word (begin d) c.word.ensures) c.put-else-
 is-true c false rest g d = absurd (c.if-word-eq-FALSE.false (reads (begin d) c.word.ensures))
 
 pub returns-then-word-eq-FALSE : goal.returns-then-word-eq-FALSE
-returns-then-word-eq-FALSE c = prints (record { source = cc; output = cc; forward = omega arith }) (is-false c)
+returns-then-word-eq-FALSE c = prints (cc) (cc) (omega arith) (is-false c)
 
 pub returns-else-word-eq-FALSE : goal.returns-else-word-eq-FALSE
-returns-else-word-eq-FALSE c = prints (record { source = cc; output = cc; forward = omega arith }) (is-true c)
+returns-else-word-eq-FALSE c = prints (cc) (cc) (omega arith) (is-true c)

@@ -7,5 +7,5 @@ use Rattle.rendering.proofs.printer.Printer.call_stmt.Goals as goal
 pub returns : goal.returns
 unfolding shown
 returns c =
-    prints (record { source = cc; output = cc; forward = omega arith })
+    prints (cc) (cc) (omega arith)
     (λ a rest g d. done (text (part c.separated.ensures a.1 (ready g.0 (omega arith) (omega arith), g.1.1) (part c.name_then.ensures a.0 tt (begin d))) c.put.ensures))

@@ -5,5 +5,5 @@ use Rattle.rendering.proofs.printer.Printer.custom_literal.Goals as goal
 
 pub returns : goal.returns
 returns c =
-    prints (record { source = cc; output = cc; forward = omega arith })
+    prints (cc) (cc) (omega arith)
     (λ a rest g d. done (text (part c.typed.ensures a tt (text (begin d) c.put.ensures)) c.put-2.ensures))

@@ -6,4 +6,4 @@ use Rattle.rendering.proofs.printer.Printer.exit.Goals as goal
 
 pub returns : goal.returns
 unfolding shown
-returns c = prints (record { source = cc; output = cc; forward = omega arith }) (λ o rest g d. done (text (part c.optional_name.ensures o tt (text (begin d) c.put.ensures)) c.put-2.ensures))
+returns c = prints (cc) (cc) (omega arith) (λ o rest g d. done (text (part c.optional_name.ensures o tt (text (begin d) c.put.ensures)) c.put-2.ensures))

@@ -4,4 +4,4 @@ use Rattle.rendering.proofs.Walk.{prints, ready, begin, text, part, done}
 use Rattle.rendering.proofs.printer.Printer.expression_stmt.Goals as goal
 
 pub returns : goal.returns
-returns c = prints (record { source = cc; output = cc; forward = omega arith }) (λ e rest g d. done (text (part c.inline.ensures e (ready g.0 (omega arith) (omega arith), g.1) (text (begin d) c.put.ensures)) c.put-2.ensures))
+returns c = prints (cc) (cc) (omega arith) (λ e rest g d. done (text (part c.inline.ensures e (ready g.0 (omega arith) (omega arith), g.1) (text (begin d) c.put.ensures)) c.put-2.ensures))

@@ -12,7 +12,7 @@ injective c false e = rw e at c.either.ensures
 
 pub returns : goal.returns
 returns c =
-    prints (record { source = cc; output = cc; forward = omega arith })
+    prints (cc) (cc) (omega arith)
     (λ a rest g d.
     let start = text (begin d) (these (injective c a.injective (third (begin d) c.ahead-is_injective.ensures)) c.put.ensures) in
     done (part c.typed_apart.ensures (a.name, bool_word a.injective, a.typ) tt start))

@@ -7,7 +7,7 @@ use Rattle.rendering.proofs.printer.Printer.function_decl.Goals as goal
 
 pub returns : goal.returns
 returns c =
-    prints (record { source = cc; output = cc; forward = omega arith })
+    prints (cc) (cc) (omega arith)
     (λ a rest g d.
     let name = part c.name_then.ensures a.name tt (text (begin d) c.put.ensures) in
     let parameters = part c.separated.ensures a.parameters (ready g.0 (omega arith) (omega arith), names-counted (f_parameter_words (λ n. n.span)) _ a.parameters) name in

@@ -18,7 +18,7 @@ alone c (n, some t) rest g d =
     absurd (omega (arith, e, c.if-word-ne-NO_MORE.false))
 
 pub returns-then-word-ne-NO_MORE : goal.returns-then-word-ne-NO_MORE
-returns-then-word-ne-NO_MORE c = prints (record { source = cc; output = cc; forward = omega arith }) (with-type c)
+returns-then-word-ne-NO_MORE c = prints (cc) (cc) (omega arith) (with-type c)
 
 pub returns-else-word-ne-NO_MORE : goal.returns-else-word-ne-NO_MORE
-returns-else-word-ne-NO_MORE c = prints (record { source = cc; output = cc; forward = omega arith }) (alone c)
+returns-else-word-ne-NO_MORE c = prints (cc) (cc) (omega arith) (alone c)

@@ -12,7 +12,7 @@ old c false e = rw e at c.either.ensures
 
 pub returns : goal.returns
 returns c =
-    prints (record { source = cc; output = cc; forward = omega arith })
+    prints (cc) (cc) (omega arith)
     (λ a rest g d.
     let name = part c.name.ensures a.0 tt (text (begin d) (these (old c a.1 (third (begin d) c.ahead-is_old.ensures)) c.put.ensures)) in
     done (word name c.word.ensures))

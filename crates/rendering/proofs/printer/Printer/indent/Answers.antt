@@ -1,5 +1,5 @@
 -- Spaces that fit are stored; spaces that do not leave the buffer as it was.
-use Rattle.std.proofs.Common.{arith, refl, rules, ◌+◌, ◌≤◌, ◌<◌, ◌≡◌, length}
+use Rattle.std.proofs.Common.{arith, refl, rules}
 use Rattle.std.proofs.lemmas.Grind.{common_steps}
 use Rattle.rendering.proofs.Writing.Bytes.{spaces-stored, spaces-over}
 use Rattle.rendering.proofs.printer.Printer.indent.Goals as goal

@@ -1,5 +1,5 @@
 -- Word 24 and a 0 after it.
-use Rattle.std.proofs.Common.{subst, sym, false, Bool}
+use Rattle.std.proofs.Common.{subst, sym, Bool}
 use borrow.Author.Tests.{ne_eqb}
 use Rattle.rendering.specs.StmtParts.{Tells}
 use Rattle.rendering.proofs.StmtPrints.Tests.{tells-empty, tells-other}

@@ -5,5 +5,5 @@ use Rattle.rendering.proofs.printer.Printer.name.Goals as goal
 
 pub returns : goal.returns
 returns c =
-    prints (record { source = cc; output = cc; forward = omega arith })
+    prints (cc) (cc) (omega arith)
     (printed-name c.word-start.ensures c.word-size.ensures c.name.ensures c.put.ensures)

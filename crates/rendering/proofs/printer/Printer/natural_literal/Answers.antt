@@ -5,5 +5,5 @@ use Rattle.rendering.proofs.printer.Printer.natural_literal.Goals as goal
 
 pub returns : goal.returns
 returns c =
-    prints (record { source = cc; output = cc; forward = omega arith })
+    prints (cc) (cc) (omega arith)
     (printed-natural c.natural-value.ensures c.word.ensures c.word-2.ensures c.decimal.ensures)

@@ -13,4 +13,4 @@ content c (some a) rest g d =
     done (text (part c.broken_lines.ensures a.body (ready g.0 (omega arith) (omega arith), g.1.2) (text clauses c.put.ensures)) c.put-then-word-ne-NO_MORE.ensures)
 
 pub returns-then-word-ne-NO_MORE : goal.returns-then-word-ne-NO_MORE
-returns-then-word-ne-NO_MORE c = prints (record { source = cc; output = cc; forward = omega arith }) (content c)
+returns-then-word-ne-NO_MORE c = prints (cc) (cc) (omega arith) (content c)

@@ -11,4 +11,4 @@ content c none rest g d = absurd (c.if-word-ne-NO_MORE.true (reads (begin d) c.w
 content c (some e) rest g d = done (part c.inline.ensures e (ready g.0 (omega arith) (omega arith), g.1) (text (word (begin d) c.word.ensures) c.put.ensures))
 
 pub returns-then-word-ne-NO_MORE : goal.returns-then-word-ne-NO_MORE
-returns-then-word-ne-NO_MORE c = prints (record { source = cc; output = cc; forward = omega arith }) (content c)
+returns-then-word-ne-NO_MORE c = prints (cc) (cc) (omega arith) (content c)

@@ -7,7 +7,7 @@ use Rattle.rendering.proofs.printer.Printer.parameter.Goals as goal
 
 pub returns : goal.returns
 returns c =
-    prints (record { source = cc; output = cc; forward = omega arith })
+    prints (cc) (cc) (omega arith)
     (λ a rest g d.
     let mode = c.mode_text.ensures ∙ mode-is a.mode c.from_word-mode.ensures (third (begin {s = c.args.self.now} d) c.ahead.ensures) in
     let name = part c.typed_apart.ensures (a.name, mode_word a.mode, a.typ) tt (text (begin d) (these mode c.put.ensures)) in

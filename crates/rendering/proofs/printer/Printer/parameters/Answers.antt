@@ -14,7 +14,7 @@ some c [] rest g d = absurd (let e = at-end (begin d) c.if-is_at_end.ensures in 
 some c (b ∷ bs) rest g d = done (text (part c.bindings.ensures (b ∷ bs) tt (text (begin d) c.put.ensures)) c.put-else-is_at_end.ensures)
 
 pub returns-then-is_at_end : goal.returns-then-is_at_end
-returns-then-is_at_end c = prints (record { source = cc; output = cc; forward = omega arith }) (none c)
+returns-then-is_at_end c = prints (cc) (cc) (omega arith) (none c)
 
 pub returns-else-is_at_end : goal.returns-else-is_at_end
-returns-else-is_at_end c = prints (record { source = cc; output = cc; forward = omega arith }) (some c)
+returns-else-is_at_end c = prints (cc) (cc) (omega arith) (some c)

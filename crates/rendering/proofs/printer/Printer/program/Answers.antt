@@ -9,7 +9,7 @@ use Rattle.rendering.proofs.printer.Printer.program.Goals as goal
 pub returns : goal.returns
 unfolding Program
 returns c =
-    prints (record { source = cc; output = cc; forward = omega arith })
+    prints (cc) (cc) (omega arith)
     (λ p rest g d.
     let types = part c.decls.ensures p.types (ready g.0 (omega arith) (omega arith), names-counted (name_words (λ n. n.span)) _ p.types) (text (begin d) c.put.ensures) in
     let taggers = part c.decls-2.ensures p.taggers (ready g.0 (omega arith) (omega arith), names-counted (tagger_words (λ n. n.span)) _ p.taggers) types in

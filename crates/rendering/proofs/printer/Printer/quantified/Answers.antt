@@ -13,7 +13,7 @@ forall c (true, bs) rest g d = done (part c.bindings-else-word-eq-FALSE.ensures 
 forall c (false, bs) rest g d = absurd (c.if-word-eq-FALSE.false (reads (begin d) c.word.ensures))
 
 pub returns-then-word-eq-FALSE : goal.returns-then-word-eq-FALSE
-returns-then-word-eq-FALSE c = prints (record { source = cc; output = cc; forward = omega arith }) (exists c)
+returns-then-word-eq-FALSE c = prints (cc) (cc) (omega arith) (exists c)
 
 pub returns-else-word-eq-FALSE : goal.returns-else-word-eq-FALSE
-returns-else-word-eq-FALSE c = prints (record { source = cc; output = cc; forward = omega arith }) (forall c)
+returns-else-word-eq-FALSE c = prints (cc) (cc) (omega arith) (forall c)

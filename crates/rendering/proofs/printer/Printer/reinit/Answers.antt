@@ -9,5 +9,5 @@ use Rattle.rendering.proofs.printer.Printer.reinit.Goals as goal
 pub returns : goal.returns
 unfolding shown
 returns c =
-    prints (record { source = cc; output = cc; forward = omega arith })
+    prints (cc) (cc) (omega arith)
     (λ l rest g d. done (text (part c.separated.ensures l (ready g.0 (omega arith) (omega arith), names-counted (name_words (λ n. n.span)) _ l) (text (begin d) c.put.ensures)) c.put-2.ensures))

@@ -5,5 +5,5 @@ use Rattle.rendering.proofs.printer.Printer.tagger_decl.Goals as goal
 
 pub returns : goal.returns
 returns c =
-    prints (record { source = cc; output = cc; forward = omega arith })
+    prints (cc) (cc) (omega arith)
     (λ a rest g d. done (part c.name_then-2.ensures a.typ tt (part c.name_then.ensures a.name tt (text (begin d) c.put.ensures))))

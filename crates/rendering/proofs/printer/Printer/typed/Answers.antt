@@ -5,5 +5,5 @@ use Rattle.rendering.proofs.printer.Printer.typed.Goals as goal
 
 pub returns : goal.returns
 returns c =
-    prints (record { source = cc; output = cc; forward = omega arith })
+    prints (cc) (cc) (omega arith)
     (λ a rest g d. done (part c.name.ensures a.1 tt (part c.name_then.ensures a.0 tt (begin d))))

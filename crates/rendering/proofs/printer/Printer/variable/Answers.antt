@@ -1,5 +1,5 @@
 -- Its word by the word after the name, the name, and the three optional parts.
-use Rattle.std.proofs.Common.{arith, ◌≡◌, ap, true, false, List}
+use Rattle.std.proofs.Common.{arith, ◌≡◌, true, false}
 use Rattle.lexing.specs.Bytes.{bytes}
 use Rattle.tree.specs.Words.{bool_word}
 use Rattle.layout.specs.Statements.{mutability}
@@ -14,7 +14,7 @@ kind c false e = rw e at c.either.ensures
 
 pub returns : goal.returns
 returns c =
-    prints (record { source = cc; output = cc; forward = omega arith })
+    prints (cc) (cc) (omega arith)
     (λ a rest g d.
     let start = text (begin d) (these (kind c a.0.is_mutable (third (begin d) c.ahead-is_constant.ensures)) c.put.ensures) in
     let name = word (part c.name.ensures a.0.name tt start) c.word.ensures in
