@@ -1,5 +1,3 @@
--- The laws that the proofs of the functions cite.
-pub mod Strengths
 -- What is proved of the definitions; `Claims` says it, each claim by citation.
 pub mod StrengthLaws
 pub mod Claims

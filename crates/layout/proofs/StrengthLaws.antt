@@ -6,7 +6,6 @@ use Rattle.std.proofs.Math.Bool.{true, false}
 use borrow.Author.Tests.{leb-true, ltb-true, eqb-true, le-leb, lt-ltb, eq-eqb}
 use Rattle.lexing.specs.RunLaws.{both_true}
 use Rattle.lexing.specs.Answer.{pick}
-use Rattle.tree.specs.Clash.{impossible}
 use Rattle.layout.specs.declared.power.TieBreaker.{TieBreaker}
 use Rattle.layout.specs.declared.power.TieBreaker.TheVariants.{OperatorWins, ContextWins, SameFamilyWins}
 use Rattle.layout.specs.declared.power.Side.TheVariants.{Left, Right}
@@ -23,10 +22,10 @@ favored this context = (told this context, shown this context)
     told : (t c : TieBreaker) → BreakTieInFavorOfOperator t c ≡ true → Favored t c
     told OperatorWins c e = inl refl
     told ContextWins OperatorWins e = inr (inl refl)
-    told ContextWins ContextWins e = impossible (cc)
-    told ContextWins (SameFamilyWins m) e = impossible (cc)
+    told ContextWins ContextWins e = cc
+    told ContextWins (SameFamilyWins m) e = cc
     told (SameFamilyWins n) OperatorWins e = inr (inl refl)
-    told (SameFamilyWins n) ContextWins e = impossible (cc)
+    told (SameFamilyWins n) ContextWins e = cc
     told (SameFamilyWins n) (SameFamilyWins m) e = inr (inr (n, (refl, ap SameFamilyWins (eqb-true n m e))))
 
     by-context : (t : TieBreaker) → BreakTieInFavorOfOperator t OperatorWins ≡ true

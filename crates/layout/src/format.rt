@@ -5,7 +5,7 @@ ghost use Rattle.layout.specs.PrintUtil.{start_indent, deeper_by, Deeper};
 
 pub const INDENT_AMOUNT: usize = 2;
 
-#[derive(Clone, Copy)]
+#[derive(Clone, Copy, PartialEq, Eq, Debug)]
 pub enum ExprFormatOption {
     SingleLine,
     MultipleLines(usize),
@@ -15,10 +15,7 @@ pub enum ExprFormatOption {
 pub fn deeper(indent: usize, step: usize) -> usize
     ensures { result ≡ deeper_by step indent }
 {
-    if usize::MAX - step < indent {
-        return usize::MAX;
-    }
-    indent + step
+    indent.saturating_add(step)
 }
 
 impl ExprFormatOption {
@@ -47,9 +44,6 @@ impl ExprFormatOption {
     pub fn choose(test: bool, yes: ExprFormatOption, other: ExprFormatOption) -> ExprFormatOption
         ensures { result ≡ pick test yes other }
     {
-        if test {
-            return yes;
-        }
-        other
+        if test { yes } else { other }
     }
 }

@@ -1,9 +1,9 @@
 // PrintUtil.dfy's binding strengths.
 ghost use Rattle.std.specs.Prelude.{◌≡◌};
-ghost use Rattle.layout.specs.PrintUtil.{is_operator_wins, same_family, BreakTieInFavorOfOperator, power, pulls, WinsOver, adjusted, SubexpressionPower};
+ghost use Rattle.layout.specs.PrintUtil.{BreakTieInFavorOfOperator, power, pulls, WinsOver, adjusted, SubexpressionPower};
 
 // Who wins where an operator and its context pull equally.
-#[derive(Clone, Copy)]
+#[derive(Clone, Copy, PartialEq, Eq, Debug)]
 pub enum TieBreaker {
     OperatorWins,
     ContextWins,
@@ -11,48 +11,28 @@ pub enum TieBreaker {
     SameFamilyWins(u8),
 }
 
-#[derive(Clone, Copy)]
+#[derive(Clone, Copy, PartialEq, Eq, Debug)]
 pub enum Side {
     Left,
     Right,
 }
 
 // How strongly an operator pulls on the operands at its two ends, or a context on the expression in it.
-#[derive(Clone, Copy)]
+#[derive(Clone, Copy, PartialEq, Eq, Debug)]
 pub struct BindingPower {
     pub left: u16,
     pub right: u16,
     pub tie_breaker: TieBreaker,
 }
 
-fn is_operator_wins(t: TieBreaker) -> bool
-    ensures { result ≡ is_operator_wins t }
-{
-    match t {
-        TieBreaker::OperatorWins => true,
-        TieBreaker::ContextWins => false,
-        TieBreaker::SameFamilyWins(_) => false,
-    }
-}
-
-fn same_family(n: u8, context: TieBreaker) -> bool
-    ensures { result ≡ same_family n context }
-{
-    match context {
-        TieBreaker::OperatorWins => true,
-        TieBreaker::ContextWins => false,
-        TieBreaker::SameFamilyWins(m) => n == m,
-    }
-}
-
 impl TieBreaker {
     pub(crate) fn break_tie_in_favor_of_operator(self, context: TieBreaker) -> bool
         ensures { result ≡ BreakTieInFavorOfOperator self context }
     {
-        match self {
-            TieBreaker::OperatorWins => true,
-            TieBreaker::ContextWins => is_operator_wins(context),
-            TieBreaker::SameFamilyWins(n) => same_family(n, context),
+        match (self, context) {
+            (TieBreaker::OperatorWins, _) | (_, TieBreaker::OperatorWins) => true,
+            (TieBreaker::SameFamilyWins(n), TieBreaker::SameFamilyWins(m)) => n == m,
+            _ => false,
         }
     }
 }
@@ -62,9 +42,10 @@ fn pulls_more(tie: bool, operator: u16, context: u16) -> bool
     ensures { result ≡ pulls tie operator context }
 {
     if tie {
-        return context <= operator;
+        context <= operator
+    } else {
+        context < operator
     }
-    context < operator
 }
 
 impl BindingPower {
@@ -91,29 +72,24 @@ impl BindingPower {
     }
 
     // Whether an operator of this strength needs no parentheses in a context.
+    #[tactic(auto, unfolding(crate::specs::PrintUtil::WinsOver))]
     pub fn wins_over(self, context: BindingPower) -> bool
         ensures { result ≡ WinsOver self context }
     {
-        let tie = self.tie_breaker;
-        let other = context.tie_breaker;
+        let (tie, other) = (self.tie_breaker, context.tie_breaker);
         let favor = tie.break_tie_in_favor_of_operator(other);
-        if pulls_more(favor, self.left, context.left) {
-            return pulls_more(favor, self.right, context.right);
-        }
-        false
+        pulls_more(favor, self.left, context.left) && pulls_more(favor, self.right, context.right)
     }
 
     // This context, or the one inside parentheses.
     fn if_not_bracketed(self, wins: bool) -> BindingPower
         ensures { result ≡ adjusted wins self }
     {
-        if wins {
-            return self;
-        }
-        BindingPower::INIT
+        if wins { self } else { BindingPower::INIT }
     }
 
     // The context of the operand at a side, where an operator of this strength stands in a context.
+    #[tactic(auto, unfolding(crate::specs::PrintUtil::SubexpressionPower))]
     pub fn subexpression_power(self, side: Side, context: BindingPower) -> BindingPower
         ensures { result ≡ SubexpressionPower self side context }
     {

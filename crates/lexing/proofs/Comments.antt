@@ -1,6 +1,5 @@
 -- The loop of `long_comment`, and the ways out of `position_after_end_of_long_comment`.
 use Rattle.std.proofs.Common.{◌≡◌, refl, sym, ap, ◌∙◌, List, [], ◌∷◌, ℕ, zero, suc, ◌+◌, ◌-◌, ◌≤◌, ◌<◌, length, get_or, take, drop, arith, length-take, length-drop, add-one, drop-cons, drop_of_length-le}
-use Rattle.std.proofs.lemmas.Bool.{false≢true}
 use Rattle.std.proofs.Math.Option.{Option, none, some}
 use Rattle.lexing.specs.Blanks.{Mark, closing, opening, neither, mark, plus, at_mark, long_comment, or_else, position_after_end_of_long_comment}
 use Rattle.lexing.specs.BlankLaws.{plus-plus, long_comment-inside}
@@ -27,16 +26,17 @@ open_start s = record { few = omega arith; says = sym (by_end (long_comment 0 (0
 -- one count is the other where one more is one more
 plus_one : (r q : Option ℕ) → plus 1 r ≡ plus 1 q → r ≡ q
 plus_one none none e = refl
-plus_one none (some n) e = absurd (false≢true cc)
-plus_one (some n) none e = absurd (false≢true cc)
+plus_one none (some n) e = cc
+plus_one (some n) none e = cc
 plus_one (some n) (some m) e = let h : 1 + n ≡ 1 + m = cc in ap some (omega arith)
 
 module _ {s : List ℕ} {before d i : ℕ} (o : Open s before d i) where
   module _ (h : i < length s) where
-    by_mark : {t : Mark} → t ≡ mark before (get_or s i 0)
+    -- the comment by the mark that `mark_at` found at i
+    at_mark_lem : {t : Mark} → t ≡ mark before (get_or s i 0)
         → plus 1 (long_comment 0 s) ≡ plus i (at_mark t d (λ k. long_comment k (drop (i + 1) s)) (λ k. long_comment k (get_or s i 0 ∷ drop (i + 1) s)))
     unfolding long_comment
-    by_mark e = o.says ∙ rw (add-one, drop-cons s i 0, e)
+    at_mark_lem e = o.says ∙ rw (add-one, drop-cons s i 0, e)
 
     -- after a mark where e comments are open
     after_mark : (e : ℕ) → e ≤ i + 1 → plus 1 (long_comment 0 s) ≡ plus i (plus 2 (long_comment e (drop (i + 1) s))) → Open s 0 e (i + 1)
@@ -52,10 +52,10 @@ module _ {s : List ℕ} {before d i : ℕ} (o : Open s before d i) where
     pub open_close : closing ≡ mark before (get_or s i 0) → d ≡ 0 → some (i + 1) ≡ long_comment 0 s
     open_close e z =
         let two : i + 2 ≡ 1 + (i + 1) = omega arith in
-        plus_one _ _ (sym (by_mark e ∙ ap (λ k. plus i (at_mark closing k (λ k. long_comment k (drop (i + 1) s)) (λ k. long_comment k (get_or s i 0 ∷ drop (i + 1) s)))) z ∙ ap some two))
+        plus_one _ _ (sym (at_mark_lem e ∙ ap (λ k. plus i (at_mark closing k (λ k. long_comment k (drop (i + 1) s)) (λ k. long_comment k (get_or s i 0 ∷ drop (i + 1) s)))) z ∙ ap some two))
 
     pub open_inner : closing ≡ mark before (get_or s i 0) → (d ≡ 0 → ⊥) → Open s 0 (d - 1) (i + 1)
-    open_inner e z = after_mark (d - 1) (omega (arith, o.few)) (by_depth d z (by_mark e))
+    open_inner e z = after_mark (d - 1) (omega (arith, o.few)) (by_depth d z (at_mark_lem e))
       where
         by_depth : (d : ℕ) → (d ≡ 0 → ⊥)
             → {r : Option ℕ} → r ≡ plus i (at_mark closing d (λ k. long_comment k (drop (i + 1) s)) (λ k. long_comment k (get_or s i 0 ∷ drop (i + 1) s)))
@@ -64,10 +64,10 @@ module _ {s : List ℕ} {before d i : ℕ} (o : Open s before d i) where
         by_depth (suc d) z q = let less : suc d - 1 ≡ d = omega arith in rw less q
 
     pub open_more : opening ≡ mark before (get_or s i 0) → Open s 0 (d + 1) (i + 1)
-    open_more e = after_mark (d + 1) (omega (arith, o.few)) (rw add-one (by_mark e))
+    open_more e = after_mark (d + 1) (omega (arith, o.few)) (rw add-one (at_mark_lem e))
 
     pub open_next : neither ≡ mark before (get_or s i 0) → Open s (get_or s i 0) d (i + 1)
-    open_next e = record { few = omega (arith, o.few); says = by_mark e ∙ plus-plus i 1 _ }
+    open_next e = record { few = omega (arith, o.few); says = at_mark_lem e ∙ plus-plus i 1 _ }
 
   -- at the end it is not closed
   pub open_never : length s ≤ i → none ≡ long_comment 0 s

@@ -1,6 +1,5 @@
 -- The loop of `decimal`, and the ways out of `natural`.
 use Rattle.std.proofs.Common.{◌≡◌, refl, sym, ◌∙◌, Bool, true, false, List, [], ◌∷◌, ℕ, ◌+◌, ◌*◌, ◌-◌, ◌≤◌, ◌<◌, length, get_or, take, drop, leb, Some, None, arith, add-one, drop-cons}
-use Rattle.std.proofs.lemmas.Bool.{false≢true}
 use borrow.Author.Tests.{le-leb, lt-leb, leb-true, leb-false}
 use lib.ListN.{drop_of_length-le}
 use Rattle.lexing.specs.Answer.{Answer, refused, large_natural, pick}
@@ -15,14 +14,14 @@ number_some n v e = by_test (leb n most_natural) refl e
   where
     by_test : (t : Bool) → leb n most_natural ≡ t → Some v ≡ pick t (Some n) None → (v ≡ n) × (leb n most_natural ≡ true)
     by_test true p e = (cc, p)
-    by_test false p e = absurd (false≢true cc)
+    by_test false p e = cc
 
 -- and where it answers none, n does not fit
 number_none : (n : ℕ) → None ≡ number_of n → leb n most_natural ≡ false
 number_none n e = by_test (leb n most_natural) refl e
   where
     by_test : (t : Bool) → leb n most_natural ≡ t → None ≡ pick t (Some n) None → leb n most_natural ≡ false
-    by_test true p e = absurd (false≢true cc)
+    by_test true p e = cc
     by_test false p e = p
 
 -- more digits make no smaller number

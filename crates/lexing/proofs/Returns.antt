@@ -2,11 +2,13 @@
 use Rattle.std.proofs.Common.{◌≡◌, refl, sym, ap, ◌∙◌, Bool, true, false, ◌&&◌, List, [], ◌∷◌, ℕ, zero, suc, ◌+◌, ◌-◌, ◌≤◌, ◌<◌, length, get_or, drop, take, nat_eq, arith, one-add, length-drop, get_or-drop, drop-drop}
 use Rattle.std.proofs.Math.ListN.{drop_of_length-le}
 use borrow.Author.Tests.{ne_eqb}
-use Rattle.lexing.specs.Answer.{Answer, ok, pick}
-use Rattle.lexing.specs.Bytes.{is_space, same_bytes, not_newline, run, starts_with, can_start_identifier_char, identifier_char}
+use Rattle.lexing.specs.Answer.{ok, pick}
+use Rattle.lexing.specs.Bytes.{is_space, not_newline, run, starts_with, can_start_identifier_char, identifier_char}
 use Rattle.lexing.specs.Blanks.{Blanks, passed, unclosed, further, blank, blanks_from, W, position_after_end_of_long_comment}
-use Rattle.lexing.specs.Tokens.{identifier_length, keyword, lexeme, closed}
+use Rattle.lexing.specs.Tokens.{identifier_length, lexeme, closed}
 use Rattle.lexing.specs.CodeAnswers.{Position}
+use Rattle.std.proofs.Math.Seq.{length-take-le}
+use Rattle.lexing.specs.TokenLaws.{identifier-inside}
 use Rattle.lexing.specs.RunLaws.{run_inside}
 use Rattle.lexing.specs.BlankLaws.{W-blank, W-none, W-unclosed, further-zero, further-further, blank-inside, reach, W-inside}
 use Rattle.lexing.proofs.Lists.{suffix}
@@ -141,15 +143,9 @@ module _ (s : List ℕ) (h : 0 < length s) where
   pub identifier-none : can_start_identifier_char (get_or s 0 0) ≡ false → 0 ≡ identifier_length s
   identifier-none p = simp (identifier-by s h, p)
 
--- a keyword, by the length of the identifier that was read
-module _ (w s : List ℕ) (n : ℕ) (e : n ≡ identifier_length s) where
-  pub keyword-found : same_bytes (take n s) w ≡ true → lexeme 0 n s ≡ keyword w s
-  unfolding keyword
-  keyword-found p = rw (← e, p)
-
-  pub keyword-missing : same_bytes (take n s) w ≡ false → Answer.none ≡ keyword w s
-  unfolding keyword
-  keyword-missing p = rw (← e, p)
+-- an identifier lies inside the text
+pub identifier_taken : (s : List ℕ) → length (take (identifier_length s) s) ≡ identifier_length s
+identifier_taken s = length-take-le (identifier_length s) s (identifier-inside s)
 
 -- no blanks stand at the end of the text
 nothing : W [] ≡ passed 0

@@ -1,7 +1,6 @@
 -- Laws of blanks: they lie inside the text, one follows another, and none stands after them; upstream's equations of a long comment's end.
 use Rattle.std.specs.Prelude.{◌≡◌, refl, Bool, true, false, ◌&&◌, List, [], ◌∷◌, ℕ, zero, suc, ◌+◌, ◌≤◌, length, drop, eqb}
 use Rattle.std.proofs.Common.{sym, ap, ◌∙◌, zero-le, suc-le-suc, arith, le_refl, one-add, length-drop}
-use Rattle.std.proofs.lemmas.Bool.{false≢true}
 use Rattle.std.proofs.Math.Option.{Option, none, some}
 use Rattle.std.proofs.Math.Seq.{drop-length}
 use Rattle.lexing.specs.Bytes.{starts_with, is_space, not_newline}
@@ -22,14 +21,14 @@ reach-further k (unclosed n) = refl
 
 -- where a count with k more is n, the count is some m with k + m = n
 pub plus-some : (k : ℕ) (r : Option ℕ) {n : ℕ} → plus k r ≡ some n → (m : ℕ) × (r ≡ some m) × (k + m ≡ n)
-plus-some k none {n} e = absurd (false≢true cc)
+plus-some k none {n} e = cc
 plus-some k (some m) {n} e = (m, refl, cc)
 
 -- a long comment that is closed ends inside the text
 pub long_comment-inside : (d : ℕ) (s : List ℕ) {n : ℕ} → long_comment d s ≡ some n → n ≤ length s
 unfolding long_comment
-long_comment-inside d [] {n} e = absurd (false≢true cc)
-long_comment-inside d (a ∷ []) {n} e = absurd (false≢true cc)
+long_comment-inside d [] {n} e = cc
+long_comment-inside d (a ∷ []) {n} e = cc
 long_comment-inside d (a ∷ (b ∷ s)) {n} e = by-mark (mark a b) d e (λ k m. long_comment-inside k s {n = m}) (λ k m. long_comment-inside k (b ∷ s) {n = m})
   where
     by-mark : (t : Mark) (d : ℕ) → at_mark t d (λ k. long_comment k s) (λ k. long_comment k (b ∷ s)) ≡ some n
@@ -62,8 +61,8 @@ blank-inside (a ∷ s) =
     long [] e = absurd (by-test (eqb 47 a) e)
       where
         by-test : (t : Bool) → (t && false) ≡ true → ⊥
-        by-test true e = false≢true cc
-        by-test false e = false≢true cc
+        by-test true e = cc
+        by-test false e = cc
     long (b ∷ s) e = omega (arith, position-inside s)
 
 -- one blank after the other: `onward` by cases on the blank at the start
@@ -126,7 +125,7 @@ W-unclosed (a ∷ s) n e = ap (λ r. onward r (λ j. blanks_from j s)) e
 -- blanks that are passed from k bytes further back are passed from here
 further-passed : (k : ℕ) (r : Blanks) {n : ℕ} → further k r ≡ passed n → (m : ℕ) × (r ≡ passed m) × (k + m ≡ n)
 further-passed k (passed m) {n} e = (m, refl, cc)
-further-passed k (unclosed m) {n} e = absurd (false≢true cc)
+further-passed k (unclosed m) {n} e = cc
 
 -- after k bytes of a blank and the blanks behind them no blank stands
 Stops : List ℕ → ℕ → Type 0
@@ -146,7 +145,7 @@ stops (a ∷ s) zero n e = by-blanks (blank (a ∷ s)) refl e (λ k. stops s k)
     by-blanks : (r : Blanks) → blank (a ∷ s) ≡ r → onward r (λ k. blanks_from k s) ≡ passed n → ((k : ℕ) → Stops s k) → blank (drop n (a ∷ s)) ≡ passed 0
     by-blanks (passed zero) p e f = let h : 0 ≡ n = cc in rw (← h) p
     by-blanks (passed (suc k)) p e f = stops-later a s k n (f k) e
-    by-blanks (unclosed m) p e f = absurd (false≢true cc)
+    by-blanks (unclosed m) p e f = cc
 stops (a ∷ s) (suc k) n e = stops-later a s k n (stops s k) e
 
 -- nothing blank stands after blanks
@@ -172,12 +171,12 @@ blank-closed (a ∷ s) =
 
 further-closed : (k : ℕ) (r : Blanks) → Passed r → Passed (further k r)
 further-closed k (passed n) e = refl
-further-closed k (unclosed n) e = absurd (false≢true cc)
+further-closed k (unclosed n) e = cc
 
 onward-closed : (r : Blanks) (on : ℕ → Blanks) → Passed r → ((k : ℕ) → Passed (on k)) → Passed (onward r on)
 onward-closed (passed zero) on e f = refl
 onward-closed (passed (suc k)) on e f = further-closed 1 (on k) (f k)
-onward-closed (unclosed n) on e f = absurd (false≢true cc)
+onward-closed (unclosed n) on e f = cc
 
 blanks_from-closed : (k : ℕ) (s : List ℕ) → Passed (blanks_from k s)
 unfolding blanks_from

@@ -1,6 +1,5 @@
 -- Laws of tests and runs: a run lies inside the text, its bytes satisfy the test, and it is maximal.
 use Rattle.std.specs.Prelude.{◌≡◌, refl, Bool, true, false, ◌&&◌, List, [], ◌∷◌, ℕ, zero, suc, ◌≤◌, ◌<◌, length, get_or}
-use Rattle.std.proofs.lemmas.Bool.{false≢true}
 use Rattle.std.proofs.Common.{zero-le, suc-le-suc, arith}
 use Rattle.lexing.specs.Answer.{pick}
 use Rattle.lexing.specs.Bytes.{run}
@@ -24,7 +23,7 @@ pick-cases false e f g = g refl e
 -- both tests of a conjunction are true
 pub both_true : (a b : Bool) → (a && b) ≡ true → (a ≡ true) × (b ≡ true)
 both_true true b e = (refl, e)
-both_true false b e = absurd (false≢true e)
+both_true false b e = cc
 
 -- ---- runs
 

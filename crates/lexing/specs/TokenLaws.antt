@@ -1,7 +1,6 @@
 -- Laws of words and signs: each lies inside the text with the blanks after it, makes progress, and is maximal.
 use Rattle.std.specs.Prelude.{◌≡◌, refl, Bool, true, false, ◌&&◌, List, [], ◌∷◌, ◌++◌, ℕ, zero, suc, ◌+◌, ◌≤◌, ◌<◌, length, take, drop, get_or, leb, eqb}
 use Rattle.std.proofs.Common.{sym, ap, ◌∙◌, zero-le, suc-le-suc, arith, le_refl, length-drop, length-take, drop-drop, eqb-true, eq-eqb}
-use Rattle.std.proofs.lemmas.Bool.{false≢true}
 use Rattle.lexing.specs.Answer.{Answer, ok, none, refused, large_natural, pick}
 use Rattle.lexing.specs.Bytes.{run, starts_with, same_bytes, is_digit, identifier_char, can_start_identifier_char, custom_literal_char}
 use Rattle.lexing.specs.Blanks.{Blanks, passed, unclosed, W, blank}
@@ -129,14 +128,14 @@ natural-within s = token-within (natural-token s)
 -- a conjunction is true where both are
 and-true : (a b : Bool) → (a && b) ≡ true → (a ≡ true) × (b ≡ true)
 and-true true b e = (refl, e)
-and-true false b e = absurd (false≢true cc)
+and-true false b e = cc
 
 -- texts that are the same bytes are equal
 pub same_bytes-true : (a b : List ℕ) → same_bytes a b ≡ true → a ≡ b
 unfolding same_bytes
 same_bytes-true [] [] e = refl
-same_bytes-true [] (y ∷ b) e = absurd (false≢true cc)
-same_bytes-true (x ∷ a) [] e = absurd (false≢true cc)
+same_bytes-true [] (y ∷ b) e = cc
+same_bytes-true (x ∷ a) [] e = cc
 same_bytes-true (x ∷ a) (y ∷ b) e =
     let (p, q) = and-true (eqb y x) (same_bytes a b) e in
     let h : y ≡ x = eqb-true y x p in
@@ -152,7 +151,7 @@ same_bytes-refl (x ∷ a) = rw (eq-eqb x x refl) (same_bytes-refl a)
 pub starts_with-true : (w s : List ℕ) → starts_with w s ≡ true → s ≡ w ++ drop (length w) s
 unfolding starts_with
 starts_with-true [] s e = refl
-starts_with-true (a ∷ w) [] e = absurd (false≢true cc)
+starts_with-true (a ∷ w) [] e = cc
 starts_with-true (a ∷ w) (b ∷ s) e =
     let (p, q) = and-true (eqb a b) (starts_with w s) e in
     let h : a ≡ b = eqb-true a b p in
@@ -162,7 +161,7 @@ starts_with-true (a ∷ w) (b ∷ s) e =
 pub starts_with-inside : (w s : List ℕ) → starts_with w s ≡ true → length w ≤ length s
 unfolding starts_with
 starts_with-inside [] s e = zero-le
-starts_with-inside (a ∷ w) [] e = absurd (false≢true cc)
+starts_with-inside (a ∷ w) [] e = cc
 starts_with-inside (a ∷ w) (b ∷ s) e = suc-le-suc (starts_with-inside w s (and-true (eqb a b) (starts_with w s) e).1)
 
 -- a sign is a token of its own bytes
@@ -207,7 +206,7 @@ lexeme-value u v n s {w} {m} e = by-blanks (W (drop n s)) e
   where
     by-blanks : (r : Blanks) → closed u n r ≡ ok w m → (u ≡ w) × (closed v n r ≡ ok v m)
     by-blanks (passed k) e = (cc, let h : n + k ≡ m = cc in ap (ok v) h)
-    by-blanks (unclosed k) e = absurd (false≢true cc)
+    by-blanks (unclosed k) e = cc
 
 -- the value of `parse_id` is the identifier's length
 pub parse_id-value : (s : List ℕ) {v n : ℕ} → parse_id s ≡ ok v n → (identifier_length s ≡ v) × (lexeme v v s ≡ ok v n)
@@ -215,7 +214,7 @@ unfolding parse_id
 parse_id-value s {v} {n} e = by_length (identifier_length s) e
   where
     by_length : (k : ℕ) → unless_empty k (lexeme k k s) ≡ ok v n → (k ≡ v) × (lexeme v v s ≡ ok v n)
-    by_length zero e = absurd (false≢true cc)
+    by_length zero e = cc
     by_length (suc k) e = let h : suc k ≡ v = (lexeme-value (suc k) 0 (suc k) s e).0 in (h, rw h at e)
 
 -- where a keyword stands `parse_id` reads its bytes, and where `parse_id` reads them the keyword stands
@@ -228,7 +227,7 @@ keyword-parse_id w s {v} {n} h e = by-test (same_bytes (take (identifier_length 
     by-test true q e =
         let (p, l) = keyword-is w s q in
         (rw l (sym (unless_empty-some (length w) _ (λ z. omega arith)) ∙ (lexeme-value 0 (length w) (length w) s (rw l at e)).1), rw l at p)
-    by-test false q e = absurd (false≢true cc)
+    by-test false q e = cc
 
 -- and the identifier with these bytes is the keyword
 pub parse_id-keyword : (w s : List ℕ) {n : ℕ} → parse_id s ≡ ok (length w) n → take (length w) s ≡ w → keyword w s ≡ ok 0 n

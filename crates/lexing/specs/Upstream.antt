@@ -3,7 +3,6 @@
 use Rattle.std.specs.Prelude.{◌≡◌, refl, Bool, true, false, ◌&&◌, not, List, [], ◌∷◌, ◌++◌, ℕ, zero, suc, ◌+◌, ◌-◌, ◌≤◌, ◌<◌, length, take, drop, get_or}
 use Rattle.std.proofs.Common.{sym, ◌∙◌, add-one, arith, drop-drop, get_or-drop, eq-eqb}
 use Rattle.std.proofs.Math.Path.{ap}
-use Rattle.std.proofs.lemmas.Bool.{false≢true}
 use Rattle.std.proofs.Math.Seq.{take-append_seam, slice, slice-cons, length-slice}
 use Rattle.lexing.specs.Answer.{Answer, none, pick}
 use Rattle.lexing.specs.Bytes.{identifier_char, can_start_identifier_char, run, starts_with, same_bytes}
@@ -111,7 +110,7 @@ unfolding keyword T
 keyword-T w s h l = by-test (same_bytes (take (identifier_length s) s) w) refl
   where
     clash : (t : Bool) → t ≡ false → t ≡ true → ⊥
-    clash t e f = false≢true cc
+    clash t e f = cc
 
     whole : starts_with w s ≡ true → identifier_char (get_or s (length w) 0) ≡ false → same_bytes (take (identifier_length s) s) w ≡ true
     whole p e =

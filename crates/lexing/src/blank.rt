@@ -93,6 +93,7 @@ pub(crate) fn blank_at_start(s: &[u8]) -> Result<usize, Unclosed>
 pub fn blanks(s: &[u8]) -> Result<usize, Unclosed>
     ensures { reach_of result ≡ W s.now }
 {
+    // Kept: a turn passes a whole blank, so the place moves by what it takes and not by one.
     let mut at: usize = 0;
     loop {
         match blank_at_start(&s[at..]) {

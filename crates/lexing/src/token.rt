@@ -49,6 +49,7 @@ pub fn identifier_length(text: &[u8]) -> usize
     0
 }
 
+#[tactic(auto, unfolding(crate::specs::Tokens::parse_id))]
 pub fn parse_id(text: &[u8]) -> Lexed
     ensures { answer_of result ≡ tokens.parse_id text.now }
 {
@@ -73,6 +74,7 @@ pub fn parse_custom_literal(text: &[u8]) -> Lexed
 }
 
 // `T(word)`.
+#[tactic(auto, using(crate::proofs::Returns::identifier_taken), unfolding(crate::specs::Tokens::keyword))]
 pub fn keyword(text: &[u8], word: &[u8]) -> Lexed
     ensures { answer_of result ≡ tokens.keyword word.now text.now }
 {
@@ -83,6 +85,7 @@ pub fn keyword(text: &[u8], word: &[u8]) -> Lexed
     Ok(None)
 }
 
+#[tactic(auto, unfolding(crate::specs::Tokens::sign))]
 pub fn sym(text: &[u8], s: &[u8]) -> Lexed
     ensures { answer_of result ≡ tokens.sign s.now text.now }
 {
@@ -93,6 +96,7 @@ pub fn sym(text: &[u8], s: &[u8]) -> Lexed
 }
 
 // `SymNotPrefix(s, [longer])`.
+#[tactic(auto, unfolding(crate::specs::Tokens::sign_not_prefix))]
 pub fn sym_not_prefix(text: &[u8], s: &[u8], longer: &[u8]) -> Lexed
     ensures { answer_of result ≡ tokens.sign_not_prefix s.now longer.now text.now }
 {

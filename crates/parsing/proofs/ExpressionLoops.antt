@@ -1,21 +1,20 @@
 -- Where a turn of a loop of the expressions' rules begins.
-use Rattle.std.proofs.Common.{ℕ, zero, suc, ◌≡◌, ◌+◌, ◌*◌, ◌-◌, ◌<◌, ◌≤◌, ◌∙◌, refl, sym, ap, subst, leb, Bool, true, false, arith, List, [], ◌∷◌, length, get_or, Option, Some, None, Ok}
+use Rattle.std.proofs.Common.{ℕ, zero, suc, ◌≡◌, ◌+◌, ◌<◌, ◌≤◌, ◌∙◌, refl, sym, ap, Bool, true, false, arith, List, [], ◌∷◌, length, get_or, Option, Some, None, Ok}
 use Rattle.std.proofs.Math.Dec.{leb-zero}
 use Rattle.std.proofs.Math.Nat.{le_refl}
 use mathlib.Core.Path.{fun_ext}
 use Rattle.std.specs.Option.{unwrap_or}
 use Rattle.lexing.specs.Answer.{Answer, ok, refused}
-use Rattle.lexing.specs.Bytes.{bytes}
 use Rattle.tree.specs.Ast.{Span, Expr, Operator, LogicalImp, pattern, no_patterns}
 use Rattle.tree.specs.Words.{operator_word, exprs_words, patterns_words}
 use Rattle.grammar.specs.Grammar.{Build, Class, straight, single, build, implication}
 use Rattle.grammar.specs.Steps.{Reader, after, need, mapped, Sym, keyword_at}
-use Rattle.grammar.specs.StepLaws.{after-after, mapped-same, mapped-twice, mapped-need}
+use Rattle.grammar.specs.StepLaws.{mapped-same, mapped-twice, mapped-need}
 use Rattle.grammar.specs.Rules.{left_tail, right_tail, operator_of, implies_operator, unary_operator, unary_tail, parse_primary_expr, parse_imp_exp_expr, parse_unary_expr}
 use Rattle.grammar.specs.Rules.{exprs, comma_tail, parse_nonempty_comma_delimited_seq, parse_marked}
 use Rattle.grammar.specs.Reading.{tree_words}
-use Rattle.parsing.specs.Arena.{Run, Holds, Kept, outside}
-use Rattle.parsing.specs.Contract.{Rule, needed, sign, Ready, Later, Read, Reads_if, Took, Missing, Standing, Pushed, Closes, same}
+use Rattle.parsing.specs.Arena.{Run, Kept, outside}
+use Rattle.parsing.specs.Contract.{needed, sign, Ready, Read, Reads_if, Took, Missing, Standing, Pushed, same}
 use Rattle.parsing.specs.Expressions.{left_rest, items_rule, list_rule, ItemOf, ListOf, sequence_of, item_words, list_words}
 use Rattle.parsing.specs.declared.expr.seq.Kind.{Kind}
 use Rattle.parsing.specs.declared.expr.seq.Kind.TheVariants.{Exprs, Bindings, Closures, Properties, Names, Formals, Parameters, Arguments}
@@ -28,8 +27,8 @@ use Rattle.parsing.specs.declared.sign.Level.TheVariants.{Implication}
 use Rattle.tree.specs.declared.word.Operator.{Operator as OperatorCode}
 use Rattle.parsing.specs.declared.arena.Node.{Node}
 use Rattle.parsing.specs.declared.arena.Node.TheVariants.{Unary, Binary}
-use Rattle.parsing.proofs.Places.{Place, begin, again, read, read_if, took, skipped, with_end, done, operated, said, later-next, standing-on, holds_kept}
-use Rattle.parsing.proofs.ExpressionPlaces.{sure, unused, ready-spare, lessened, respelt}
+use Rattle.parsing.proofs.Places.{Place, begin, again, read, read_if, took, skipped, with_end, done, operated, said, as_run, later-next, holds_kept}
+use Rattle.parsing.proofs.ExpressionPlaces.{sure, unused, ready-spare, lessened}
 use Rattle.parsing.proofs.ExpressionRules.{listed-rule}
 use borrow.Author.Tests.{le-leb}
 use Rattle.tree.specs.Clash.{impossible}
@@ -461,5 +460,5 @@ listed k depth close {p} (Some m) r f e t c =
     let l = took (sign close) _ t (read_if (items_rule k depth) _ _ f (said (listed-rule _ _ _ _ _ _) (begin r)) refl) in
     rw e (done (list_rule k close depth) l (le-leb _ _ (omega arith)) (le-leb _ _ (omega arith)))
 listed k depth close {p} None r f e t c =
-    let l = took (sign close) _ t (respelt (sym (fun_ext (nil-words k))) (with_end (skipped (items_rule k depth) _ _ f (said (listed-rule _ _ _ _ _ _) (begin r))))) in
+    let l = took (sign close) _ t (as_run (sym (fun_ext (nil-words k))) (with_end (skipped (items_rule k depth) _ _ f (said (listed-rule _ _ _ _ _ _) (begin r))))) in
     rw e (done (list_rule k close depth) l (le-leb _ _ (omega arith)) (le-leb _ _ (omega arith)))

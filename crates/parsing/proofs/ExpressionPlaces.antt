@@ -1,40 +1,19 @@
--- Places of the rules of expressions: operators, layers that wait for their last operand, and how a rule ends with another one.
-use Rattle.std.proofs.Common.{ℕ, zero, suc, ◌+◌, ◌*◌, ◌-◌, ◌≤◌, ◌<◌, ◌≡◌, ◌∙◌, refl, sym, ap, subst, List, [], ◌∷◌, length, Bool, true, false, leb, Option, Some, None, Result, Ok, Err, arith}
-use Rattle.std.specs.Result.{IsErrAnd}
-use Rattle.std.proofs.lemmas.Result.{err_from_is_err_and}
+-- Places of the rules of expressions: tests of tokens, nodes that the rule has no need of yet, and the end of a sequence.
+use Rattle.std.proofs.Common.{ℕ, zero, suc, ◌+◌, ◌*◌, ◌-◌, ◌≤◌, ◌≡◌, ◌∙◌, refl, ap, List, [], ◌∷◌, length, Bool, true, false, leb, Option, Some, None, Result, Ok, Err, arith}
 use borrow.Author.Tests.{leb-true}
 use Rattle.lexing.specs.Answer.{Answer, ok, refused}
 use Rattle.lexing.specs.CodeAnswers.{number}
 use Rattle.lexing.specs.declared.refusal.Refusal.{Refusal}
-use Rattle.tree.specs.Ast.{Span, Expr, Operator}
-use Rattle.grammar.specs.Grammar.{Build, build}
-use Rattle.grammar.specs.Steps.{after, need, must}
-use Rattle.grammar.specs.Rules.{unary_operator}
-use Rattle.grammar.specs.Reading.{tree_words}
-use Rattle.parsing.specs.Arena.{Run, Holds}
-use Rattle.parsing.specs.Contract.{Rule, needed, Later, Went, Ready, Read, Reads, Reads_if, Took, Missing, Standing, Made, Closes}
+use Rattle.grammar.specs.Steps.{after, must}
+use Rattle.parsing.specs.Arena.{Run}
+use Rattle.parsing.specs.Contract.{Rule, needed, Ready, Read, Reads_if, Takes_if, Missing, Made, Closes}
 use Rattle.parsing.specs.Expressions.{Seen, Sees}
-use Rattle.parsing.specs.Code.{Folded, Foldable, Links, Layer, fold_layers, Layered}
 use Rattle.parsing.specs.declared.parser.Parser.{Parser}
-use Rattle.parsing.proofs.Laws.{need-ok, need-refused, after-ok, after-none, after-refused}
-use Rattle.parsing.proofs.Places.{Place, later-next, stand-on, noted, made-standing}
+use Rattle.parsing.proofs.Laws.{after-ok, after-refused}
+use Rattle.parsing.proofs.Places.{Place, later-next, stand-on, taken, skipped, stood, absent}
 
 -- ---- steps
 module _ {A : Type 0} {answer : Answer A} {lent : ℕ} {p q : Parser} {at bytes spare : ℕ} where
-  -- the last node stands for the same run in other words
-  pub respelt : {n : ℕ} {f g : Run} {rest : Answer A} {made : List (ℕ × Run)} → f ≡ g → Place answer lent p q at bytes spare rest ((n, f) ∷ made)
-      → Place answer lent p q at bytes spare rest ((n, g) ∷ made)
-  respelt {n} {f} {g} {made = made} e l =
-      record {
-        says = l.says;
-        here = l.here;
-        later = l.later;
-        forward = l.forward;
-        within = l.within;
-        ready = l.ready;
-        stands = (record { holds = subst (Holds q.arena.now n) e l.stands.0.holds; below = l.stands.0.below }, l.stands.1);
-      }
-
   -- without the two under the last node
   pub over-two : {n a b : ℕ} {f g h : Run} {rest : Answer A} {made : List (ℕ × Run)}
       → Place answer lent p q at bytes spare rest ((n, f) ∷ (a, g) ∷ (b, h) ∷ made) → Place answer lent p q at bytes spare rest ((n, f) ∷ made)
@@ -117,21 +96,20 @@ module _ {A : Type 0} {answer : Answer A} {lent : ℕ} {p q : Parser} {at bytes 
       by-list zero z = omega (arith, l.within, m.stays z)
       by-list (suc k) z = let h = c (λ e. omega arith) in omega (arith, l.within, m.grows)
 
-  -- a step that may follow, or must, is refused
+  -- a token that may follow stands here, or does not, by the test of a `bool`
+  module _ (rule : Rule ℕ) (least : ℕ) (stop : Answer A) (go : ℕ → ℕ → Answer A) {s : Parser} {made : List (ℕ × Run)} {b : Bool} (t : Takes_if rule least q s (Ok b)) where
+    pub stands-here : (e : b ≡ true) → Place answer lent p q at bytes spare (after (rule p.text.now at) stop go) made
+        → Place answer lent p s s.at (bytes + least) (spare + 2 * least) (go (stood rule least q s t e).value s.at) made
+    stands-here e l = taken rule stop go (stood rule least q s t e) l
+
+    pub absent-here : b ≡ false → Place answer lent p q at bytes spare (after (rule p.text.now at) stop go) made
+        → Place answer lent p s at bytes spare stop made
+    absent-here e l = skipped rule stop go (absent rule least q s t e) l
+
+  -- a step that may follow is refused
   pub stopped : {B : Type 0} (rule : Rule B) (stop : Answer A) (go : B → ℕ → Answer A) {made : List (ℕ × Run)} {n m : ℕ}
       → rule q.text.now q.at ≡ refused n m → Place answer lent p q at bytes spare (after (rule p.text.now at) stop go) made → answer ≡ refused n m
   stopped rule stop go f l = l.says ∙ after-refused (rule p.text.now at) stop go (rw (← l.here, ← l.later.text_same) f)
-
-  pub unmet : {B : Type 0} (rule : Rule B) (go : B → ℕ → Answer A) {made : List (ℕ × Run)} {n m : ℕ}
-      → needed rule q.text.now q.at ≡ refused n m → Place answer lent p q at bytes spare (need at (rule p.text.now at) go) made → answer ≡ refused n m
-  unmet rule go {n = n} {m} f l =
-      let h : needed rule p.text.now at ≡ refused n m = rw (← l.here, ← l.later.text_same) f in
-      l.says ∙ need-refused at (rule p.text.now at) go h
-
-  -- the rest of the answer is another rule's, which is refused
-  pub fails : (rule : Rule A) {made : List (ℕ × Run)} {n m : ℕ} → rule q.text.now q.at ≡ refused n m
-      → Place answer lent p q at bytes spare (rule p.text.now at) made → answer ≡ refused n m
-  fails rule f l = l.says ∙ rw (← l.here, ← l.later.text_same) f
 
 -- a rule that always keeps something, as one that must follow
 pub must-stands : {A : Type 0} (at : ℕ) (r : Answer A) {v : A} {n : ℕ} → r ≡ ok v n → must at r ≡ ok v n
@@ -142,27 +120,6 @@ abbrev pub sure : {A : Type 0} {words : A → Run} {rule : Rule A} {least credit
     → Read words (needed rule) least credit p q n
 sure {rule = rule} {p = p} f =
     record { value = f.value; says = must-stands p.at (rule p.text.now p.at) f.says; holds = f.holds; below = f.below; went = f.went }
-
--- ---- a rule that ends with another one
-module _ {A : Type 0} {words : A → Run} (whole rule : Rule A) {least credit least₁ credit₁ lent : ℕ} {p q s : Parser} {at bytes spare : ℕ} {made : List (ℕ × Run)} where
-  pub ends : {n : ℕ} → Read words rule least₁ credit₁ q s n → Place (whole p.text.now p.at) lent p q at bytes spare (rule p.text.now at) made
-      → leb least (bytes + least₁) ≡ true → leb (lent + credit₁) (credit + spare) ≡ true → Read words whole least credit p s n
-  ends f l b w =
-      let k = leb-true _ _ b in
-      let m = leb-true _ _ w in
-      let h : rule p.text.now at ≡ ok f.value s.at = rw (← l.here, ← l.later.text_same) f.says in
-      record {
-        value = f.value;
-        says = l.says ∙ h;
-        holds = f.holds;
-        below = f.below;
-        went = record {
-          later = later-next l.later f.went.later;
-          onward = omega (arith, l.forward, l.here, f.went.onward);
-          paid = omega (arith, l.within, l.here, f.went.paid);
-          ready = f.went.ready;
-        };
-      }
 
 -- where nothing was kept before
 module _ {A : Type 0} (words : A → Run) (whole rule : Rule A) (least credit least₁ credit₁ : ℕ) {p q : Parser} (s : Parser) where
@@ -182,15 +139,7 @@ module _ {A : Type 0} (words : A → Run) (whole rule : Rule A) (least credit le
   tail_if (Ok None) e o f b w = let g : Missing rule p s = rw e at f in record { says = o ∙ g.says; same = g.same }
   tail_if (Err d) e o f b w = let g : rule p.text.now p.at ≡ refused (number d.reason) d.place = rw e at f in o ∙ g
 
-pub sees_err : {A : Type 0} (rule : Rule A) (p q : Parser) (r : Result Bool Refusal) (e : Refusal)
-    → IsErrAnd r (λ y. y ≡ e) → rule p.text.now p.at ≡ refused (number e.reason) e.place → Sees rule p q r
-sees_err rule p q r e h s = let p = err_from_is_err_and r h in rw (p.1, p.2) s
-
 -- a test of a `bool`, after `sees`
 pub was-seen : {A : Type 0} (rule : Rule A) (p q : Parser) {b : Bool} → Sees rule p q (Ok b) → b ≡ true → Seen rule p q
 was-seen rule p q {b = true} t e = t
 was-seen rule p q {b = false} t e = cc
-
-pub not-seen : {A : Type 0} (rule : Rule A) (p q : Parser) {b : Bool} → Sees rule p q (Ok b) → b ≡ false → Missing rule p q
-not-seen rule p q {b = true} t e = cc
-not-seen rule p q {b = false} t e = t

@@ -1,6 +1,6 @@
 -- The rules of expressions, as their methods take their steps.
-use Rattle.std.proofs.Common.{ℕ, zero, suc, ◌+◌, ◌-◌, ◌≤◌, ◌<◌, ◌≡◌, ◌∙◌, refl, sym, ap, List, [], ◌∷◌, length, take, drop, Bool, true, false, arith}
-use Rattle.std.proofs.Math.Option.{Option, none, some}
+use Rattle.std.proofs.Common.{ℕ, zero, suc, ◌<◌, ◌≡◌, ◌∙◌, refl, sym, ap, List, ◌∷◌, take, drop, Bool, true, false, arith}
+use Rattle.std.proofs.Math.Option.{none, some}
 use mathlib.Core.Path.{fun_ext}
 use Rattle.lexing.specs.Answer.{Answer, ok, refused, moved}
 use Rattle.lexing.specs.Bytes.{is_digit, can_start_identifier_char, run, starts_with, same_bytes, bytes}
@@ -11,24 +11,15 @@ use Rattle.tree.specs.Ast.{Span, Binding, binding, Expr, BLiteral, ILiteral, IdE
 use Rattle.tree.specs.Ast as ast
 use Rattle.tree.specs.Words.{bool_word}
 use mir.Val.{bool_byte}
-use Rattle.grammar.specs.Steps.{Reader, after, need, must, mapped, ◌or◌, T, Sym, keyword_at, sign_at, parse_name, parse_nat}
-use Rattle.grammar.specs.StepLaws.{after-after, mapped-same, mapped-twice, mapped-need}
-use Rattle.grammar.specs.Rules.{parse_expr, parse_equiv_expr, parse_primary_expr, parse_atomic_expr, after_if, after_val, after_quantifier, after_lift, after_old, after_name, after_paren, after_triggers}
+use Rattle.grammar.specs.Steps.{Reader, after, need, must, mapped, ◌or◌, T, Sym, sign_at, parse_name, parse_nat}
+use Rattle.grammar.specs.StepLaws.{after-after}
+use Rattle.grammar.specs.Rules.{parse_primary_expr, parse_atomic_expr, after_if, after_val, after_quantifier, after_lift, after_old, after_name, after_paren, after_triggers}
 use Rattle.grammar.specs.Rules.{Sequence, exprs, PropertyItem, parse_nonempty_comma_delimited_seq, parse_comma_delimited_seq, parse_listed, parse_marked, parse_closure_property}
 use Rattle.grammar.specs.Statements.{gallery, the_expr, parse_optional_auto_invariant, parse_call_argument}
-use Rattle.grammar.specs.Declarations.{parse_moded, parse_proc_formal}
 use Rattle.grammar.proofs.Bridge.NoOperand.{if-ends, val-ends, quantifier-ends, lift-ends}
 use Rattle.grammar.proofs.Bridge.Relation.{Ends, refuses, reads}
 use Rattle.grammar.proofs.Bridge.Tests.{Stands, word, digits, other, nowhere, stands}
-use Rattle.parsing.specs.Arena.{Run}
-use Rattle.parsing.specs.Contract.{same}
 use Rattle.parsing.specs.Code.{turns, inner, opened, literal_expr, custom_expr, constant_expr, reference_argument}
-
--- one level is opened
-pub level-opens : (depth : ℕ) (text : List ℕ) (at : ℕ) → 0 < depth → inner depth text at ≡ parse_equiv_expr text (turns text) (inner (depth - 1) text) at
-unfolding parse_expr
-level-opens zero text at h = absurd (omega arith)
-level-opens (suc depth) text at h = let e : suc depth - 1 ≡ depth = omega arith in rw e refl
 
 -- the word of a `bool`
 pub universal-word : (b : Bool) → bool_byte b ≡ bool_word b

@@ -1,6 +1,6 @@
 -- What the rules of expressions promise: the rules by the levels that are left, and the sequences that commas part.
 use Rattle.std.specs.Prelude.{ℕ, ◌≡◌, Bool, true, false, List, Result, Ok, Err}
-use Rattle.lexing.specs.Answer.{Answer, ok, refused}
+use Rattle.lexing.specs.Answer.{ok, refused}
 use Rattle.lexing.specs.CodeAnswers.{number}
 use Rattle.lexing.specs.declared.refusal.Refusal.{Refusal}
 use Rattle.tree.specs.Ast.{Span, Expr, Binding, Exprs, Patterns, ClosureBindings, ClosureProperties, CallArgument, FParameter, PParameter}

@@ -61,40 +61,36 @@ module _ (text ws out : List ℕ) (r : Result ℕ PrintError) (out' : List ℕ) 
         placed = λ x q. let z : x ≡ Print e = cc in rw z (omega (arith, l.1));
       }
 
--- ---- the reading
+-- ---- the reading, by way of a table of m words
 
-module _ (text table : List ℕ) (read : Result ℕ Refusal) (a : ProgramAnswered text (length table) read table) where
+module _ (text table : List ℕ) (m : ℕ) (read : Result ℕ Refusal) (a : ProgramAnswered text m read table) where
   module _ {n : ℕ} (e : read ≡ Ok n) where
-    read-words : read_program text (length table) ≡ words n table
-    read-words = let o : words n table ≡ read_program text (length table) = rw e at a in sym o
+    read-words : read_program text m ≡ words n table
+    read-words = let o : words n table ≡ read_program text m = rw e at a in sym o
 
-    held : Held text (length table) n
-    held = program-held text (length table) read-words
+    held : Held text m n
+    held = program-held text m read-words
 
-    pub words-inside : n ≤ length table
+    pub words-inside : n ≤ m
     words-inside = held.fits
 
     pub words-printable : (length text ≤ most_text) × (program_refusal (take n table) (length text) ≡ none)
-    words-printable = (held.short, read-program-accepted text (length table) n table read-words)
+    words-printable = (held.short, read-program-accepted text m n table read-words)
 
-    pub words-answered : (out : List ℕ) → of_print (print_program 2 text (take n table) out) ≡ of_reading text out (read_program text (length table))
+    pub words-answered : (out : List ℕ) → of_print (print_program 2 text (take n table) out) ≡ of_reading text out (read_program text m)
     words-answered out = sym (ap (of_reading text out) read-words)
 
-  pub reading-fails : {e : Refusal} → read ≡ Err e → (out : List ℕ) → Gives (of_reading text out (read_program text (length table))) (Err (Read e)) out
+  pub reading-fails : {e : Refusal} → read ≡ Err e → (out : List ℕ) → Gives (of_reading text out (read_program text m)) (Err (Read e)) out
   reading-fails {e} q out =
-      let o : refusal (number e.reason) e.place table ≡ read_program text (length table) = rw q at a in
-      let l = program-refused text (length table) (sym o) in
+      let o : refusal (number e.reason) e.place table ≡ read_program text m = rw q at a in
+      let l = program-refused text m (sym o) in
       record {
         answered = ap (of_reading text out) o;
-        counted = λ m q. impossible cc;
-        placed = λ x q. let z : x ≡ Read e = cc in rw z l.inside;
+        counted = λ k p. impossible cc;
+        placed = λ x p. let z : x ≡ Read e = cc in rw z l.inside;
       }
 
 -- ---- the size of the table
-
--- a table keeps its length
-pub relength : (text table : List ℕ) (n : ℕ) (r : Result ℕ Refusal) → ProgramAnswered text n r table → length table ≡ n → ProgramAnswered text (length table) r table
-relength text table n r a e = a ∙ ap (read_program text) (sym e)
 
 -- five words, and five for each of at most 512 bytes
 pub small-tidied : (text out : List ℕ) → length text ≤ 512 → of_reading text out (read_program text 2565) ≡ tidied text out

@@ -1,14 +1,13 @@
-use Rattle.std.proofs.Common.{refl, sym, ap, rules, arith, ℕ, Bool, true, false, length, ◌<◌, ◌≤◌, ◌≡◌, ◌-◌, ◌∙◌, [], ◌∷◌}
+use Rattle.std.proofs.Common.{refl, sym, ap, arith, true, false, length, ◌<◌, ◌-◌, ◌∙◌, [], ◌∷◌}
 use Rattle.lexing.specs.Bytes.{bytes}
-use Rattle.grammar.specs.Grammar.{sum, product, conjunction, disjunction, implication, explication, equivalence}
+use Rattle.grammar.specs.Grammar.{sum, conjunction, equivalence}
 use Rattle.grammar.specs.Rules.{left_tail, once_tail, parse_equiv_expr, parse_imp_exp_expr, imp_exp_tail, parse_logical_expr, logical_tail, parse_juct_expr, parse_term_expr, parse_factor_expr}
-use Rattle.grammar.specs.Rules.{after_if, after_val, after_paren, after_name, after_call, after_label, after_colon, after_quantifier, parse_parameters, parse_closure_binding, parse_marked, comma_tail}
-use Rattle.grammar.specs.Rules.{parse_nonempty_comma_delimited_seq, parse_comma_delimited_seq, parse_listed}
+use Rattle.grammar.specs.Rules.{after_if, after_val, after_paren, after_name, after_call, after_label, after_colon, after_quantifier, parse_parameters, parse_closure_binding}
+use Rattle.grammar.specs.Rules.{parse_nonempty_comma_delimited_seq}
 use Rattle.grammar.specs.Rules.{parse_primary_expr, after_lift}
 use Rattle.grammar.specs.Statements.{parse_optional_auto_invariant}
 use Rattle.grammar.specs.Declarations.{parse_proc_formal}
 use Rattle.grammar.specs.Reading.{tree_words}
-use Rattle.std.proofs.Math.Dec.{leb-zero}
 use Rattle.grammar.specs.Steps.{parse_name}
 use Rattle.grammar.specs.StepLaws.{mapped-same}
 use Rattle.parsing.specs.Contract.{word, sign, span}
@@ -17,12 +16,13 @@ use Rattle.parsing.specs.Code.{turns, inner, tighter_of, turning, over, opening,
 use Rattle.parsing.specs.Expressions.{left_rest, item_rule, item_words, items_rule, list_rule, marked_rule, name_rule, quantifier_rule, sequence_of}
 use Rattle.parsing.specs.declared.expr.seq.Kind.TheVariants.{Exprs, Bindings, Closures, Properties, Names, Formals, Parameters, Arguments}
 use Rattle.parsing.specs.declared.sign.Level.TheVariants.{Comparison, Conjunction, Implication}
-use Rattle.parsing.proofs.Laws.{reads_if_err, reads_err, after-ok, after-none, after-refused}
-use Rattle.parsing.proofs.Places.{begin, standing-more, turned, named_if, read, read_if, took, taken, skipped, named, operated, said, with_end, with_empty, one-made, two-made, three-made, ident-made, headed, paired, itemed, chosen, foured, combined, again, stood, absent, reads_if_same, read_as, tail, done}
-use Rattle.parsing.proofs.ExpressionPlaces.{over-two, sure, seen, was-seen, ends, tail_if, fails, stopped, unmet, respelt, closed}
+use Rattle.parsing.proofs.Laws.{reads_if_err, reads_err, after-none}
+use Rattle.parsing.proofs.Places.{begin, standing-more, turned, named_if, read, read_if, took, taken, skipped, named, operated, said, with_end, with_empty, one-made, two-made, three-made, ident-made, headed, paired, itemed, chosen, foured, combined, again, stood, absent, reads_if_same, read_last, as_run, refused_at, refused_last, tail, done}
+use Rattle.parsing.proofs.ExpressionPlaces.{stands-here, absent-here, over-two, sure, seen, was-seen, tail_if, stopped, closed}
 use borrow.Author.Tests.{le-leb}
-use Rattle.parsing.proofs.ExpressionRules.{universal-word, level-opens, worded-rule, wordless-rule, triggers, triggered-rule, untriggered-rule, invariant-is, argument-is}
-use Rattle.parsing.proofs.ExpressionLoops.{comma-repetition, marked-repetition, gathering, gathering-next, end-run, nil-words, signed-none, signed-bare, signed-foldable, signed-done, listed, leaning-again, waiting_rest, waiting-first, waiting-next, foldable, folded, signed-first, signed-next}
+use Rattle.parsing.proofs.Openings.{level-opens}
+use Rattle.parsing.proofs.ExpressionRules.{universal-word, worded-rule, wordless-rule, triggers, triggered-rule, untriggered-rule, invariant-is, argument-is}
+use Rattle.parsing.proofs.ExpressionLoops.{comma-repetition, marked-repetition, gathering, gathering-next, end-run, signed-none, signed-bare, signed-foldable, signed-done, listed, leaning-again, waiting_rest, waiting-first, waiting-next, foldable, folded, signed-first, signed-next}
 use Rattle.parsing.proofs.parser.Parser.+expression.Goals as goal
 
 -- ---- levels
@@ -31,13 +31,13 @@ pub expr-returns : goal.expr-returns
 unfolding parse_equiv_expr
 expr-returns t c =
     let h : 0 < c.args.depth = omega arith in
-    reads_if_same _ _ (left_chain equivalence (c.args.depth - 1)) 1 0 _ _ _ (level-opens _ _ _ h) c.chain.ensures
+    reads_if_same _ _ (left_chain equivalence (c.args.depth - 1)) 1 0 _ _ _ (ap (λ rule. rule c.args.self.now.text.now c.args.self.now.at) (level-opens _ h)) c.chain.ensures
 
 pub chain-returns : goal.chain-returns
 chain-returns t c =
     let first = rw c.in-Some.is at c.in_ok-first.ensures in
     let l = read_if _ _ _ first (begin c.requires) refl in
-    ends _ (left_rest (class_of c.args.level) c.args.depth first.value) (c.in_ok-left.ensures first.value l.stands.0) l refl refl
+    done _ (read_last (left_rest (class_of c.args.level) c.args.depth first.value) (c.in_ok-left.ensures first.value l.stands.0) l refl) refl refl
 
 pub imp-loop-sign-init : goal.imp-loop-sign-init
 unfolding parse_imp_exp_expr imp_exp_tail
@@ -75,7 +75,7 @@ unfolding parse_logical_expr logical_tail
 logic-returns-then-branch t c =
     let first = rw c.in-Some.is at c.in_ok-first.ensures in
     let l = seen (level_rule Conjunction) _ _ (was-seen (level_rule Conjunction) _ _ c.in_ok-sees.ensures c.if-branch.true) (read_if _ _ _ first (begin c.requires) refl) in
-    ends _ (left_rest conjunction c.args.depth first.value) (c.in_ok-left.ensures first.value l.stands.0) l refl refl
+    done _ (read_last (left_rest conjunction c.args.depth first.value) (c.in_ok-left.ensures first.value l.stands.0) l refl) refl refl
 
 pub juct-returns-in_default-2 : goal.juct-returns-in_default-2
 unfolding parse_juct_expr parse_term_expr once_tail
@@ -129,7 +129,7 @@ unfolding left_tail
 left-returns-in_err-operand t c = λ tree s.
     let op = rw c.in-Some.is at c.in_ok-sign.ensures in
     reads_err _ _ _ _ _ _ _ _ c.from_residual-in_err-operand.ensures.1
-    (unmet (tighter_of (class_of c.args.level) c.args.depth) _ c.in_err-operand.ensures (operated (level_rule c.args.level) _ _ op (c.loop-sign.invariant.turn tree s).place))
+    (refused_at (tighter_of (class_of c.args.level) c.args.depth) _ (operated (level_rule c.args.level) _ _ op (c.loop-sign.invariant.turn tree s).place) c.in_err-operand.ensures)
 
 pub left-returns : goal.left-returns
 unfolding left_tail
@@ -161,7 +161,7 @@ val-returns t c =
 pub paren-returns-then-branch : goal.paren-returns-then-branch
 unfolding after_paren
 paren-returns-then-branch t c =
-    done _ (took _ _ c.in_ok-need_sym.ensures (read _ _ c.in_ok-e.ensures (taken _ _ _ (stood (sign (bytes "(")) 1 _ _ c.in_ok-sym.ensures c.if-branch.true)
+    done _ (took _ _ c.in_ok-need_sym.ensures (read _ _ c.in_ok-e.ensures (stands-here (sign (bytes "(")) 1 _ _ c.in_ok-sym.ensures c.if-branch.true
     (begin c.requires)) refl)) refl refl
 
 pub logic-returns-in_err-left : goal.logic-returns-in_err-left
@@ -169,7 +169,7 @@ unfolding parse_logical_expr logical_tail
 logic-returns-in_err-left t c =
     let first = rw c.in-Some.is at c.in_ok-first.ensures in
     let l = seen (level_rule Conjunction) _ _ (was-seen (level_rule Conjunction) _ _ c.in_ok-sees.ensures c.if-branch.true) (read_if _ _ _ first (begin c.requires) refl) in
-    reads_if_err _ _ _ _ _ _ _ _ c.from_residual-in_err-left.ensures.1 (fails (left_rest conjunction c.args.depth first.value) (c.in_err-left.ensures first.value l.stands.0) l)
+    reads_if_err _ _ _ _ _ _ _ _ c.from_residual-in_err-left.ensures.1 (refused_last (left_rest conjunction c.args.depth first.value) l (c.in_err-left.ensures first.value l.stands.0))
 
 pub unary-returns-then-link-eq-EMPTY : goal.unary-returns-then-link-eq-EMPTY
 unary-returns-then-link-eq-EMPTY t c =
@@ -188,27 +188,27 @@ unary-returns t c =
 pub val-returns-in_err-body : goal.val-returns-in_err-body
 unfolding after_val
 val-returns-in_err-body t c =
-    reads_err _ _ _ _ _ _ _ _ c.from_residual-in_err-body.ensures.1 (unmet (inner c.args.depth) _ c.in_err-body.ensures (read _ _ c.in_ok-rhs.ensures (took _ _ c.in_ok-need_sym.ensures
-    (read _ _ (sure c.in_ok-typ.ensures) (three-made c.push-head.ensures (named _ _ c.in_ok-name.ensures (begin c.requires)) refl) refl)) refl))
+    reads_err _ _ _ _ _ _ _ _ c.from_residual-in_err-body.ensures.1 (refused_at (inner c.args.depth) _ (read _ _ c.in_ok-rhs.ensures (took _ _ c.in_ok-need_sym.ensures
+    (read _ _ (sure c.in_ok-typ.ensures) (three-made c.push-head.ensures (named _ _ c.in_ok-name.ensures (begin c.requires)) refl) refl)) refl) c.in_err-body.ensures)
 
 pub named-returns-then-branch : goal.named-returns-then-branch
 unfolding after_name after_call
 named-returns-then-branch t c =
     done _ (paired c.pair.ensures (read _ _ (sure c.in_ok-arguments.ensures) (three-made c.push-head.ensures
-    (taken _ _ _ (stood (sign (bytes "(")) 1 _ _ c.in_ok-sym.ensures c.if-branch.true) (begin c.requires)) refl) refl) refl) refl refl
+    (stands-here (sign (bytes "(")) 1 _ _ c.in_ok-sym.ensures c.if-branch.true (begin c.requires)) refl) refl) refl) refl refl
 
 pub named-returns-then-branch-2 : goal.named-returns-then-branch-2
 unfolding after_name after_label after_colon
 named-returns-then-branch-2 t c =
     done _ (paired c.pair-then-branch-2.ensures (read _ _ c.in_ok-e.ensures (three-made c.push-head-then-branch-2.ensures
-    (taken _ _ _ (stood (sign (bytes ":")) 1 _ _ c.in_ok-sym-2.ensures c.if-branch-2.true)
-    (skipped _ _ _ (absent (sign (bytes "(")) 1 _ _ c.in_ok-sym.ensures c.if-branch.false) (begin c.requires))) refl) refl) refl) refl refl
+    (stands-here (sign (bytes ":")) 1 _ _ c.in_ok-sym-2.ensures c.if-branch-2.true
+    (absent-here (sign (bytes "(")) 1 _ _ c.in_ok-sym.ensures c.if-branch.false (begin c.requires))) refl) refl) refl) refl refl
 
 pub named-returns : goal.named-returns
 unfolding after_name after_label
 named-returns t c =
-    done _ (ident-made c.push.ensures (skipped _ _ _ (absent (sign (bytes ":")) 1 _ _ c.in_ok-sym-2.ensures c.if-branch-2.false)
-    (skipped _ _ _ (absent (sign (bytes "(")) 1 _ _ c.in_ok-sym.ensures c.if-branch.false) (begin c.requires))) refl) refl refl
+    done _ (ident-made c.push.ensures (absent-here (sign (bytes ":")) 1 _ _ c.in_ok-sym-2.ensures c.if-branch-2.false
+    (absent-here (sign (bytes "(")) 1 _ _ c.in_ok-sym.ensures c.if-branch.false (begin c.requires))) refl) refl refl
 
 -- ---- sequences
 
@@ -217,7 +217,7 @@ list-returns t c = listed c.args.kind c.args.depth _ _ c.requires.room c.in_ok-i
 
 pub params-returns : goal.params-returns
 unfolding parse_parameters
-params-returns t c = done _ (with_end (skipped _ _ _ (absent (sign (bytes "(")) 1 _ _ c.in_ok-sym.ensures c.if-branch.false) (begin c.requires))) refl refl
+params-returns t c = done _ (with_end (absent-here (sign (bytes "(")) 1 _ _ c.in_ok-sym.ensures c.if-branch.false (begin c.requires))) refl refl
 
 pub quant-returns : goal.quant-returns
 unfolding after_quantifier
@@ -253,15 +253,15 @@ param-returns-in_err-invariant t c =
 
 pub auto_invariant-returns-in_err-e : goal.auto_invariant-returns-in_err-e
 auto_invariant-returns-in_err-e t c =
-    reads_err _ _ _ _ _ _ _ _ c.from_residual-in_err-e.ensures.1 (unmet (inner c.args.depth) _ c.in_err-e.ensures (taken (word (bytes "autoinv")) _ _ (stood (word (bytes "autoinv")) 7 _ _ c.in_ok-keyword.ensures c.if-branch.true) (said (invariant-is _ _ _) (begin c.requires))))
+    reads_err _ _ _ _ _ _ _ _ c.from_residual-in_err-e.ensures.1 (refused_at (inner c.args.depth) _ (stands-here (word (bytes "autoinv")) 7 _ _ c.in_ok-keyword.ensures c.if-branch.true (said (invariant-is _ _ _) (begin c.requires))) c.in_err-e.ensures)
 
 pub auto_invariant-returns-then-branch : goal.auto_invariant-returns-then-branch
 auto_invariant-returns-then-branch t c =
-    done _ (headed c.push.ensures (read (inner c.args.depth) _ c.in_ok-e.ensures (taken (word (bytes "autoinv")) _ _ (stood (word (bytes "autoinv")) 7 _ _ c.in_ok-keyword.ensures c.if-branch.true) (said (invariant-is _ _ _) (begin c.requires))) refl) refl) refl refl
+    done _ (headed c.push.ensures (read (inner c.args.depth) _ c.in_ok-e.ensures (stands-here (word (bytes "autoinv")) 7 _ _ c.in_ok-keyword.ensures c.if-branch.true (said (invariant-is _ _ _) (begin c.requires))) refl) refl) refl refl
 
 pub auto_invariant-returns : goal.auto_invariant-returns
 auto_invariant-returns t c =
-    done _ (with_end (skipped (word (bytes "autoinv")) _ _ (absent (word (bytes "autoinv")) 7 _ _ c.in_ok-keyword.ensures c.if-branch.false) (said (invariant-is _ _ _) (begin c.requires)))) refl refl
+    done _ (with_end (absent-here (word (bytes "autoinv")) 7 _ _ c.in_ok-keyword.ensures c.if-branch.false (said (invariant-is _ _ _) (begin c.requires)))) refl refl
 
 pub arg-returns-in-Some : goal.arg-returns-in-Some
 arg-returns-in-Some t c = done _ (read_if reference_argument _ _ (rw c.in-Some.is at c.in_ok-named.ensures) (said (argument-is _ _ _) (begin c.requires)) refl) refl refl
@@ -335,12 +335,12 @@ items-returns t c =
     let g = c.loop-at.invariant in
     let o = comma-repetition text k (item_rule k c.args.depth text) in
     let no = absent (sign (bytes ",")) 1 _ _ c.in_ok-sym.ensures c.if-branch.false in
-    done _ (respelt (end-run _ _ _ _ _ _ _ o g) (closed c.close.ensures (skipped (sign (bytes ",")) _ _ no g.place) g.closable)) refl refl
+    done _ (as_run (end-run _ _ _ _ _ _ _ o g) (closed c.close.ensures (skipped (sign (bytes ",")) _ _ no g.place) g.closable)) refl refl
 
 pub marks-loop-self-init : goal.marks-loop-self-init
 marks-loop-self-init t c =
     let text = c.args.self.now.text.now in
-    let o = marked-repetition text (turns text) (inner c.args.depth text) _ in
+    let o = marked-repetition text (turns text) (inner c.args.depth text) c.args.bytes.now in
     gathering _ _ _ _ _ _ _ o (λ r. r) (λ l. l) _ 0 (λ l r. refl) (omega arith) (λ f. absurd (f refl)) (omega arith)
     (said (sym (mapped-same _)) (with_empty (begin c.requires.room)))
 
@@ -348,19 +348,19 @@ pub marks-loop-self-preserved : goal.marks-loop-self-preserved
 marks-loop-self-preserved t c =
     let text = c.args.self.now.text.now in
     let g = c.loop-self.invariant in
-    let o = marked-repetition text (turns text) (inner c.args.depth text) _ in
-    let mark = stood (word _) _ _ _ c.in_ok-keyword.ensures c.if-branch.true in
+    let o = marked-repetition text (turns text) (inner c.args.depth text) c.args.bytes.now in
+    let mark = stood (word c.args.bytes.now) _ _ _ c.in_ok-keyword.ensures c.if-branch.true in
     let es = c.in_ok-es.ensures in
-    let l = itemed c.push-list.ensures (read (items_rule Exprs c.args.depth) _ es (taken (word _) _ _ mark g.place) (le-leb _ _ (omega (arith, c.requires.in_bounds)))) (le-leb _ _ (omega (arith, c.requires.in_bounds))) in
+    let l = itemed c.push-list.ensures (read (items_rule Exprs c.args.depth) _ es (taken (word c.args.bytes.now) _ _ mark g.place) (le-leb _ _ (omega (arith, c.requires.in_bounds)))) (le-leb _ _ (omega (arith, c.requires.in_bounds))) in
     gathering-next _ _ _ _ _ _ _ o g es.value l (omega arith) (omega arith) (λ f. omega (arith, c.requires.in_bounds)) (omega (arith, g.enough, mark.went.onward, es.went.onward, c.requires.in_bounds))
 
 pub marks-returns : goal.marks-returns
 marks-returns t c =
     let text = c.args.self.now.text.now in
     let g = c.loop-self.invariant in
-    let o = marked-repetition text (turns text) (inner c.args.depth text) _ in
-    let no = absent (word _) _ _ _ c.in_ok-keyword.ensures c.if-branch.false in
-    done _ (respelt (end-run _ _ _ _ _ _ _ o g) (closed c.close.ensures (skipped (word _) _ _ no g.place) g.closable)) refl refl
+    let o = marked-repetition text (turns text) (inner c.args.depth text) c.args.bytes.now in
+    let no = absent (word c.args.bytes.now) _ _ _ c.in_ok-keyword.ensures c.if-branch.false in
+    done _ (as_run (end-run _ _ _ _ _ _ _ o g) (closed c.close.ensures (skipped (word c.args.bytes.now) _ _ no g.place) g.closable)) refl refl
 
 pub primary-returns-in_err-literal : goal.primary-returns-in_err-literal
 primary-returns-in_err-literal t c =
@@ -387,8 +387,8 @@ prop-returns-then-word_is t c =
 pub prop-returns-in_err-body : goal.prop-returns-in_err-body
 prop-returns-in_err-body t c =
     let h = triggers c.args.self.now.text.now c.args.self.now.at c.word_ahead.ensures.measured c.word_is.ensures c.if-word_is.true in
-    reads_if_err _ _ _ _ _ _ _ _ c.from_residual-in_err-body.ensures.1 (unmet (inner c.args.depth) _ c.in_err-body.ensures (read_if (marked_rule (bytes "trigger") c.args.depth) _ _ c.in_ok-triggers.ensures
-    (said (triggered-rule _ _ _ _ h) (begin c.requires)) refl))
+    reads_if_err _ _ _ _ _ _ _ _ c.from_residual-in_err-body.ensures.1 (refused_at (inner c.args.depth) _ (read_if (marked_rule (bytes "trigger") c.args.depth) _ _ c.in_ok-triggers.ensures
+    (said (triggered-rule _ _ _ _ h) (begin c.requires)) refl) c.in_err-body.ensures)
 
 pub prop-returns-in_err-body-2 : goal.prop-returns-in_err-body-2
 prop-returns-in_err-body-2 t c =
@@ -414,102 +414,102 @@ worded-returns-in_err-keyword_of t c =
 pub worded-returns-then-branch : goal.worded-returns-then-branch
 worded-returns-then-branch t c =
     tail tree_words _ (over after_if c.args.depth) 1 0 1 0 _ _ c.cond.ensures
-    (taken (word (bytes "if")) _ _ (stood (word (bytes "if")) 2 _ _ c.in_ok-keyword_of.ensures c.if-branch.true)
+    (stands-here (word (bytes "if")) 2 _ _ c.in_ok-keyword_of.ensures c.if-branch.true
     (said (worded-rule _ _ (omega (arith, c.requires.spelt.measured, c.requires.filled)) _ _) (begin c.requires.ready))) refl refl refl
 
 pub worded-returns-in_err-keyword_of-2 : goal.worded-returns-in_err-keyword_of-2
 worded-returns-in_err-keyword_of-2 t c =
     reads_err _ _ _ _ _ _ _ _ c.from_residual-in_err-keyword_of-2.ensures.1 (stopped (word (bytes "val")) _ _ c.in_err-keyword_of-2.ensures
-    (skipped (word (bytes "if")) _ _ (absent (word (bytes "if")) 2 _ _ c.in_ok-keyword_of.ensures c.if-branch.false)
+    (absent-here (word (bytes "if")) 2 _ _ c.in_ok-keyword_of.ensures c.if-branch.false
     (said (worded-rule _ _ (omega (arith, c.requires.spelt.measured, c.requires.filled)) _ _) (begin c.requires.ready))))
 
 pub worded-returns-then-branch-2 : goal.worded-returns-then-branch-2
 worded-returns-then-branch-2 t c =
     tail tree_words _ (over after_val c.args.depth) 1 0 1 0 _ _ c.val.ensures
-    (taken (word (bytes "val")) _ _ (stood (word (bytes "val")) 3 _ _ c.in_ok-keyword_of-2.ensures c.if-branch-2.true)
-    (skipped (word (bytes "if")) _ _ (absent (word (bytes "if")) 2 _ _ c.in_ok-keyword_of.ensures c.if-branch.false)
+    (stands-here (word (bytes "val")) 3 _ _ c.in_ok-keyword_of-2.ensures c.if-branch-2.true
+    (absent-here (word (bytes "if")) 2 _ _ c.in_ok-keyword_of.ensures c.if-branch.false
     (said (worded-rule _ _ (omega (arith, c.requires.spelt.measured, c.requires.filled)) _ _) (begin c.requires.ready)))) refl refl refl
 
 pub worded-returns-in_err-keyword_of-3 : goal.worded-returns-in_err-keyword_of-3
 worded-returns-in_err-keyword_of-3 t c =
     reads_err _ _ _ _ _ _ _ _ c.from_residual-in_err-keyword_of-3.ensures.1 (stopped (word (bytes "forall")) _ _ c.in_err-keyword_of-3.ensures
-    (skipped (word (bytes "val")) _ _ (absent (word (bytes "val")) 3 _ _ c.in_ok-keyword_of-2.ensures c.if-branch-2.false)
-    (skipped (word (bytes "if")) _ _ (absent (word (bytes "if")) 2 _ _ c.in_ok-keyword_of.ensures c.if-branch.false)
+    (absent-here (word (bytes "val")) 3 _ _ c.in_ok-keyword_of-2.ensures c.if-branch-2.false
+    (absent-here (word (bytes "if")) 2 _ _ c.in_ok-keyword_of.ensures c.if-branch.false
     (said (worded-rule _ _ (omega (arith, c.requires.spelt.measured, c.requires.filled)) _ _) (begin c.requires.ready)))))
 
 pub worded-returns-then-branch-3 : goal.worded-returns-then-branch-3
 worded-returns-then-branch-3 t c =
     tail tree_words _ (quantifier_rule true c.args.depth) 1 0 1 7 _ _ c.quant.ensures
-    (taken (word (bytes "forall")) _ _ (stood (word (bytes "forall")) 6 _ _ c.in_ok-keyword_of-3.ensures c.if-branch-3.true)
-    (skipped (word (bytes "val")) _ _ (absent (word (bytes "val")) 3 _ _ c.in_ok-keyword_of-2.ensures c.if-branch-2.false)
-    (skipped (word (bytes "if")) _ _ (absent (word (bytes "if")) 2 _ _ c.in_ok-keyword_of.ensures c.if-branch.false)
+    (stands-here (word (bytes "forall")) 6 _ _ c.in_ok-keyword_of-3.ensures c.if-branch-3.true
+    (absent-here (word (bytes "val")) 3 _ _ c.in_ok-keyword_of-2.ensures c.if-branch-2.false
+    (absent-here (word (bytes "if")) 2 _ _ c.in_ok-keyword_of.ensures c.if-branch.false
     (said (worded-rule _ _ (omega (arith, c.requires.spelt.measured, c.requires.filled)) _ _) (begin c.requires.ready))))) refl refl refl
 
 pub worded-returns-in_err-keyword_of-4 : goal.worded-returns-in_err-keyword_of-4
 worded-returns-in_err-keyword_of-4 t c =
     reads_err _ _ _ _ _ _ _ _ c.from_residual-in_err-keyword_of-4.ensures.1 (stopped (word (bytes "exists")) _ _ c.in_err-keyword_of-4.ensures
-    (skipped (word (bytes "forall")) _ _ (absent (word (bytes "forall")) 6 _ _ c.in_ok-keyword_of-3.ensures c.if-branch-3.false)
-    (skipped (word (bytes "val")) _ _ (absent (word (bytes "val")) 3 _ _ c.in_ok-keyword_of-2.ensures c.if-branch-2.false)
-    (skipped (word (bytes "if")) _ _ (absent (word (bytes "if")) 2 _ _ c.in_ok-keyword_of.ensures c.if-branch.false)
+    (absent-here (word (bytes "forall")) 6 _ _ c.in_ok-keyword_of-3.ensures c.if-branch-3.false
+    (absent-here (word (bytes "val")) 3 _ _ c.in_ok-keyword_of-2.ensures c.if-branch-2.false
+    (absent-here (word (bytes "if")) 2 _ _ c.in_ok-keyword_of.ensures c.if-branch.false
     (said (worded-rule _ _ (omega (arith, c.requires.spelt.measured, c.requires.filled)) _ _) (begin c.requires.ready))))))
 
 pub worded-returns-then-branch-4 : goal.worded-returns-then-branch-4
 worded-returns-then-branch-4 t c =
     tail tree_words _ (quantifier_rule false c.args.depth) 1 0 1 7 _ _ c.quant-then-branch-4.ensures
-    (taken (word (bytes "exists")) _ _ (stood (word (bytes "exists")) 6 _ _ c.in_ok-keyword_of-4.ensures c.if-branch-4.true)
-    (skipped (word (bytes "forall")) _ _ (absent (word (bytes "forall")) 6 _ _ c.in_ok-keyword_of-3.ensures c.if-branch-3.false)
-    (skipped (word (bytes "val")) _ _ (absent (word (bytes "val")) 3 _ _ c.in_ok-keyword_of-2.ensures c.if-branch-2.false)
-    (skipped (word (bytes "if")) _ _ (absent (word (bytes "if")) 2 _ _ c.in_ok-keyword_of.ensures c.if-branch.false)
+    (stands-here (word (bytes "exists")) 6 _ _ c.in_ok-keyword_of-4.ensures c.if-branch-4.true
+    (absent-here (word (bytes "forall")) 6 _ _ c.in_ok-keyword_of-3.ensures c.if-branch-3.false
+    (absent-here (word (bytes "val")) 3 _ _ c.in_ok-keyword_of-2.ensures c.if-branch-2.false
+    (absent-here (word (bytes "if")) 2 _ _ c.in_ok-keyword_of.ensures c.if-branch.false
     (said (worded-rule _ _ (omega (arith, c.requires.spelt.measured, c.requires.filled)) _ _) (begin c.requires.ready)))))) refl refl refl
 
 pub worded-returns-in_err-keyword_of-5 : goal.worded-returns-in_err-keyword_of-5
 worded-returns-in_err-keyword_of-5 t c =
     reads_err _ _ _ _ _ _ _ _ c.from_residual-in_err-keyword_of-5.ensures.1 (stopped (word (bytes "lift")) _ _ c.in_err-keyword_of-5.ensures
-    (skipped (word (bytes "exists")) _ _ (absent (word (bytes "exists")) 6 _ _ c.in_ok-keyword_of-4.ensures c.if-branch-4.false)
-    (skipped (word (bytes "forall")) _ _ (absent (word (bytes "forall")) 6 _ _ c.in_ok-keyword_of-3.ensures c.if-branch-3.false)
-    (skipped (word (bytes "val")) _ _ (absent (word (bytes "val")) 3 _ _ c.in_ok-keyword_of-2.ensures c.if-branch-2.false)
-    (skipped (word (bytes "if")) _ _ (absent (word (bytes "if")) 2 _ _ c.in_ok-keyword_of.ensures c.if-branch.false)
+    (absent-here (word (bytes "exists")) 6 _ _ c.in_ok-keyword_of-4.ensures c.if-branch-4.false
+    (absent-here (word (bytes "forall")) 6 _ _ c.in_ok-keyword_of-3.ensures c.if-branch-3.false
+    (absent-here (word (bytes "val")) 3 _ _ c.in_ok-keyword_of-2.ensures c.if-branch-2.false
+    (absent-here (word (bytes "if")) 2 _ _ c.in_ok-keyword_of.ensures c.if-branch.false
     (said (worded-rule _ _ (omega (arith, c.requires.spelt.measured, c.requires.filled)) _ _) (begin c.requires.ready)))))))
 
 pub worded-returns-then-branch-5 : goal.worded-returns-then-branch-5
 worded-returns-then-branch-5 t c =
     tail tree_words _ (turning after_lift c.args.depth) 1 0 1 4 _ _ c.lift.ensures
-    (taken (word (bytes "lift")) _ _ (stood (word (bytes "lift")) 4 _ _ c.in_ok-keyword_of-5.ensures c.if-branch-5.true)
-    (skipped (word (bytes "exists")) _ _ (absent (word (bytes "exists")) 6 _ _ c.in_ok-keyword_of-4.ensures c.if-branch-4.false)
-    (skipped (word (bytes "forall")) _ _ (absent (word (bytes "forall")) 6 _ _ c.in_ok-keyword_of-3.ensures c.if-branch-3.false)
-    (skipped (word (bytes "val")) _ _ (absent (word (bytes "val")) 3 _ _ c.in_ok-keyword_of-2.ensures c.if-branch-2.false)
-    (skipped (word (bytes "if")) _ _ (absent (word (bytes "if")) 2 _ _ c.in_ok-keyword_of.ensures c.if-branch.false)
+    (stands-here (word (bytes "lift")) 4 _ _ c.in_ok-keyword_of-5.ensures c.if-branch-5.true
+    (absent-here (word (bytes "exists")) 6 _ _ c.in_ok-keyword_of-4.ensures c.if-branch-4.false
+    (absent-here (word (bytes "forall")) 6 _ _ c.in_ok-keyword_of-3.ensures c.if-branch-3.false
+    (absent-here (word (bytes "val")) 3 _ _ c.in_ok-keyword_of-2.ensures c.if-branch-2.false
+    (absent-here (word (bytes "if")) 2 _ _ c.in_ok-keyword_of.ensures c.if-branch.false
     (said (worded-rule _ _ (omega (arith, c.requires.spelt.measured, c.requires.filled)) _ _) (begin c.requires.ready))))))) refl refl refl
 
 pub worded-returns-in_err-constant : goal.worded-returns-in_err-constant
 worded-returns-in_err-constant t c =
     reads_err _ _ _ _ _ _ _ _ c.from_residual-in_err-constant.ensures.1 (stopped constant_expr _ _ c.in_err-constant.ensures
-    (skipped (word (bytes "lift")) _ _ (absent (word (bytes "lift")) 4 _ _ c.in_ok-keyword_of-5.ensures c.if-branch-5.false)
-    (skipped (word (bytes "exists")) _ _ (absent (word (bytes "exists")) 6 _ _ c.in_ok-keyword_of-4.ensures c.if-branch-4.false)
-    (skipped (word (bytes "forall")) _ _ (absent (word (bytes "forall")) 6 _ _ c.in_ok-keyword_of-3.ensures c.if-branch-3.false)
-    (skipped (word (bytes "val")) _ _ (absent (word (bytes "val")) 3 _ _ c.in_ok-keyword_of-2.ensures c.if-branch-2.false)
-    (skipped (word (bytes "if")) _ _ (absent (word (bytes "if")) 2 _ _ c.in_ok-keyword_of.ensures c.if-branch.false)
+    (absent-here (word (bytes "lift")) 4 _ _ c.in_ok-keyword_of-5.ensures c.if-branch-5.false
+    (absent-here (word (bytes "exists")) 6 _ _ c.in_ok-keyword_of-4.ensures c.if-branch-4.false
+    (absent-here (word (bytes "forall")) 6 _ _ c.in_ok-keyword_of-3.ensures c.if-branch-3.false
+    (absent-here (word (bytes "val")) 3 _ _ c.in_ok-keyword_of-2.ensures c.if-branch-2.false
+    (absent-here (word (bytes "if")) 2 _ _ c.in_ok-keyword_of.ensures c.if-branch.false
     (said (worded-rule _ _ (omega (arith, c.requires.spelt.measured, c.requires.filled)) _ _) (begin c.requires.ready))))))))
 
 pub worded-returns-in-Some : goal.worded-returns-in-Some
 worded-returns-in-Some t c =
     done _ (read_if constant_expr _ _ (rw c.in-Some.is at c.in_ok-constant.ensures)
-    (skipped (word (bytes "lift")) _ _ (absent (word (bytes "lift")) 4 _ _ c.in_ok-keyword_of-5.ensures c.if-branch-5.false)
-    (skipped (word (bytes "exists")) _ _ (absent (word (bytes "exists")) 6 _ _ c.in_ok-keyword_of-4.ensures c.if-branch-4.false)
-    (skipped (word (bytes "forall")) _ _ (absent (word (bytes "forall")) 6 _ _ c.in_ok-keyword_of-3.ensures c.if-branch-3.false)
-    (skipped (word (bytes "val")) _ _ (absent (word (bytes "val")) 3 _ _ c.in_ok-keyword_of-2.ensures c.if-branch-2.false)
-    (skipped (word (bytes "if")) _ _ (absent (word (bytes "if")) 2 _ _ c.in_ok-keyword_of.ensures c.if-branch.false)
+    (absent-here (word (bytes "lift")) 4 _ _ c.in_ok-keyword_of-5.ensures c.if-branch-5.false
+    (absent-here (word (bytes "exists")) 6 _ _ c.in_ok-keyword_of-4.ensures c.if-branch-4.false
+    (absent-here (word (bytes "forall")) 6 _ _ c.in_ok-keyword_of-3.ensures c.if-branch-3.false
+    (absent-here (word (bytes "val")) 3 _ _ c.in_ok-keyword_of-2.ensures c.if-branch-2.false
+    (absent-here (word (bytes "if")) 2 _ _ c.in_ok-keyword_of.ensures c.if-branch.false
     (said (worded-rule _ _ (omega (arith, c.requires.spelt.measured, c.requires.filled)) _ _) (begin c.requires.ready))))))) refl) refl refl
 
 pub worded-returns-in_err-name : goal.worded-returns-in_err-name
 worded-returns-in_err-name t c =
     reads_err _ _ _ _ _ _ _ _ c.from_residual-in_err-name.ensures.1 (stopped parse_name _ _ c.in_err-name.ensures
     (skipped constant_expr _ _ (rw c.in_default.is at c.in_ok-constant.ensures)
-    (skipped (word (bytes "lift")) _ _ (absent (word (bytes "lift")) 4 _ _ c.in_ok-keyword_of-5.ensures c.if-branch-5.false)
-    (skipped (word (bytes "exists")) _ _ (absent (word (bytes "exists")) 6 _ _ c.in_ok-keyword_of-4.ensures c.if-branch-4.false)
-    (skipped (word (bytes "forall")) _ _ (absent (word (bytes "forall")) 6 _ _ c.in_ok-keyword_of-3.ensures c.if-branch-3.false)
-    (skipped (word (bytes "val")) _ _ (absent (word (bytes "val")) 3 _ _ c.in_ok-keyword_of-2.ensures c.if-branch-2.false)
-    (skipped (word (bytes "if")) _ _ (absent (word (bytes "if")) 2 _ _ c.in_ok-keyword_of.ensures c.if-branch.false)
+    (absent-here (word (bytes "lift")) 4 _ _ c.in_ok-keyword_of-5.ensures c.if-branch-5.false
+    (absent-here (word (bytes "exists")) 6 _ _ c.in_ok-keyword_of-4.ensures c.if-branch-4.false
+    (absent-here (word (bytes "forall")) 6 _ _ c.in_ok-keyword_of-3.ensures c.if-branch-3.false
+    (absent-here (word (bytes "val")) 3 _ _ c.in_ok-keyword_of-2.ensures c.if-branch-2.false
+    (absent-here (word (bytes "if")) 2 _ _ c.in_ok-keyword_of.ensures c.if-branch.false
     (said (worded-rule _ _ (omega (arith, c.requires.spelt.measured, c.requires.filled)) _ _) (begin c.requires.ready)))))))))
 
 pub worded-returns : goal.worded-returns
@@ -517,18 +517,18 @@ worded-returns t c =
     tail tree_words _ (name_rule (span c.in_ok-name.name) c.args.depth) 1 0 0 2 _ _ c.named.ensures
     (named_if parse_name _ _ c.in_ok-name.ensures.named
     (skipped constant_expr _ _ (rw c.in_default.is at c.in_ok-constant.ensures)
-    (skipped (word (bytes "lift")) _ _ (absent (word (bytes "lift")) 4 _ _ c.in_ok-keyword_of-5.ensures c.if-branch-5.false)
-    (skipped (word (bytes "exists")) _ _ (absent (word (bytes "exists")) 6 _ _ c.in_ok-keyword_of-4.ensures c.if-branch-4.false)
-    (skipped (word (bytes "forall")) _ _ (absent (word (bytes "forall")) 6 _ _ c.in_ok-keyword_of-3.ensures c.if-branch-3.false)
-    (skipped (word (bytes "val")) _ _ (absent (word (bytes "val")) 3 _ _ c.in_ok-keyword_of-2.ensures c.if-branch-2.false)
-    (skipped (word (bytes "if")) _ _ (absent (word (bytes "if")) 2 _ _ c.in_ok-keyword_of.ensures c.if-branch.false)
+    (absent-here (word (bytes "lift")) 4 _ _ c.in_ok-keyword_of-5.ensures c.if-branch-5.false
+    (absent-here (word (bytes "exists")) 6 _ _ c.in_ok-keyword_of-4.ensures c.if-branch-4.false
+    (absent-here (word (bytes "forall")) 6 _ _ c.in_ok-keyword_of-3.ensures c.if-branch-3.false
+    (absent-here (word (bytes "val")) 3 _ _ c.in_ok-keyword_of-2.ensures c.if-branch-2.false
+    (absent-here (word (bytes "if")) 2 _ _ c.in_ok-keyword_of.ensures c.if-branch.false
     (said (worded-rule _ _ (omega (arith, c.requires.spelt.measured, c.requires.filled)) _ _) (begin c.requires.ready))))))))) refl refl refl
 
 pub bind-returns-in_err-rhs : goal.bind-returns-in_err-rhs
 unfolding parse_closure_binding
 bind-returns-in_err-rhs t c =
-    reads_if_err _ _ _ _ _ _ _ _ c.from_residual-in_err-rhs.ensures.1 (unmet (inner c.args.depth) _ c.in_err-rhs.ensures (paired c.pair-head.ensures (took _ _ c.in_ok-need_sym.ensures
-    (read _ _ (sure c.in_ok-parameters.ensures) (two-made c.push-name.ensures (named_if _ _ _ (rw c.in-Some.is at c.in_ok-bound.ensures) (begin c.requires)) refl) refl)) refl))
+    reads_if_err _ _ _ _ _ _ _ _ c.from_residual-in_err-rhs.ensures.1 (refused_at (inner c.args.depth) _ (paired c.pair-head.ensures (took _ _ c.in_ok-need_sym.ensures
+    (read _ _ (sure c.in_ok-parameters.ensures) (two-made c.push-name.ensures (named_if _ _ _ (rw c.in-Some.is at c.in_ok-bound.ensures) (begin c.requires)) refl) refl)) refl) c.in_err-rhs.ensures)
 
 pub lift-returns-in_err-properties : goal.lift-returns-in_err-properties
 unfolding after_lift

@@ -5,7 +5,6 @@ use Rattle.parsing.specs.declared.sign.Level.{Level}
 use Rattle.parsing.specs.declared.sign.Level.TheVariants.{Product, Sum, Comparison, Conjunction, Disjunction, Implication, Explication, Equivalence}
 use Rattle.parsing.specs.declared.expr.seq.Kind.{Kind}
 use Rattle.parsing.specs.declared.expr.seq.Kind.TheVariants.{Exprs, Bindings, Closures, Properties, Names, Formals, Parameters, Arguments}
-use Rattle.lexing.specs.Bytes.{bytes}
 use Rattle.grammar.specs.Steps.{Sym, keyword_at}
 use Rattle.grammar.specs.Rules.{exprs, comma_tail, parse_nonempty_comma_delimited_seq, parse_marked}
 use Rattle.tree.specs.Ast.{pattern, no_patterns}
