@@ -29,9 +29,9 @@ pub const MOST_WORDS: usize = 16384;
 pub const MOST_TEXT: usize = 32768;
 
 // The numbers of a print's refusals: text, words or start indent are past their limits; the words aren't one tree over the text.
-pub const OVERSIZED: u64 = 6;
+const OVERSIZED: u64 = 6;
 
-pub const MISFITTING: u64 = 7;
+const MISFITTING: u64 = 7;
 
 // Why a table is refused.
 #[derive(Clone, Copy, PartialEq, Eq, Debug)]

@@ -22,36 +22,6 @@ pub const OUT: u32 = 3;
 // Operator.
 pub const IF_THEN_ELSE: u32 = 1;
 
-pub const EQUIV: u32 = 2;
-
-pub const LOGICAL_IMP: u32 = 3;
-
-pub const LOGICAL_AND: u32 = 4;
-
-pub const LOGICAL_OR: u32 = 5;
-
-pub const EQ: u32 = 6;
-
-pub const NEQ: u32 = 7;
-
-pub const LESS: u32 = 8;
-
-pub const AT_MOST: u32 = 9;
-
-pub const PLUS: u32 = 10;
-
-pub const MINUS: u32 = 11;
-
-pub const TIMES: u32 = 12;
-
-pub const DIV: u32 = 13;
-
-pub const MOD: u32 = 14;
-
-pub const LOGICAL_NOT: u32 = 15;
-
-pub const UNARY_MINUS: u32 = 16;
-
 // Expr.
 pub const B_LITERAL: u32 = 1;
 

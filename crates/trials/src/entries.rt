@@ -63,9 +63,7 @@ fn once(run: Run, text: &[u8], table: &mut [u32], out: &mut [u8]) -> Result<Made
     match run.entry {
         b'r' => Ok(Made::Words(read_expression(text, table)?)),
         b'R' => Ok(Made::Words(read_program(text, table)?)),
-        b'm' => Ok(Made::Bytes(print_expression_lines(
-            text, table, run.indent, out,
-        )?)),
+        b'm' => Ok(Made::Bytes(print_expression_lines(text, table, run.indent, out)?)),
         b'P' => Ok(Made::Bytes(print_program(text, table, out)?)),
         _ => Ok(Made::Bytes(print_expression(text, table, out)?)),
     }
