@@ -7,7 +7,7 @@ use crate::expr::seq::Kind;
 use crate::parser::{Name, Parser, unusable};
 use crate::sign::Level;
 use lexing::refusal::Refusal;
-use tree::word::{FALSE, FUNCTION_CALL_EXPR, LABELED_EXPR, LET_EXPR};
+use tree::word::{ExprTag, FALSE};
 
 // The levels.
 impl<'a> Parser<'a> {
@@ -268,12 +268,12 @@ impl<'a> Parser<'a> {
         ensures { Reads tree_words (name_rule (span n) depth) 0 2 self.old self.new result }
     {
         if self.sym(b"(")? {
-            let head = self.push(Node::Three(FUNCTION_CALL_EXPR, n.start, n.len));
+            let head = self.push(Node::Three(ExprTag::FunctionCallExpr as u32, n.start, n.len));
             let arguments = self.list(Kind::Exprs, b")", depth)?;
             return Ok(self.pair(head, arguments));
         }
         if self.sym(b":")? {
-            let head = self.push(Node::Three(LABELED_EXPR, n.start, n.len));
+            let head = self.push(Node::Three(ExprTag::LabeledExpr as u32, n.start, n.len));
             let e = self.need_expr(depth)?;
             return Ok(self.pair(head, e));
         }
@@ -302,7 +302,7 @@ impl<'a> Parser<'a> {
         ensures { Reads tree_words (over after_val depth) 1 0 self.old self.new result }
     {
         let name = self.need_name()?;
-        let head = self.push(Node::Three(LET_EXPR, name.start, name.len));
+        let head = self.push(Node::Three(ExprTag::LetExpr as u32, name.start, name.len));
         let typ = self.optional_type()?;
         self.need_sym(b":=")?;
         let rhs = self.need_expr(depth)?;

@@ -12,7 +12,7 @@ ghost use Rattle.parsing.specs.Contract.{Ready, Reads, Reads_if, Spelt, needed, 
 use crate::arena::{END, Node};
 use crate::parser::{Parser, unusable};
 use lexing::refusal::{Reason, Refusal};
-use tree::word::{B_LITERAL, CUSTOM_LITERAL, FALSE, I_LITERAL, IN, IN_OUT, MORE, Mode, OUT, TRUE};
+use tree::word::{ExprTag, FALSE, MORE, Mode, TRUE};
 
 // Names and their types.
 impl<'a> Parser<'a> {
@@ -127,12 +127,12 @@ impl<'a> Parser<'a> {
         ensures { Reads_if moded_words parse_moded 1 0 self.old self.new result }
     {
         if self.keyword(b"inout")? {
-            return Ok(Some(self.need_marked_type(IN_OUT)?));
+            return Ok(Some(self.need_marked_type(Mode::InOut as u32)?));
         }
         if self.keyword(b"out")? {
-            return Ok(Some(self.need_marked_type(OUT)?));
+            return Ok(Some(self.need_marked_type(Mode::Out as u32)?));
         }
-        self.marked_type(IN)
+        self.marked_type(Mode::In as u32)
     }
 
     // `out` or `inout` and a name.
@@ -173,7 +173,7 @@ impl<'a> Parser<'a> {
         if let Some(value) = self.natural()? {
             let high = (value / 4294967296) as u32;
             let low = (value % 4294967296) as u32;
-            return Ok(Some(self.push(Node::Three(I_LITERAL, high, low))));
+            return Ok(Some(self.push(Node::Three(ExprTag::ILiteral as u32, high, low))));
         }
         self.custom()
     }
@@ -197,7 +197,7 @@ impl<'a> Parser<'a> {
         ensures { Reads tree_words after_bar 1 0 self.old self.new result }
     {
         let text = self.need_literal_text()?;
-        let value = self.push(Node::Three(CUSTOM_LITERAL, text.start, text.len));
+        let value = self.push(Node::Three(ExprTag::CustomLiteral as u32, text.start, text.len));
         self.need_sym(b":")?;
         let typ = self.need_identifier()?;
         self.need_sym(b"|")?;
@@ -212,10 +212,10 @@ impl<'a> Parser<'a> {
         ensures { Reads_if tree_words constant_expr 1 0 self.old self.new result }
     {
         if self.keyword_of(len, b"false")? {
-            return Ok(Some(self.push(Node::Two(B_LITERAL, FALSE))));
+            return Ok(Some(self.push(Node::Two(ExprTag::BLiteral as u32, FALSE))));
         }
         if self.keyword_of(len, b"true")? {
-            return Ok(Some(self.push(Node::Two(B_LITERAL, TRUE))));
+            return Ok(Some(self.push(Node::Two(ExprTag::BLiteral as u32, TRUE))));
         }
         if self.keyword_of(len, b"old")? {
             return Ok(Some(self.old()?));

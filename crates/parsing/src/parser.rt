@@ -13,7 +13,7 @@ use crate::arena::{END, Node};
 use crate::sign::Sign;
 use lexing::Lexed;
 use lexing::refusal::{Reason, Refusal};
-use tree::word::{IF_THEN_ELSE, OPERATOR_EXPR};
+use tree::word::{ExprTag, Operator};
 
 // The text and the place that was come to, the arena and the number of its nodes.
 #[derive(Drop)]
@@ -67,7 +67,7 @@ impl<'a> Parser<'a> {
         requires { Ready self.old 5 }
         ensures { Chosen guard thn els self.old self.new result }
     {
-        let head = self.push(Node::Two(OPERATOR_EXPR, IF_THEN_ELSE));
+        let head = self.push(Node::Two(ExprTag::OperatorExpr as u32, Operator::IfThenElse as u32));
         let first = self.push(Node::Item(head, guard));
         let second = self.push(Node::Item(first, thn));
         let third = self.push(Node::Item(second, els));

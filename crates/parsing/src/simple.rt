@@ -15,9 +15,7 @@ use crate::expr::seq::Kind;
 use crate::lead::{Lead, Simple};
 use crate::parser::{Name, Parser};
 use lexing::refusal::{Reason, Refusal};
-use tree::word::{
-    ASSERT, ASSIGN, ASSUME, CALL, CHECK, EXIT, MORE, NO_MORE, PROBE, REACH, REINIT, RETURN,
-};
+use tree::word::{MORE, NO_MORE, StmtTag};
 
 impl<'a> Parser<'a> {
     // The word `tag` and an expression, which must follow.
@@ -59,12 +57,12 @@ impl<'a> Parser<'a> {
         match kind {
             Simple::Reinit => self.reinit(depth),
             Simple::Exit => self.exit(),
-            Simple::Return => Ok(self.push(Node::One(RETURN))),
-            Simple::Check => self.stated(CHECK, depth),
-            Simple::Assume => self.stated(ASSUME, depth),
-            Simple::Reach => self.stated(REACH, depth),
-            Simple::Assert => self.stated(ASSERT, depth),
-            Simple::Probe => self.stated(PROBE, depth),
+            Simple::Return => Ok(self.push(Node::One(StmtTag::Return as u32))),
+            Simple::Check => self.stated(StmtTag::Check as u32, depth),
+            Simple::Assume => self.stated(StmtTag::Assume as u32, depth),
+            Simple::Reach => self.stated(StmtTag::Reach as u32, depth),
+            Simple::Assert => self.stated(StmtTag::Assert as u32, depth),
+            Simple::Probe => self.stated(StmtTag::Probe as u32, depth),
         }
     }
 
@@ -74,7 +72,7 @@ impl<'a> Parser<'a> {
         ensures { Reads (stmt_words same) reinit_stmt 1 4 self.old self.new result }
     {
         let names = self.need_items(Kind::Names, depth)?;
-        Ok(self.push(Node::Headed(REINIT, names)))
+        Ok(self.push(Node::Headed(StmtTag::Reinit as u32, names)))
     }
 
     // After `exit`: the label, if a name stands here that no mark follows.
@@ -86,11 +84,11 @@ impl<'a> Parser<'a> {
         if let Some(name) = self.name()? {
             if !self.mark()? {
                 let label = self.push(Node::Three(MORE, name.start, name.len));
-                return Ok(self.push(Node::Headed(EXIT, label)));
+                return Ok(self.push(Node::Headed(StmtTag::Exit as u32, label)));
             }
             self.at = start;
         }
-        Ok(self.push(Node::Two(EXIT, NO_MORE)))
+        Ok(self.push(Node::Two(StmtTag::Exit as u32, NO_MORE)))
     }
 
     // After the name and `:=`.
@@ -98,7 +96,7 @@ impl<'a> Parser<'a> {
         requires { Ready self.old 2 }
         ensures { Reads (stmt_words same) (λ text. after_assign text (turns text) (opened depth text) (span name)) 1 2 self.old self.new result }
     {
-        let head = self.push(Node::Three(ASSIGN, name.start, name.len));
+        let head = self.push(Node::Three(StmtTag::Assign as u32, name.start, name.len));
         let e = self.need_expr(depth)?;
         Ok(self.pair(head, e))
     }
@@ -108,7 +106,7 @@ impl<'a> Parser<'a> {
         requires { Ready self.old 4 }
         ensures { Reads (stmt_words same) (λ text. after_call text (turns text) (opened depth text) (span name)) 1 3 self.old self.new result }
     {
-        let head = self.push(Node::Three(CALL, name.start, name.len));
+        let head = self.push(Node::Three(StmtTag::Call as u32, name.start, name.len));
         let arguments = self.list(Kind::Arguments, b")", depth)?;
         Ok(self.pair(head, arguments))
     }

@@ -15,7 +15,7 @@ use crate::arena::{EMPTY, Node};
 use crate::lead::Lead;
 use crate::parser::{Name, Parser, unusable};
 use lexing::refusal::{Reason, Refusal};
-use tree::word::{A_ASSERTION, A_EXPR, A_FORALL, BLOCK, LABELED_STMT, LOOP, VAR_DECL};
+use tree::word::{AExprTag, StmtTag};
 
 // What is repeated.
 #[derive(Clone, Copy, PartialEq, Eq, Debug)]
@@ -79,7 +79,7 @@ impl<'a> Parser<'a> {
         }
         let stmts = self.many(Repeated::Stmts, depth - 1)?;
         self.need_sym(b"}")?;
-        Ok(Some(self.push(Node::Headed(BLOCK, stmts))))
+        Ok(Some(self.push(Node::Headed(StmtTag::Block as u32, stmts))))
     }
 
     #[cycle(statement)]
@@ -104,7 +104,7 @@ impl<'a> Parser<'a> {
             });
         }
         let invariants = self.many(Repeated::Invariants, depth - 1)?;
-        let head = self.push(Node::Headed(LOOP, invariants));
+        let head = self.push(Node::Headed(StmtTag::Loop as u32, invariants));
         let body = self.need_block(depth - 1)?;
         Ok(self.pair(head, body))
     }
@@ -177,7 +177,7 @@ impl<'a> Parser<'a> {
         requires { Ready self.old 2 }
         ensures { Reads (stmt_words same) (λ text. after_label text (turns text) (opened depth text) (span name)) 1 2 self.old self.new result }
     {
-        let head = self.push(Node::Three(LABELED_STMT, name.start, name.len));
+        let head = self.push(Node::Three(StmtTag::LabeledStmt as u32, name.start, name.len));
         let body = self.need_scope(depth)?;
         Ok(self.pair(head, body))
     }
@@ -205,14 +205,14 @@ impl<'a> Parser<'a> {
         ensures { Reads (stmt_words same) (λ text. parse_variable_declaration text (turns text) (opened depth text) mutable) 1 6 self.old self.new result }
     {
         let name = self.need_name()?;
-        let head = self.push(Node::Three(VAR_DECL, name.start, name.len));
+        let head = self.push(Node::Three(StmtTag::VarDecl as u32, name.start, name.len));
         let typ = self.optional_type()?;
         let marked = self.push(Node::Headed(u32::from(mutable), typ));
         let inv = self.auto_invariant(depth)?;
         let init = self.init(depth)?;
         let declaration = self.four(head, marked, inv, init);
         let stmts = self.many(Repeated::Nested, depth)?;
-        let body = self.push(Node::Headed(BLOCK, stmts));
+        let body = self.push(Node::Headed(StmtTag::Block as u32, stmts));
         Ok(self.pair(declaration, body))
     }
 
@@ -223,7 +223,7 @@ impl<'a> Parser<'a> {
         ensures { Reads (stmt_words same) (opening after_forall depth) 1 2 self.old self.new result }
     {
         let binding = self.need_id_type()?;
-        let head = self.push(Node::Headed(A_FORALL, binding));
+        let head = self.push(Node::Headed(StmtTag::AForall as u32, binding));
         let body = self.need_block(depth)?;
         Ok(self.pair(head, body))
     }
@@ -239,8 +239,8 @@ impl<'a> Parser<'a> {
             return Ok(None);
         }
         if let Some(block) = self.block(depth)? {
-            return Ok(Some(self.push(Node::Headed(A_ASSERTION, block))));
+            return Ok(Some(self.push(Node::Headed(AExprTag::AAssertion as u32, block))));
         }
-        Ok(Some(self.stated(A_EXPR, depth)?))
+        Ok(Some(self.stated(AExprTag::AExpr as u32, depth)?))
     }
 }

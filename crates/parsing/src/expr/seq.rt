@@ -2,7 +2,7 @@
 use crate::arena::{EMPTY, END, Node};
 use crate::parser::{Parser, unusable};
 use lexing::refusal::Refusal;
-use tree::word::{CLOSURE_EXPR, MORE, QUANTIFIER_EXPR};
+use tree::word::{ExprTag, MORE};
 
 // The sequences that commas part.
 #[derive(Clone, Copy, PartialEq, Eq, Debug)]
@@ -120,7 +120,7 @@ impl<'a> Parser<'a> {
         requires { Ready self.old 7 }
         ensures { Reads tree_words (quantifier_rule universal depth) 1 7 self.old self.new result }
     {
-        let head = self.push(Node::Two(QUANTIFIER_EXPR, u32::from(universal)));
+        let head = self.push(Node::Two(ExprTag::QuantifierExpr as u32, u32::from(universal)));
         let bindings = self.need_items(Kind::Bindings, depth)?;
         let patterns = self.marks(b"pattern", depth)?;
         let body = self.need_expr(depth)?;
@@ -134,7 +134,7 @@ impl<'a> Parser<'a> {
         requires { Ready self.old 4 }
         ensures { Reads tree_words (turning after_lift depth) 1 4 self.old self.new result }
     {
-        let head = self.push(Node::One(CLOSURE_EXPR));
+        let head = self.push(Node::One(ExprTag::ClosureExpr as u32));
         let bindings = self.need_items(Kind::Closures, depth)?;
         self.need_keyword(b"into")?;
         let name = self.need_identifier()?;

@@ -12,7 +12,7 @@ use crate::arena::Node;
 use crate::parser::{Parser, unusable};
 use crate::stmt::Repeated;
 use lexing::refusal::Refusal;
-use tree::word::{BLOCK, CHOOSE, IF, IF_CASE, MORE, NO_MORE};
+use tree::word::{MORE, NO_MORE, StmtTag};
 
 impl<'a> Parser<'a> {
     // After `choose`.
@@ -25,7 +25,7 @@ impl<'a> Parser<'a> {
         let head = self.push(Node::Headed(MORE, first));
         let branches = self.many(Repeated::Branches, depth)?;
         let all = self.pair(head, branches);
-        Ok(self.push(Node::Headed(CHOOSE, all)))
+        Ok(self.push(Node::Headed(StmtTag::Choose as u32, all)))
     }
 
     // `or` and a block.
@@ -66,7 +66,7 @@ impl<'a> Parser<'a> {
         let head = self.push(Node::Headed(MORE, first));
         let cases = self.many(Repeated::Cases, depth)?;
         let all = self.pair(head, cases);
-        Ok(self.push(Node::Headed(IF_CASE, all)))
+        Ok(self.push(Node::Headed(StmtTag::IfCase as u32, all)))
     }
 
     // A condition, which must follow, a block and what follows them.
@@ -76,7 +76,7 @@ impl<'a> Parser<'a> {
         ensures { Reads (stmt_words same) (needed (cond_stmt depth)) 1 3 self.old self.new result }
     {
         let guard = self.need_expr(depth)?;
-        let head = self.push(Node::Headed(IF, guard));
+        let head = self.push(Node::Headed(StmtTag::If as u32, guard));
         let thn = self.need_block(depth)?;
         let els = self.if_else(depth)?;
         let both = self.pair(thn, els);
@@ -90,7 +90,7 @@ impl<'a> Parser<'a> {
         ensures { Reads (stmt_words same) (opening parse_else depth) 0 1 self.old self.new result }
     {
         if !self.keyword(b"else")? {
-            return Ok(self.push(Node::Two(BLOCK, NO_MORE)));
+            return Ok(self.push(Node::Two(StmtTag::Block as u32, NO_MORE)));
         }
         if self.keyword(b"if")? {
             return self.else_if(depth);
