@@ -2,7 +2,7 @@
 mod RowLaws
 mod RunSteps
 mod FrameLaws
-mod Stack
+mod Walking
 mod Outlines
 mod AcceptedOutline
 mod OutlineAnswers

@@ -24,6 +24,7 @@ mod OutlineExamples
 -- what the code notes, its rows and its stack
 pub mod Notes
 pub mod Rows
+pub mod Stack
 -- what is expected and its kinds
 pub mod ExpectedKinds
 -- a contradiction's consequence; the trees of each kind, the laws of a walk over a table, and the theorems' proofs

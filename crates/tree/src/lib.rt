@@ -7,6 +7,7 @@ mod frames;
 pub mod kind;
 mod outline;
 mod rows;
+pub mod stack;
 mod walk;
 pub mod word;
 

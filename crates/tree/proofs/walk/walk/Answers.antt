@@ -1,7 +1,7 @@
 -- `walk::walk` meets its contract: `Walking` is the loop's invariant, and each turn's end and each answer a law of it.
 use mathlib.Core.Path.{refl}
 use Rattle.std.proofs.lemmas.Result.{err_from_is_err_and}
-use Rattle.tree.proofs.Stack.{started, mark-bounded, after-pop, after-step, at-stop, at-surplus, at-whole}
+use Rattle.tree.proofs.Walking.{started, mark-bounded, after-pop, after-step, at-stop, at-surplus, at-whole}
 use Rattle.tree.proofs.walk.walk.Goals as goal
 
 pub loop-top-init : goal.loop-top-init

@@ -1,6 +1,6 @@
 use Prim.Native.Nat.{◌+◌, ◌-◌, ◌*◌}
 use lib.ListN.{length}
-use Rattle.tree.proofs.Stack.{Walking}
+use Rattle.tree.proofs.Walking.{Walking}
 use Rattle.tree.proofs.walk.walk.Given as goal
 
 abbrev pub invariant-loop-top : goal.invariant-loop-top
