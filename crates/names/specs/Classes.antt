@@ -1,5 +1,4 @@
--- What the classes of places with two keys are, and what the functions that find them require and ensure. Only contracts of private
--- functions cite this file.
+-- What the classes of places with two keys are, and what the functions that find them ensure; arrays that are large enough for them.
 use Rattle.std.specs.Prelude.{ℕ, suc, ◌<◌, ◌≤◌, ◌≡◌, List, length, get_or}
 
 -- the first n keys are below a bound
@@ -67,3 +66,15 @@ pub record Followed (first second : List ℕ) (n v : ℕ) (seen out seen' out' :
   pub seen-firsts : Seen first second n seen'
   pub classed : (j : ℕ) → j < n → get_or first j 0 ≡ v → FirstOf first second n j (get_or out' j 0)
   pub kept : (j : ℕ) → (get_or first j 0 ≡ v → ⊥) → get_or out' j 0 ≡ get_or out j 0
+
+-- ---- arrays
+
+-- n places whose keys are below `most`, and arrays that are large enough for their classes
+pub record Ready (first second : List ℕ) (n most : ℕ) (heads next seen out : List ℕ) : Type 0 where
+  pub first-keys : Keys first n most
+  pub second-keys : Keys second n most
+  pub heads-enough : most ≤ length heads
+  pub next-enough : n ≤ length next
+  pub seen-enough : most ≤ length seen
+  pub out-enough : n ≤ length out
+  pub few : n ≤ 65535

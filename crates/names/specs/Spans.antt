@@ -23,6 +23,14 @@ pub record Pairs (keys : List ℕ) (w n most : ℕ) : Type 0 where
   pub firsts : (i : ℕ) → i < n → get_or keys i 0 < most
   pub seconds : (i : ℕ) → i < n → get_or keys (i + w) 0 < most
 
+-- the same with arrays that are large enough
+pub record PairsIn (keys : List ℕ) (w n most : ℕ) (heads next seen out : List ℕ) : Type 0 where
+  pub pairs : Pairs keys w n most
+  pub heads-enough : most ≤ length heads
+  pub seen-enough : most ≤ length seen
+  pub next-enough : n ≤ length next
+  pub out-enough : n ≤ length out
+
 -- the classes of n places with two keys each, over their first keys: one class exactly where the keys are the same, named by its first place
 pub record PairClasses (keys : List ℕ) (w n : ℕ) (classes : List ℕ) : Type 0 where
   pub same_length : length classes ≡ length keys
@@ -106,6 +114,12 @@ pub record Sized (text spans : List ℕ) (n most : ℕ) : Type 0 where
   pub places-below : length text < most
   pub spans-below : n ≤ most
 
+-- the same with arrays for a class of each byte and two keys of each span
+pub record Room (text spans : List ℕ) (n most : ℕ) (classes keys : List ℕ) : Type 0 where
+  pub sized : Sized text spans n most
+  pub classes-enough : length text ≤ length classes
+  pub keys-enough : n + n ≤ length keys
+
 -- the state at a width: its blocks have classes if a span is so long, and the shorter spans have keys
 pub record Reached (text spans : List ℕ) (n most longest w : ℕ) (classes keys : List ℕ) : Type 0 where
   pub positive : 1 ≤ w
@@ -134,3 +148,10 @@ pub record FirstEqual (bs : List (List ℕ)) (n : ℕ) (classes : List ℕ) : Ty
 pub record Ranked (bs : List (List ℕ)) (i count : ℕ) (ranks : List ℕ) : Type 0 where
   pub counted : count ≡ length (distinct [] (take i bs))
   pub each : (j : ℕ) → j < i → get_or ranks j 0 ≡ get_or (numbering [] bs) j 0
+
+-- a text that is read whole and its n names, with arrays for a class of each byte and two keys of each span
+pub record Prepared (text spans : List ℕ) (n : ℕ) (classes keys : List ℕ) : Type 0 where
+  pub few_bytes : length text ≤ most_bytes
+  pub all : n ≡ length (names text spans)
+  pub classes-enough : length text ≤ length classes
+  pub keys-enough : n + n ≤ length keys

@@ -1,6 +1,6 @@
 -- `pairs::classes_in` meets its contract: the classes of the keys and of the keys from the place w on, copied.
 use Rattle.std.proofs.Common.{◌<◌, arith}
-use Rattle.names.specs.PairLaws.{parted, parted-length, pairs-classed}
+use Rattle.names.specs.PairLaws.{parted, parted-length, parted-classed}
 use Rattle.names.specs.WriteLaws.{written_front}
 use Rattle.names.proofs.pairs.classes_in.Goals as goal
 
@@ -23,5 +23,5 @@ pub returns : goal.returns
 returns g c =
     let p = c.requires.pairs in
     let long = parted-length c.args.keys.now c.args.w c.args.n p.enough in
-    pairs-classed c.args.keys.now _ _ c.args.w c.args.n c.args.most _ _ p (parted c.args.keys.now c.args.w c.args.n) (rw long.0 at c.classify.ensures)
+    parted-classed c.args.keys.now _ _ c.args.w c.args.n c.args.most _ _ p (parted c.args.keys.now c.args.w c.args.n) (rw long.0 at c.classify.ensures)
     (written_front c.classify.new.self.out c.args.keys.now c.copy_from_slice.new.self c.args.n (omega (arith, long.0)) (omega arith) c.copy_from_slice.ensures.after)
