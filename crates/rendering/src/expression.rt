@@ -8,10 +8,11 @@ ghost use Rattle.rendering.specs.ExprParts.{a_form, a_listed, a_unary, a_binary,
 use crate::operator::{argument_count, binding_strength, breaks_line, spelling};
 use crate::printer::Printer;
 use layout::{BindingPower, ExprFormatOption, Side};
-use tree::word::{ExprTag, IF_THEN_ELSE, OPERATOR_EXPR, Operator};
+use tree::word::{ExprTag, Operator};
 
 impl Printer<'_> {
     // An expression.
+    // Kept: the arm is chosen by a word of the table, which decides at once; no step is handed down.
     #[cycle(expression)]
     pub(crate) fn expr(&mut self, context: BindingPower, format: ExprFormatOption)
         ensures { Prints (an_expr context format) self.old self.new }
@@ -135,7 +136,7 @@ impl Printer<'_> {
     fn is_if(&self) -> bool
         ensures { IsIf self.now result }
     {
-        self.ahead(0) == OPERATOR_EXPR && self.ahead(1) == IF_THEN_ELSE
+        self.ahead(0) == ExprTag::OperatorExpr as u32 && self.ahead(1) == Operator::IfThenElse as u32
     }
 
     // `op(args)`.

@@ -9,6 +9,11 @@ ghost use Rattle.layout.specs.Printer.{breaks_line};
 use layout::{BindingPower, TieBreaker};
 use tree::word::Operator;
 
+// Upstream's `opFamily` of the operators that mix with their own kind alone.
+const CONJUNCTION: u8 = 0;
+
+const DISJUNCTION: u8 = 1;
+
 pub(crate) fn argument_count(op: Operator) -> usize
     ensures { result ≡ ArgumentCount (as_operator op) }
 {
@@ -36,8 +41,8 @@ pub(crate) fn binding_strength(op: Operator) -> BindingPower
         Operator::IfThenElse => BindingPower::ENDLESS_OPERATOR,
         Operator::Equiv => BindingPower::new(20, 20, TieBreaker::OperatorWins),
         Operator::LogicalImp => BindingPower::new(31, 30, TieBreaker::OperatorWins),
-        Operator::LogicalAnd => BindingPower::new(40, 40, TieBreaker::SameFamilyWins(0)),
-        Operator::LogicalOr => BindingPower::new(40, 40, TieBreaker::SameFamilyWins(1)),
+        Operator::LogicalAnd => BindingPower::new(40, 40, TieBreaker::SameFamilyWins(CONJUNCTION)),
+        Operator::LogicalOr => BindingPower::new(40, 40, TieBreaker::SameFamilyWins(DISJUNCTION)),
         Operator::Eq | Operator::Neq | Operator::Less | Operator::AtMost => {
             BindingPower::new(50, 50, TieBreaker::ContextWins)
         }

@@ -6,11 +6,11 @@ ghost use Rattle.rendering.specs.StmtParts.{Tells, a_stmt, an_inner, a_block, an
 
 use crate::printer::{Printer, either};
 use layout::deeper;
-use tree::word::{AExprTag, BLOCK, FALSE, IF, IF_CASE, LOOP, NO_MORE, StmtTag};
+use tree::word::{AExprTag, FALSE, NO_MORE, StmtTag};
 
 impl Printer<'_> {
     // A statement without its initial indent. `followed`: it is followed by a `}`.
-    // Kept: the flag is upstream's `followedByEndCurly`, and an enum of two names would be no plainer.
+    // Kept: the flag is upstream's `followedByEndCurly`, and an enum of two names would be no plainer. The word read decides at once which arm is taken.
     #[cycle(statement)]
     pub(crate) fn stmt(&mut self, indent: usize, followed: bool)
         ensures { Prints (a_stmt indent followed) self.old self.new }
@@ -39,6 +39,7 @@ impl Printer<'_> {
     }
 
     // A declaration, in braces of its own where no `}` follows.
+    // Kept: the flag is `stmt`'s, which passes it on, and is upstream's.
     #[cycle(statement)]
     fn var_decl(&mut self, indent: usize, followed: bool)
         ensures { Prints (a_variable indent followed) self.old self.new }
@@ -72,11 +73,12 @@ impl Printer<'_> {
     }
 
     // `BlockAsStatementList`.
+    // Kept: the flag is `stmt`'s, to which it is passed on, and is upstream's.
     #[cycle(statement)]
     fn inner(&mut self, indent: usize, followed: bool)
         ensures { Prints (an_inner indent followed) self.old self.new }
     {
-        if self.ahead(0) == BLOCK {
+        if self.ahead(0) == StmtTag::Block as u32 {
             self.word();
             self.list(indent);
         } else {
@@ -98,6 +100,7 @@ impl Printer<'_> {
     }
 
     // Block.
+    // Kept: beside `block` it differs in what is called and in a line end; a shared method would take both as arguments for two calls.
     #[cycle(statement)]
     fn braces(&mut self, indent: usize)
         ensures { Prints (a_braces indent) self.old self.new }
@@ -238,7 +241,7 @@ impl Printer<'_> {
     fn is_empty_block(&self) -> bool
         ensures { Tells self.now (λ s. s.is_empty_block) result }
     {
-        self.ahead(0) == BLOCK && self.ahead(1) == NO_MORE
+        self.ahead(0) == StmtTag::Block as u32 && self.ahead(1) == NO_MORE
     }
 
     // `If? || IfCase?`
@@ -246,12 +249,12 @@ impl Printer<'_> {
         ensures { Tells self.now (λ s. s.is_if) result }
     {
         let tag = self.ahead(0);
-        tag == IF || tag == IF_CASE
+        tag == StmtTag::If as u32 || tag == StmtTag::IfCase as u32
     }
 
     fn is_loop(&self) -> bool
         ensures { Tells self.now (λ s. s.is_loop) result }
     {
-        self.ahead(0) == LOOP
+        self.ahead(0) == StmtTag::Loop as u32
     }
 }

@@ -122,14 +122,14 @@ var_decl-returns-else-followed t c =
     as-print (ap (λ (v : Bool). (show c.args.self.now.source (VarDecl a.0 a.1 a.2)).print c.args.indent v) (sym c.if-followed.false))
     (done (text (text body c.indent-else-followed.ensures) c.put-else-followed.ensures)))
 
-pub inner-returns-then-ahead-eq-BLOCK : goal.inner-returns-then-ahead-eq-BLOCK
-inner-returns-then-ahead-eq-BLOCK t c = prints (cc) (cc) (omega arith) (is-list c.word.ensures c.ahead.ensures c.if-ahead-eq-BLOCK.true c.args.indent c.args.followed c.list.ensures)
+pub inner-returns-then-ahead : goal.inner-returns-then-ahead
+inner-returns-then-ahead t c = prints (cc) (cc) (omega arith) (is-list c.word.ensures c.ahead.ensures c.if-ahead.true c.args.indent c.args.followed c.list.ensures)
 
-pub inner-returns-else-ahead-eq-BLOCK : goal.inner-returns-else-ahead-eq-BLOCK
-inner-returns-else-ahead-eq-BLOCK t c =
+pub inner-returns-else-ahead : goal.inner-returns-else-ahead
+inner-returns-else-ahead t c =
     prints (cc) (cc) (omega arith)
     (λ s rest g d.
-    let e = (told c.ahead.ensures s rest d).no-list c.if-ahead-eq-BLOCK.false in
+    let e = (told c.ahead.ensures s rest d).no-list c.if-ahead.false in
     as-print (bare-print c.args.self.now.source (show c.args.self.now.source s) c.args.indent c.args.followed e) (done (part c.stmt.ensures s (ready g.0 (omega arith) (omega arith), g.1) (text (begin d) c.indent.ensures))))
 
 pub block-returns : goal.block-returns

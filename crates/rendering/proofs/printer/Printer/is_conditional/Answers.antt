@@ -2,8 +2,8 @@
 use Rattle.rendering.proofs.StmtPrints.Tests.{tells-if, tells-case}
 use Rattle.rendering.proofs.printer.Printer.is_conditional.Goals as goal
 
-pub returns-then-tag-eq-IF : goal.returns-then-tag-eq-IF
-returns-then-tag-eq-IF c = rw c.if-tag-eq-IF.true (tells-if c.ahead-tag.ensures c.if-tag-eq-IF.true)
+pub returns-then-tag : goal.returns-then-tag
+returns-then-tag c = rw c.if-tag.true (tells-if c.ahead-tag.ensures c.if-tag.true)
 
-pub returns-else-tag-eq-IF : goal.returns-else-tag-eq-IF
-returns-else-tag-eq-IF c = tells-case c.ahead-tag.ensures c.if-tag-eq-IF.false
+pub returns-else-tag : goal.returns-else-tag
+returns-else-tag c = tells-case c.ahead-tag.ensures c.if-tag.false
