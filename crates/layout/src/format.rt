@@ -41,6 +41,7 @@ impl ExprFormatOption {
     }
 
     // One format or the other.
+    // Kept: `test` is the answer of a test, with no value beside it, and `pick` of specs is this `if`; callers have the method by its name.
     pub fn choose(test: bool, yes: ExprFormatOption, other: ExprFormatOption) -> ExprFormatOption
         ensures { result ≡ pick test yes other }
     {

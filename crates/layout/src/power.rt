@@ -8,6 +8,7 @@ pub enum TieBreaker {
     OperatorWins,
     ContextWins,
     // The operator, where the context is of this family too.
+    // Kept: a family is any number, as upstream's `opFamily` is; an enum of the two in use would ask more of callers.
     SameFamilyWins(u8),
 }
 
@@ -38,6 +39,7 @@ impl TieBreaker {
 }
 
 // Whether the operator pulls more strongly than the context, or as strongly where a tie is its own.
+// Kept: `tie` is the answer of one test, which both sides share, with no value beside it; an enum of two would say no more than this `bool`.
 fn pulls_more(tie: bool, operator: u16, context: u16) -> bool
     ensures { result ≡ pulls tie operator context }
 {
@@ -82,6 +84,7 @@ impl BindingPower {
     }
 
     // This context, or the one inside parentheses.
+    // Kept: `wins` is the answer of `wins_over`, with no value beside it, as in `adjusted` of specs.
     fn if_not_bracketed(self, wins: bool) -> BindingPower
         ensures { result ≡ adjusted wins self }
     {

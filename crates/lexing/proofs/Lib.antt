@@ -4,3 +4,4 @@ pub mod Comments
 pub mod Returns
 pub mod Claims
 pub mod Naturals
+mod Named

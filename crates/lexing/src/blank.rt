@@ -1,5 +1,5 @@
 // Blanks: spaces, comments to the line's end and nested long comments.
-ghost use Rattle.std.specs.Prelude.{◌≡◌, ◌-◌, ◌≤◌, length, take, drop};
+ghost use Rattle.std.specs.Prelude.{◌≡◌, ◌+◌, ◌-◌, ◌≤◌, ◌<◌, ◌^◌, length, take, drop};
 ghost use Rattle.lexing.specs.Blanks.{mark, long_comment, blank, W};
 ghost use Rattle.lexing.specs.CodeAnswers.{reach_of, mark_of, end_of, Position};
 
@@ -9,6 +9,16 @@ use crate::bytes::{is_space, not_newline, run_length};
 #[derive(Clone, Copy, PartialEq, Eq, Debug)]
 pub struct Unclosed {
     pub at: usize,
+}
+
+impl Unclosed {
+    // The same comment in a text that has `by` more bytes before it.
+    pub(crate) fn moved(self, by: usize) -> Unclosed
+        requires { by + self.at < 2 ^ 64 }
+        ensures { result ≡ record { at = by + self.at } }
+    {
+        Unclosed { at: by + self.at }
+    }
 }
 
 // The marks of a long comment.
@@ -99,7 +109,7 @@ pub fn blanks(s: &[u8]) -> Result<usize, Unclosed>
         match blank_at_start(&s[at..]) {
             Ok(0) => return Ok(at),
             Ok(n) => at += n,
-            Err(open) => return Err(Unclosed { at: at + open.at }),
+            Err(open) => return Err(open.moved(at)),
         }
     }
 }

@@ -53,6 +53,7 @@ pub(crate) fn run_length<F: Fn(u8) -> bool>(s: &[u8], class: F) -> usize
 }
 
 // Whether `w` stands at the start of `text`.
+// Kept: the library's method under the definition of specs, which reads the bytes one by one; each token's rule is stated with it.
 #[tactic(auto, using(crate::proofs::Lists::starts_pointwise))]
 pub(crate) fn starts_with(text: &[u8], w: &[u8]) -> bool
     ensures { result ≡ starts_with w.now text.now }
@@ -61,6 +62,7 @@ pub(crate) fn starts_with(text: &[u8], w: &[u8]) -> bool
 }
 
 // Whether `a` and `b` are the same bytes.
+// Kept: `==` under the definition of specs, which reads the bytes one by one; each keyword's rule is stated with it.
 #[tactic(auto, using(crate::proofs::Lists::same_pointwise))]
 pub fn same_bytes(a: &[u8], b: &[u8]) -> bool
     ensures { result ≡ same_bytes a.now b.now }

@@ -1,6 +1,9 @@
 // Why a text is refused, and where.
 ghost use Rattle.std.specs.Prelude.{◌≡◌};
 ghost use Rattle.lexing.specs.CodeAnswers.{number};
+ghost use Rattle.lexing.specs.declared.refusal.Reason.TheVariants.{UnclosedComment};
+
+use crate::blank::Unclosed;
 
 #[derive(Clone, Copy, PartialEq, Eq, Debug)]
 pub enum Reason {
@@ -38,4 +41,20 @@ impl Reason {
 pub struct Refusal {
     pub reason: Reason,
     pub place: usize,
+}
+
+impl Refusal {
+    pub fn new(reason: Reason, place: usize) -> Refusal
+        ensures { result ≡ record { reason = reason; place = place } }
+    {
+        Refusal { reason, place }
+    }
+}
+
+impl From<Unclosed> for Refusal {
+    ghost from_gives = { λ u r. r ≡ record { reason = UnclosedComment; place = u.at } };
+
+    fn from(open: Unclosed) -> Refusal {
+        Refusal::new(Reason::UnclosedComment, open.at)
+    }
 }

@@ -29,14 +29,12 @@ pub fn lexeme(text: &[u8], value: u64, n: usize) -> Lexed
     }
     match blanks(&text[n..]) {
         Ok(k) => Ok(Some(Token { value, size: n + k })),
-        Err(open) => Err(Refusal {
-            reason: Reason::UnclosedComment,
-            place: n + open.at,
-        }),
+        Err(open) => Err(Refusal::from(open.moved(n))),
     }
 }
 
 // How many bytes the identifier at the start has, 0 where there is none.
+// Kept: its callers are promised the length with 0, which slices the text as it is; an `Option<usize>` of it would be taken apart at each use.
 pub fn identifier_length(text: &[u8]) -> usize
     ensures { result ≡ tokens.identifier_length text.now }
 {
@@ -133,9 +131,6 @@ pub fn natural(text: &[u8]) -> Lexed
     }
     match decimal(&text[..n]) {
         Some(value) => lexeme(text, value, n),
-        None => Err(Refusal {
-            reason: Reason::LargeNatural,
-            place: 0,
-        }),
+        None => Err(Refusal::new(Reason::LargeNatural, 0)),
     }
 }

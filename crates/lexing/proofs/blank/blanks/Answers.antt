@@ -19,8 +19,8 @@ loop-n-smaller c = let m = reached-more c.loop-n.invariant c.in-Ok.ensures c.in-
 pub loop-n-preserved : goal.loop-n-preserved
 loop-n-preserved c = reached-more c.loop-n.invariant c.in-Ok.ensures c.in-Ok.n-test.1
 
-pub overflow_add-result : goal.overflow_add-result
-overflow_add-result c = omega (arith, reached-inside c.loop-n.invariant c.in-Err.ensures)
+pub moved-requires : goal.moved-requires
+moved-requires c = omega (arith, reached-inside c.loop-n.invariant c.in-Err.ensures)
 
 pub returns-in-Err : goal.returns-in-Err
-returns-in-Err c = reached-open c.loop-n.invariant c.in-Err.ensures
+returns-in-Err c = rw c.moved.ensures (reached-open c.loop-n.invariant c.in-Err.ensures)

@@ -10,11 +10,11 @@ returns-then-text-n c = lexeme-past _ _ _ c.if-text-n.true
 pub overflow_add-result : goal.overflow_add-result
 overflow_add-result c = omega (arith, lexeme-inside c.args.text.now c.args.n c.in-Ok.ensures (search rules))
 
-pub overflow_add-result-in-Err : goal.overflow_add-result-in-Err
-overflow_add-result-in-Err c = omega (arith, lexeme-inside c.args.text.now c.args.n c.in-Err.ensures (search rules))
+pub moved-requires : goal.moved-requires
+moved-requires c = omega (arith, lexeme-inside c.args.text.now c.args.n c.in-Err.ensures (search rules))
 
 pub returns-in-Ok : goal.returns-in-Ok
 returns-in-Ok c = lexeme-is c.args.text.now c.args.n c.in-Ok.ensures c.args.value
 
 pub returns-in-Err : goal.returns-in-Err
-returns-in-Err c = lexeme-is c.args.text.now c.args.n c.in-Err.ensures c.args.value
+returns-in-Err c = rw (c.from.ensures, c.moved.ensures) (lexeme-is c.args.text.now c.args.n c.in-Err.ensures c.args.value)

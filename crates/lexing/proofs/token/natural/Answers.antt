@@ -19,4 +19,4 @@ returns-in-Some c =
     c.lexeme.ensures ∙ natural_value _ (c.run_length-n.ensures is_digit (λ b r e. search rules)) c.if-n-eq0.false c.in-Some.ensures
 
 pub returns-in-None : goal.returns-in-None
-returns-in-None c = natural_large _ (c.run_length-n.ensures is_digit (λ b r e. search rules)) c.if-n-eq0.false c.in-None.ensures
+returns-in-None c = rw c.new.ensures (natural_large _ (c.run_length-n.ensures is_digit (λ b r e. search rules)) c.if-n-eq0.false c.in-None.ensures)
