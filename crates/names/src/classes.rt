@@ -43,7 +43,7 @@ pub(crate) struct Lists<const N: usize> {
 }
 
 impl<const N: usize> Lists<N> {
-    pub(crate) fn chain(&mut self, places: &Places<N>)
+    fn chain(&mut self, places: &Places<N>)
         ensures { Chained places.now.first.now (length places.now.first.now) places.now.most self.new.heads self.new.next }
     {
         let n = places.first.len();
@@ -82,11 +82,11 @@ impl<const N: usize> Classes<N> {
         }
     }
 
-    // The class of each place: its first place.
-    pub(crate) fn classify(&mut self, places: &Places<N>, lists: &Lists<N>)
-        requires { Chained places.now.first.now (length places.now.first.now) places.now.most lists.now.heads lists.now.next }
+    // The class of each place: its first place. The lists are made anew.
+    pub(crate) fn classify(&mut self, places: &Places<N>, lists: &mut Lists<N>)
         ensures { Classed places.now.first.now places.now.second.now (length places.now.first.now) self.new.out }
     {
+        lists.chain(places);
         self.seen.fill(0);
         for v in 0..places.most {
             self.follow(places, lists, v);

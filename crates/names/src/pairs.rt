@@ -49,7 +49,6 @@ fn classes_in<const N: usize>(keys: &mut [u16], w: usize, n: usize, most: usize)
         seen: [0; N],
         out: [0; N],
     };
-    lists.chain(&places);
-    classes.classify(&places, &lists);
+    classes.classify(&places, &mut lists);
     keys[..n].copy_from_slice(&classes.out[..n]);
 }

@@ -65,6 +65,8 @@ impl<'a, const N: usize> Spans<'a, N> {
         ensures { Longest (length self.now.text.now) self.now.words.now self.now.count result }
     {
         let mut most = 0;
+        // Kept: `(0..self.count).map(|i| self.length(i)).max()` was tried. The check stops at the closure over `self`, a struct with a lifetime
+        // and a size ("no lifetime parameter at the index 3"); a closure over its two slices needs a second function for the length.
         for i in 0..self.count {
             most = most.max(self.length(i));
         }
