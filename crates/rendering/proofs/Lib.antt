@@ -5,3 +5,4 @@ pub mod Words
 pub mod ExprPrints
 pub mod StmtPrints
 pub mod EntryAnswers
+mod Named
