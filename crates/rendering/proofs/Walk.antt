@@ -138,3 +138,31 @@ inside {s₀} {s} {w = w} {ws = ws} l = (head_at s₀.source.words.now s.at w ws
 -- the same print, in other terms
 pub as-print : {table : List ℕ} {X Y : List ℕ → List ℕ} {rest : List ℕ} {s s' : Printer} → X ≡ Y → Done table X rest s s' → Done table Y rest s s'
 as-print {table} {rest = rest} {s = s} {s' = s'} e d = subst (λ (Z : List ℕ → List ℕ). Done table Z rest s s') e d
+
+-- ---- sequences that a loop prints
+
+-- the items that were printed since s₀ are those of the part P but for those of the part Q, which begins here
+pub record Passed (P : Parts) (s₀ : Printer) (Q : Parts) (s : Printer) : Type 0 where
+  pub source : s.source ≡ s₀.source
+  pub output : s.out.ghost_name ≡ s₀.out.ghost_name
+  pub forward : s₀.at ≤ s.at
+  pub onward : (s' : Printer) → Prints Q s s' → Told P s₀ s'
+
+-- no item is printed yet
+pub none-yet : {P : Parts} {s : Printer} → Passed P s P s
+none-yet = record { source = refl; output = refl; forward = omega arith; onward = λ s' p. p.prints }
+
+-- an item more
+pub one-more : {P Q R : Parts} {s₀ s s₁ : Printer} → Passed P s₀ Q s → s₁.source ≡ s.source → s₁.out.ghost_name ≡ s.out.ghost_name → s.at ≤ s₁.at
+    → ((s' : Printer) → Prints R s₁ s' → Told Q s s') → Passed P s₀ R s₁
+one-more k e o f item =
+    record {
+      source = e ∙ k.source;
+      output = o ∙ k.output;
+      forward = let g = k.forward in omega arith;
+      onward = λ s' p. k.onward s' (prints (p.source ∙ e) (p.output ∙ o) (let g = p.forward in omega arith) (item s' p));
+    }
+
+-- all items
+pub all-of : {P Q : Parts} {s₀ s s₁ : Printer} → Passed P s₀ Q s → Prints Q s s₁ → Prints P s₀ s₁
+all-of {s₁ = s₁} k p = prints (p.source ∙ k.source) (p.output ∙ k.output) (let f = k.forward in let g = p.forward in omega arith) (k.onward s₁ p)

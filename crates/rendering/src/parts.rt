@@ -47,10 +47,11 @@ impl Printer<'_> {
     fn bindings(&mut self, prefix: &[u8])
         ensures { Prints (bindings prefix.now) self.old self.new }
     {
-        if self.word() != NO_MORE {
-            self.put(prefix);
+        let mut before = prefix;
+        while self.word() != NO_MORE {
+            self.put(before);
+            before = b", ";
             self.typed();
-            self.bindings(b", ");
         }
     }
 
