@@ -16,30 +16,27 @@ pub(crate) fn tail(s: &[u8], n: usize) -> &[u8] {
     }
 }
 
-// A byte, and how many bytes of a line stand for it.
+// What a part of a line stands for, and how many bytes the part has.
 #[derive(Clone, Copy)]
-struct Glyph {
-    byte: u8,
-    width: usize,
+pub(crate) struct Part<T> {
+    pub(crate) value: T,
+    pub(crate) width: usize,
 }
 
 // The byte that stands at the start of a line: `\n`, `\t`, `\r`; `\x` with two hexadecimal digits, in lower case; a backslash before any other
 // byte for that byte; every other byte for itself.
-fn escaped(s: &[u8]) -> Glyph
-    requires { 0 < length s.now }
-    ensures { (0 < result.width) × (result.width ≤ length s.now) }
-{
+fn escaped(s: &[u8]) -> Part<u8> {
     match s {
-        [b'\\', b'x', high, low, ..] => Glyph {
-            byte: hex_digit(*high) * 16 + hex_digit(*low),
+        [b'\\', b'x', high, low, ..] => Part {
+            value: hex_digit(*high) * 16 + hex_digit(*low),
             width: 4,
         },
-        [b'\\', b, ..] => Glyph {
-            byte: control(*b),
+        [b'\\', b, ..] => Part {
+            value: control(*b),
             width: 2,
         },
-        _ => Glyph {
-            byte: s[0],
+        _ => Part {
+            value: s.first().copied().unwrap_or(0),
             width: 1,
         },
     }
@@ -64,8 +61,9 @@ fn hex_digit(b: u8) -> u8
     }
 }
 
-// Puts the bytes that a line stands for at the start of `out`, as many as fit, and answers how many there are.
-pub(crate) fn decode(line: &[u8], out: &mut [u8]) -> usize
+// Puts what the parts of a line stand for at the start of `out`, as many as fit, and answers how many there are.
+pub(crate) fn fill<T: Copy, F: Fn(&[u8]) -> Part<T>>(line: &[u8], out: &mut [T], part: F) -> usize
+    requires { F.IsAlwaysCallable part }
     ensures { result ≤ length out.new }
 {
     let mut rest = line;
@@ -73,9 +71,16 @@ pub(crate) fn decode(line: &[u8], out: &mut [u8]) -> usize
         if rest.is_empty() {
             return n;
         }
-        let e = escaped(rest);
-        *place = e.byte;
-        rest = &rest[e.width..];
+        let part = part(rest);
+        *place = part.value;
+        rest = rest.get(part.width..).unwrap_or(&[]);
     }
     out.len()
+}
+
+// The bytes that a line stands for.
+pub(crate) fn decode(line: &[u8], out: &mut [u8]) -> usize
+    ensures { result ≤ length out.new }
+{
+    fill(line, out, |s| escaped(s))
 }

@@ -32,16 +32,20 @@ mod spans;
 mod tables;
 mod tokens;
 
-use entries::{Run, print_case, print_lines_case, read_case};
+use entries::{print_case, read_case};
+use lexing::{keyword, natural, parse_custom_literal, parse_id, sym, sym_not_prefix};
 use lines::tail;
 use numbers::number;
 use outlines::outline_case;
+use printing::{print_expression, print_expression_lines, print_program};
+use reading::{read_expression, read_program};
 use show::print;
 use spans::names_case;
 use std::io;
 use std::io::{BufWriter, Read, Write};
-use tables::{name_case, table_case};
-use tokens::token_case;
+use tables::{check_case, name_case, number_case};
+use tokens::{blanks_case, split, token_case};
+use tree::{check_expression, check_program};
 
 fn main(rt: HostRuntime) -> io::Result<()> {
     let mut input = Vec::new(rt.alloc());
@@ -67,34 +71,44 @@ fn case(to: &mut impl Write, line: &[u8]) -> io::Result<()> {
     print(to, b"\n")
 }
 
-// `read_case`, `table_case` and `outline_or_names` are each called from two places, so that the compiler doesn't put them, and their buffers with
-// them, into the frame of `main`, which is on the stack at every print.
+// What an entry gives for the rest of a line.
 fn answer(to: &mut impl Write, entry: u8, line: &[u8]) -> io::Result<()> {
-    let times = number(line);
-    let rest = tail(line, times.digits);
-    let run = Run {
-        entry,
-        times: times.value,
-        indent: 0,
-    };
+    let count = number(line);
+    let times = (0 < count.value).then_some(count.value);
+    let rest = tail(line, count.digits);
     match entry {
-        b'r' => read_case(to, run, rest),
-        b'R' => read_case(to, run, rest),
-        b'p' | b'P' => print_case(to, run, rest),
-        b'm' => print_lines_case(to, run, rest),
+        b'b' => blanks_case(to, rest),
+        b'i' => token_case(to, rest, |s| parse_id(s)),
+        b'l' => token_case(to, rest, |s| parse_custom_literal(s)),
+        b'n' => token_case(to, rest, |s| natural(s)),
+        b'k' => token_case(to, rest, |s| split(s, |word, text| keyword(text, word))),
+        b's' => token_case(to, rest, |s| split(s, |sign, text| sym(text, sign))),
+        b'u' => token_case(to, rest, |s| {
+            split(s, |sign, after| {
+                split(after, |longer, text| sym_not_prefix(text, sign, longer))
+            })
+        }),
+        b'c' => check_case(to, rest, |words, len| check_expression(words, len)),
+        b'C' => check_case(to, rest, |words, len| check_program(words, len)),
+        b'o' => outline_case(to, times, rest),
+        b'w' => number_case(to, rest, |words, at| u64::from(tree::get(words, at))),
+        b'v' => number_case(to, rest, |words, at| tree::natural(words, at)),
         b'x' => name_case(to, rest),
-        b'c' | b'C' => table_case(to, entry, rest),
-        b'w' | b'v' => table_case(to, entry, rest),
-        b'o' => outline_or_names(to, run, rest),
-        b'a' => outline_or_names(to, run, rest),
-        _ => token_case(to, entry, rest),
-    }
-}
-
-fn outline_or_names(to: &mut impl Write, run: Run, rest: &[u8]) -> io::Result<()> {
-    let entry = run.entry;
-    match entry {
-        b'o' => outline_case(to, run, rest),
-        _ => names_case(to, run, rest),
+        b'a' => names_case(to, times, rest),
+        b'r' => read_case(to, times, rest, |text, table| read_expression(text, table)),
+        b'R' => read_case(to, times, rest, |text, table| read_program(text, table)),
+        b'p' => print_case(to, times, rest, |text, words, out| {
+            print_expression(text, words, out)
+        }),
+        b'm' => {
+            let indent = number(rest);
+            print_case(to, times, tail(rest, indent.digits), |text, words, out| {
+                print_expression_lines(text, words, indent.value as usize, out)
+            })
+        }
+        b'P' => print_case(to, times, rest, |text, words, out| {
+            print_program(text, words, out)
+        }),
+        _ => Ok(()),
     }
 }

@@ -3,7 +3,7 @@
 // table 7 0 1 7 0 1 1 0.
 ghost use Rattle.std.specs.Prelude.{◌≤◌, ◌<◌, ◌^◌, length};
 
-use crate::lines::{decode, tail, until};
+use crate::lines::{Part, decode, fill, tail, until};
 use crate::numbers::number;
 
 // More bytes and words than an entry takes.
@@ -48,26 +48,37 @@ fn repeat(piece: &[u8], text: &mut [u8], at: usize) -> usize
 
 // Puts the words of a line of pieces at the start of `table`, as many as fit, by way of their digits, of which there may be so many; answers
 // how many words there are.
-pub(crate) fn build_words<const DIGITS: usize>(line: &[u8], table: &mut [u32]) -> usize
+fn build_words<const DIGITS: usize>(line: &[u8], table: &mut [u32]) -> usize
     requires { DIGITS < 2 ^ 63 }
     ensures { result ≤ length table.new }
 {
     let mut digits = [0u8; DIGITS];
     let n = build(line, &mut digits);
-    words(&digits[..n], table)
+    fill(&digits[..n], table, |s| {
+        let word = number(s);
+        Part {
+            value: word.value,
+            width: word.digits + 1,
+        }
+    })
 }
 
-fn words(digits: &[u8], table: &mut [u32]) -> usize
-    ensures { result ≤ length table.new }
+// What a line gives that begins with a number, the words of a table of pieces, and a slash, if more follows: by the number, the words, and what
+// follows.
+#[inline(never)]
+pub(crate) fn with_words<
+    const WORDS: usize,
+    const DIGITS: usize,
+    R,
+    F: FnOnce(u32, &[u32], &[u8]) -> R,
+>(rest: &[u8], ask: F) -> R
+    requires small { (WORDS < 2 ^ 61) × (DIGITS < 2 ^ 63) }
+    requires asked { F.IsAlwaysCallable ask }
 {
-    let mut rest = digits;
-    for (n, place) in table.iter_mut().enumerate() {
-        if rest.is_empty() {
-            return n;
-        }
-        let word = number(rest);
-        *place = word.value;
-        rest = tail(rest, word.digits);
-    }
-    table.len()
+    let mut table = [0u32; WORDS];
+    let first = number(rest);
+    let parts = tail(rest, first.digits);
+    let n = until(parts, b'/');
+    let words = build_words::<DIGITS>(&parts[..n], &mut table);
+    ask(first.value, &table[..words], tail(parts, n))
 }

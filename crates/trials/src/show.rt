@@ -1,4 +1,5 @@
 // Prints parts of an answer.
+use std::fmt::Display;
 use std::io;
 use std::io::Write;
 
@@ -26,41 +27,29 @@ pub(crate) fn print_count(to: &mut impl Write, n: usize, unit: &[u8]) -> io::Res
 // The first `n` words.
 pub(crate) fn print_words(to: &mut impl Write, table: &[u32], n: usize) -> io::Result<()> {
     print(to, b" =>")?;
-    print_each(to, table, n)
+    print_each(to, table.get(..n).unwrap_or(table))
 }
 
-fn print_each(to: &mut impl Write, table: &[u32], n: usize) -> io::Result<()> {
-    for word in table.iter().take(n) {
-        print_word(to, *word)?;
+// Each after a space.
+pub(crate) fn print_each<T: Display>(to: &mut impl Write, items: &[T]) -> io::Result<()> {
+    for item in items {
+        write!(to, " {item}")?;
     }
     Ok(())
-}
-
-pub(crate) fn print_word(to: &mut impl Write, word: u32) -> io::Result<()> {
-    write!(to, " {word}")
-}
-
-// Whether the words from `n` on are 0.
-pub(crate) fn cleared(table: &[u32], n: usize) -> bool {
-    table.iter().skip(n).all(|word| *word == 0)
 }
 
 // The first `n` bytes in quotes, with the escapes of `lines`, or how many there are and their checksum.
 pub(crate) fn print_bytes(to: &mut impl Write, out: &[u8], n: usize) -> io::Result<()> {
+    let bytes = out.get(..n).unwrap_or(out);
     if MOST_SHOWN < n {
         print_count(to, n, b" bytes, CRC-32 ")?;
-        return print_number(to, crc32(out, n) as u64);
+        return print_number(to, u64::from(crc32(bytes)));
     }
     print(to, b" => \"")?;
-    print_escaped(to, out, n)?;
-    print(to, b"\"")
-}
-
-fn print_escaped(to: &mut impl Write, out: &[u8], n: usize) -> io::Result<()> {
-    for b in out.iter().take(n) {
+    for b in bytes {
         print_escape(to, *b)?;
     }
-    Ok(())
+    print(to, b"\"")
 }
 
 fn print_escape(to: &mut impl Write, b: u8) -> io::Result<()> {
@@ -74,21 +63,17 @@ fn print_escape(to: &mut impl Write, b: u8) -> io::Result<()> {
     }
 }
 
-// The checksum of the first `n` bytes: the reflected polynomial 0xEDB88320, complemented before and after.
-fn crc32(out: &[u8], n: usize) -> u32 {
-    let mut sum = 4294967295u32;
-    for b in out.iter().take(n) {
-        sum = crc_byte(sum, *b);
-    }
-    sum ^ 4294967295
+// The checksum of bytes: the reflected polynomial 0xEDB88320, complemented before and after.
+fn crc32(bytes: &[u8]) -> u32 {
+    !crc_bytes(!0, bytes)
 }
 
-pub(crate) fn crc_byte(sum: u32, b: u8) -> u32 {
-    let mut s = sum ^ (b as u32);
-    for _ in 0..8 {
-        s = crc_bit(s);
-    }
-    s
+pub(crate) fn crc_bytes(sum: u32, bytes: &[u8]) -> u32 {
+    bytes.iter().fold(sum, |s, b| crc_byte(s, *b))
+}
+
+fn crc_byte(sum: u32, b: u8) -> u32 {
+    (0..8).fold(sum ^ u32::from(b), |s, _| crc_bit(s))
 }
 
 fn crc_bit(s: u32) -> u32 {
@@ -96,9 +81,4 @@ fn crc_bit(s: u32) -> u32 {
         return (s >> 1) ^ 0xEDB88320;
     }
     s >> 1
-}
-
-// Whether the bytes from `n` on are `~`.
-pub(crate) fn untouched(out: &[u8], n: usize) -> bool {
-    out.iter().skip(n).all(|b| *b == b'~')
 }

@@ -1,28 +1,41 @@
 // The cases of `tree`.
 use crate::lines::tail;
 use crate::numbers::number;
-use crate::pieces::{DIGITS, WORDS, build_words};
+use crate::pieces::{DIGITS, WORDS, with_words};
 use crate::show::{print, print_number};
 use std::io;
 use std::io::Write;
 use tree::CheckError;
 
-// A number, and a table.
-pub(crate) fn table_case(to: &mut impl Write, entry: u8, rest: &[u8]) -> io::Result<()> {
-    let mut table = [0u32; WORDS];
-    let first = number(rest);
-    let n = build_words::<DIGITS>(tail(rest, first.digits), &mut table);
+// The length of a text, and a table.
+pub(crate) fn check_case<F: FnOnce(&[u32], usize) -> Result<(), CheckError>>(
+    to: &mut impl Write,
+    rest: &[u8],
+    check: F,
+) -> io::Result<()>
+    requires { F.IsAlwaysCallable check }
+{
     print(to, b" => ")?;
-    table_answer(to, entry, first.value as usize, &table[..n])
+    print_checked(to, over_table(rest, check))
 }
 
-fn table_answer(to: &mut impl Write, entry: u8, n: usize, words: &[u32]) -> io::Result<()> {
-    match entry {
-        b'c' => print_checked(to, tree::check_expression(words, n)),
-        b'C' => print_checked(to, tree::check_program(words, n)),
-        b'w' => print_number(to, tree::get(words, n) as u64),
-        _ => print_number(to, tree::natural(words, n)),
-    }
+// A place, and a table.
+pub(crate) fn number_case<F: FnOnce(&[u32], usize) -> u64>(
+    to: &mut impl Write,
+    rest: &[u8],
+    get: F,
+) -> io::Result<()>
+    requires { F.IsAlwaysCallable get }
+{
+    print(to, b" => ")?;
+    print_number(to, over_table(rest, get))
+}
+
+// What a table gives with the number that stands before it.
+fn over_table<R, F: FnOnce(&[u32], usize) -> R>(rest: &[u8], ask: F) -> R
+    requires { F.IsAlwaysCallable ask }
+{
+    with_words::<WORDS, DIGITS, _, _>(rest, |n, words, _| ask(words, n as usize))
 }
 
 pub(crate) fn print_checked(to: &mut impl Write, answer: Result<(), CheckError>) -> io::Result<()> {
