@@ -146,7 +146,7 @@ impl Printer<'_> {
     {
         self.put(spelling(op));
         self.put(b"(");
-        self.exprs(b"");
+        self.exprs();
         self.put(b")");
     }
 
@@ -155,7 +155,7 @@ impl Printer<'_> {
         ensures { Prints a_call self.old self.new }
     {
         self.name_then(b"(");
-        self.exprs(b"");
+        self.exprs();
         self.put(b")");
     }
 
@@ -203,11 +203,11 @@ impl Printer<'_> {
         ensures { Prints a_closure self.old self.new }
     {
         self.put(b"lift ");
-        self.closures(b"");
+        self.closures();
         self.put(b" into ");
         self.typed();
         self.put(b" by { ");
-        self.properties(b"");
+        self.properties();
         self.put(b" }");
     }
 }

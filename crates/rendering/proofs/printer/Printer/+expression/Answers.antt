@@ -11,9 +11,9 @@ use Rattle.tree.specs.Ast.{no_exprs, ◌then◌, no_patterns, pattern, no_closur
 use Rattle.layout.specs.Printer.{Expression, ExpressionList, operands, patterns, triggers, closure_bindings, properties, triggers_end, else_branch}
 use Rattle.layout.specs.declared.format.ExprFormatOption.TheVariants.{SingleLine}
 use Rattle.tree.specs.Codes.{as_operator}
-use Rattle.rendering.specs.Parts.{Told, named}
+use Rattle.rendering.specs.Parts.{Told, Prints, named}
 use Rattle.rendering.specs.ExprParts.{operand, a_form, expression_list, pattern_list, trigger_list, closure_list, property_list}
-use Rattle.rendering.proofs.Walk.{prints, ready, begin, reads, inside, word, text, these, part, done, at-end, as-print}
+use Rattle.rendering.proofs.Walk.{prints, ready, begin, reads, inside, word, text, these, part, done, at-end, as-print, none-yet, one-more, all-of}
 use Rattle.rendering.proofs.ExprPrints.Forms.{right_format, deeper-is, more-indent, more-least, right-indent, binary-print, unary-form, binary-form, conditional-form, listed-form, noted-operands, takes-three}
 use Rattle.rendering.proofs.ExprPrints.Tags.{operator-is, same-operator, tagged, is-bool, is-natural, is-custom, is-identifier, is-operator, is-call, is-label, is-let, is-quantifier, is-closure, is-none}
 use Rattle.rendering.proofs.printer.Printer.+expression.Goals as goal
@@ -244,83 +244,95 @@ quantifier_expr-returns t c =
 
 -- ---- sequences
 
-exprs-none : (t : _) (c : goal.exprs-Else-word-ne-NO_MORE t) → Told (expression_list c.args.separator.now) c.args.self.now c.word.new.self
+exprs-none : (t : _) (c : goal.exprs-After-loop-separator t) → Told (expression_list c.loop-separator.separator.now) c.loop-separator.self c.word.new.self
 unfolding ExpressionList operands
 exprs-none _ c no_exprs rest g d = done (word (begin d) c.word.ensures)
-exprs-none _ c (◌then◌ e es) rest g d = let z = reads (begin d) c.word.ensures in absurd (omega (arith, z, c.if-word-ne-NO_MORE.false))
+exprs-none _ c (◌then◌ e es) rest g d = let z = reads (begin d) c.word.ensures in absurd (omega (arith, z, c.loop-separator-test.false))
 
-exprs-some : (t : _) (c : goal.exprs-After-exprs t) → Told (expression_list c.args.separator.now) c.args.self.now c.exprs.new.self
+exprs-some : (t : _) (c : goal.exprs-After-expr t) (s' : Printer) → Prints (expression_list (bytes ", ")) c.expr.new.self s' → Told (expression_list c.loop-separator.separator.now) c.loop-separator.self s'
 unfolding ExpressionList operands
-exprs-some _ c no_exprs rest g d = absurd (c.if-word-ne-NO_MORE.true (reads (begin d) c.word.ensures))
-exprs-some _ c (◌then◌ e es) rest g d =
+exprs-some _ c s' p no_exprs rest g d = absurd (c.loop-separator-test.true (reads (begin d) c.word.ensures))
+exprs-some _ c s' p (◌then◌ e es) rest g d =
     let item = word (begin d) c.word.ensures in
     let expr = part c.expr.ensures e (ready g.0 (omega arith) (omega arith), g.1.0) (text item c.put.ensures) in
-    done (part c.exprs.ensures es (ready g.0 (omega arith) (omega arith), g.1.1) expr)
+    done (part p es (ready g.0 (omega arith) (omega arith), g.1.1) expr)
 
-pub exprs-returns-then-word-ne-NO_MORE : goal.exprs-returns-then-word-ne-NO_MORE
-exprs-returns-then-word-ne-NO_MORE t c = prints (cc) (cc) (omega arith) (exprs-some t c)
+pub exprs-loop-separator-init : goal.exprs-loop-separator-init
+exprs-loop-separator-init t c = none-yet
 
-pub exprs-returns-else-word-ne-NO_MORE : goal.exprs-returns-else-word-ne-NO_MORE
-exprs-returns-else-word-ne-NO_MORE t c = prints (cc) (cc) (omega arith) (exprs-none t c)
+pub exprs-loop-separator-preserved : goal.exprs-loop-separator-preserved
+exprs-loop-separator-preserved t c = one-more c.loop-separator.invariant (cc) (cc) (omega arith) (exprs-some t c)
 
-patterns-none : (t : _) (c : goal.patterns-Else-word-ne-NO_MORE t) → Told (pattern_list c.args.format) c.args.self.now c.word.new.self
+pub exprs-returns : goal.exprs-returns
+exprs-returns t c = all-of c.loop-separator.invariant (prints (cc) (cc) (omega arith) (exprs-none t c))
+
+patterns-none : (t : _) (c : goal.patterns-After-loop-format t) → Told (pattern_list c.args.format) c.loop-format.self c.word.new.self
 unfolding patterns
 patterns-none _ c no_patterns rest g d = done (word (begin d) c.word.ensures)
-patterns-none _ c (pattern es ps) rest g d = let z = reads (begin d) c.word.ensures in absurd (omega (arith, z, c.if-word-ne-NO_MORE.false))
+patterns-none _ c (pattern es ps) rest g d = let z = reads (begin d) c.word.ensures in absurd (omega (arith, z, c.loop-format-test.false))
 
-patterns-some : (t : _) (c : goal.patterns-After-patterns t) → Told (pattern_list c.args.format) c.args.self.now c.patterns.new.self
+patterns-some : (t : _) (c : goal.patterns-After-exprs t) (s' : Printer) → Prints (pattern_list c.args.format) c.exprs.new.self s' → Told (pattern_list c.args.format) c.loop-format.self s'
 unfolding patterns
-patterns-some _ c no_patterns rest g d = absurd (c.if-word-ne-NO_MORE.true (reads (begin d) c.word.ensures))
-patterns-some _ c (pattern es ps) rest g d =
+patterns-some _ c s' p no_patterns rest g d = absurd (c.loop-format-test.true (reads (begin d) c.word.ensures))
+patterns-some _ c s' p (pattern es ps) rest g d =
     let item = word (begin d) c.word.ensures in
     let exprs = part c.exprs.ensures es (ready g.0 (omega arith) (omega arith), g.1.1) (text (text item c.space.ensures) c.put.ensures) in
-    done (part c.patterns.ensures ps (ready g.0 (omega arith) (omega arith), g.1.2) exprs)
+    done (part p ps (ready g.0 (omega arith) (omega arith), g.1.2) exprs)
 
-pub patterns-returns-then-word-ne-NO_MORE : goal.patterns-returns-then-word-ne-NO_MORE
-patterns-returns-then-word-ne-NO_MORE t c = prints (cc) (cc) (omega arith) (patterns-some t c)
+pub patterns-loop-format-init : goal.patterns-loop-format-init
+patterns-loop-format-init t c = none-yet
 
-pub patterns-returns-else-word-ne-NO_MORE : goal.patterns-returns-else-word-ne-NO_MORE
-patterns-returns-else-word-ne-NO_MORE t c = prints (cc) (cc) (omega arith) (patterns-none t c)
+pub patterns-loop-format-preserved : goal.patterns-loop-format-preserved
+patterns-loop-format-preserved t c = one-more c.loop-format.invariant (cc) (cc) (omega arith) (patterns-some t c)
 
-triggers-none : (t : _) (c : goal.triggers-Else-word-ne-NO_MORE t) → Told trigger_list c.args.self.now c.word.new.self
+pub patterns-returns : goal.patterns-returns
+patterns-returns t c = all-of c.loop-format.invariant (prints (cc) (cc) (omega arith) (patterns-none t c))
+
+triggers-none : (t : _) (c : goal.triggers-After-loop-self t) → Told trigger_list c.loop-self.self c.word.new.self
 unfolding triggers
 triggers-none _ c no_patterns rest g d = done (word (begin d) c.word.ensures)
-triggers-none _ c (pattern es ps) rest g d = let z = reads (begin d) c.word.ensures in absurd (omega (arith, z, c.if-word-ne-NO_MORE.false))
+triggers-none _ c (pattern es ps) rest g d = let z = reads (begin d) c.word.ensures in absurd (omega (arith, z, c.loop-self-test.false))
 
-triggers-some : (t : _) (c : goal.triggers-After-triggers t) → Told trigger_list c.args.self.now c.triggers.new.self
+triggers-some : (t : _) (c : goal.triggers-After-put-in-loop-self t) (s' : Printer) → Prints trigger_list c.put-in-loop-self.new.self s' → Told trigger_list c.loop-self.self s'
 unfolding triggers
-triggers-some _ c no_patterns rest g d = absurd (c.if-word-ne-NO_MORE.true (reads (begin d) c.word.ensures))
-triggers-some _ c (pattern es ps) rest g d =
+triggers-some _ c s' p no_patterns rest g d = absurd (c.loop-self-test.true (reads (begin d) c.word.ensures))
+triggers-some _ c s' p (pattern es ps) rest g d =
     let item = word (begin d) c.word.ensures in
     let exprs = part c.exprs.ensures es (ready g.0 (omega arith) (omega arith), g.1.1) (text item c.put.ensures) in
-    done (part c.triggers.ensures ps (ready g.0 (omega arith) (omega arith), g.1.2) (text exprs c.put-then-word-ne-NO_MORE.ensures))
+    done (part p ps (ready g.0 (omega arith) (omega arith), g.1.2) (text exprs c.put-in-loop-self.ensures))
 
-pub triggers-returns-then-word-ne-NO_MORE : goal.triggers-returns-then-word-ne-NO_MORE
-triggers-returns-then-word-ne-NO_MORE t c = prints (cc) (cc) (omega arith) (triggers-some t c)
+pub triggers-loop-self-init : goal.triggers-loop-self-init
+triggers-loop-self-init t c = none-yet
 
-pub triggers-returns-else-word-ne-NO_MORE : goal.triggers-returns-else-word-ne-NO_MORE
-triggers-returns-else-word-ne-NO_MORE t c = prints (cc) (cc) (omega arith) (triggers-none t c)
+pub triggers-loop-self-preserved : goal.triggers-loop-self-preserved
+triggers-loop-self-preserved t c = one-more c.loop-self.invariant (cc) (cc) (omega arith) (triggers-some t c)
 
-closures-none : (t : _) (c : goal.closures-Else-word-ne-NO_MORE t) → Told (closure_list c.args.separator.now) c.args.self.now c.word.new.self
+pub triggers-returns : goal.triggers-returns
+triggers-returns t c = all-of c.loop-self.invariant (prints (cc) (cc) (omega arith) (triggers-none t c))
+
+closures-none : (t : _) (c : goal.closures-After-loop-separator t) → Told (closure_list c.loop-separator.separator.now) c.loop-separator.self c.word.new.self
 unfolding closure_bindings
 closures-none _ c no_closure_bindings rest g d = done (word (begin d) c.word.ensures)
-closures-none _ c (closure_binding n ps e bs) rest g d = let z = reads (begin d) c.word.ensures in absurd (omega (arith, z, c.if-word-ne-NO_MORE.false))
+closures-none _ c (closure_binding n ps e bs) rest g d = let z = reads (begin d) c.word.ensures in absurd (omega (arith, z, c.loop-separator-test.false))
 
-closures-some : (t : _) (c : goal.closures-After-closures t) → Told (closure_list c.args.separator.now) c.args.self.now c.closures.new.self
+closures-some : (t : _) (c : goal.closures-After-expr t) (s' : Printer) → Prints (closure_list (bytes ", ")) c.expr.new.self s' → Told (closure_list c.loop-separator.separator.now) c.loop-separator.self s'
 unfolding closure_bindings
-closures-some _ c no_closure_bindings rest g d = absurd (c.if-word-ne-NO_MORE.true (reads (begin d) c.word.ensures))
-closures-some _ c (closure_binding n ps e bs) rest g d =
+closures-some _ c s' p no_closure_bindings rest g d = absurd (c.loop-separator-test.true (reads (begin d) c.word.ensures))
+closures-some _ c s' p (closure_binding n ps e bs) rest g d =
     let item = word (begin d) c.word.ensures in
     let name = part c.name.ensures n tt (text item c.put.ensures) in
     let parameters = part c.parameters.ensures ps tt name in
-    let value = part c.expr.ensures e (ready g.0 (omega arith) (omega arith), g.1.1) (text parameters c.put-then-word-ne-NO_MORE.ensures) in
-    done (part c.closures.ensures bs (ready g.0 (omega arith) (omega arith), g.1.2) value)
+    let value = part c.expr.ensures e (ready g.0 (omega arith) (omega arith), g.1.1) (text parameters c.put-in-loop-separator.ensures) in
+    done (part p bs (ready g.0 (omega arith) (omega arith), g.1.2) value)
 
-pub closures-returns-then-word-ne-NO_MORE : goal.closures-returns-then-word-ne-NO_MORE
-closures-returns-then-word-ne-NO_MORE t c = prints (cc) (cc) (omega arith) (closures-some t c)
+pub closures-loop-separator-init : goal.closures-loop-separator-init
+closures-loop-separator-init t c = none-yet
 
-pub closures-returns-else-word-ne-NO_MORE : goal.closures-returns-else-word-ne-NO_MORE
-closures-returns-else-word-ne-NO_MORE t c = prints (cc) (cc) (omega arith) (closures-none t c)
+pub closures-loop-separator-preserved : goal.closures-loop-separator-preserved
+closures-loop-separator-preserved t c = one-more c.loop-separator.invariant (cc) (cc) (omega arith) (closures-some t c)
+
+pub closures-returns : goal.closures-returns
+closures-returns t c = all-of c.loop-separator.invariant (prints (cc) (cc) (omega arith) (closures-none t c))
 
 -- what follows a property's triggers
 colons : {N : Type 0} (span : N → Span) (ts : Patterns N) (rest : List ℕ) {r : Bool} {x : List ℕ} {s₀ s : Printer} {X : List ℕ → List ℕ} → Walk s₀ X (patterns_words span ts rest) s → Ends s r
@@ -328,23 +340,26 @@ colons : {N : Type 0} (span : N → Span) (ts : Patterns N) (rest : List ℕ) {r
 colons _ no_patterns _ l e h = rw (at-end l e) at h
 colons _ (pattern es ps) _ l e h = rw (at-end l e) at h
 
-properties-none : (t : _) (c : goal.properties-Else-word-ne-NO_MORE t) → Told (property_list c.args.separator.now) c.args.self.now c.word.new.self
+properties-none : (t : _) (c : goal.properties-After-loop-separator t) → Told (property_list c.loop-separator.separator.now) c.loop-separator.self c.word.new.self
 unfolding properties
 properties-none _ c no_closure_properties rest g d = done (word (begin d) c.word.ensures)
-properties-none _ c (closure_property ts e ps) rest g d = let z = reads (begin d) c.word.ensures in absurd (omega (arith, z, c.if-word-ne-NO_MORE.false))
+properties-none _ c (closure_property ts e ps) rest g d = let z = reads (begin d) c.word.ensures in absurd (omega (arith, z, c.loop-separator-test.false))
 
-properties-some : (t : _) (c : goal.properties-After-properties t) → Told (property_list c.args.separator.now) c.args.self.now c.properties.new.self
+properties-some : (t : _) (c : goal.properties-After-expr t) (s' : Printer) → Prints (property_list (bytes ", ")) c.expr.new.self s' → Told (property_list c.loop-separator.separator.now) c.loop-separator.self s'
 unfolding properties
-properties-some _ c no_closure_properties rest g d = absurd (c.if-word-ne-NO_MORE.true (reads (begin d) c.word.ensures))
-properties-some _ c (closure_property ts e ps) rest g d =
+properties-some _ c s' p no_closure_properties rest g d = absurd (c.loop-separator-test.true (reads (begin d) c.word.ensures))
+properties-some _ c s' p (closure_property ts e ps) rest g d =
     let item = word (begin d) c.word.ensures in
     let start = text item c.put.ensures in
     let triggers = part c.triggers.ensures ts (ready g.0 (omega arith) (omega arith), g.1.1) start in
-    let body = part c.expr.ensures e (ready g.0 (omega arith) (omega arith), g.1.2) (text triggers (these (colons _ ts _ start c.is_at_end-is_bare.ensures c.either.ensures) c.put-then-word-ne-NO_MORE.ensures)) in
-    done (part c.properties.ensures ps (ready g.0 (omega arith) (omega arith), g.1.3) body)
+    let body = part c.expr.ensures e (ready g.0 (omega arith) (omega arith), g.1.2) (text triggers (these (colons _ ts _ start c.is_at_end-is_bare.ensures c.either.ensures) c.put-in-loop-separator.ensures)) in
+    done (part p ps (ready g.0 (omega arith) (omega arith), g.1.3) body)
 
-pub properties-returns-then-word-ne-NO_MORE : goal.properties-returns-then-word-ne-NO_MORE
-properties-returns-then-word-ne-NO_MORE t c = prints (cc) (cc) (omega arith) (properties-some t c)
+pub properties-loop-separator-init : goal.properties-loop-separator-init
+properties-loop-separator-init t c = none-yet
 
-pub properties-returns-else-word-ne-NO_MORE : goal.properties-returns-else-word-ne-NO_MORE
-properties-returns-else-word-ne-NO_MORE t c = prints (cc) (cc) (omega arith) (properties-none t c)
+pub properties-loop-separator-preserved : goal.properties-loop-separator-preserved
+properties-loop-separator-preserved t c = one-more c.loop-separator.invariant (cc) (cc) (omega arith) (properties-some t c)
+
+pub properties-returns : goal.properties-returns
+properties-returns t c = all-of c.loop-separator.invariant (prints (cc) (cc) (omega arith) (properties-none t c))

@@ -1,10 +1,15 @@
 -- Five for each word that is left, and a rank of the methods that begin at one place.
 use Rattle.std.proofs.Common.{ℕ, ◌+◌, ◌*◌, ◌-◌, length}
 use Rattle.rendering.specs.declared.printer.Printer.{Printer}
+use Rattle.rendering.specs.ExprParts.{expression_list, pattern_list, trigger_list, closure_list, property_list}
+use Rattle.rendering.proofs.Walk.{Passed}
 use Rattle.rendering.proofs.printer.Printer.+expression.Given as goal
 
+abbrev left : Printer → ℕ
+left s = length s.source.words.now - s.at
+
 abbrev measure : Printer → ℕ → ℕ
-measure s rank = 5 * (length s.source.words.now - s.at) + rank
+measure s rank = 5 * left s + rank
 
 abbrev pub decreases-expr : goal.decreases-expr
 decreases-expr l = measure l.self.now 0
@@ -59,3 +64,35 @@ decreases-quantifier_expr l = measure l.self.now 1
 
 abbrev pub decreases-closure_expr : goal.decreases-closure_expr
 decreases-closure_expr l = measure l.self.now 1
+
+-- ---- the sequences: what is printed at each turn, and the words that are left
+
+abbrev pub invariant-exprs-loop-separator : goal.invariant-exprs-loop-separator
+invariant-exprs-loop-separator l = Passed (expression_list l.initial.separator) l.initial.self (expression_list l.separator) l.self
+
+abbrev pub decreases-exprs-loop-separator : goal.decreases-exprs-loop-separator
+decreases-exprs-loop-separator l = left l.self
+
+abbrev pub invariant-patterns-loop-format : goal.invariant-patterns-loop-format
+invariant-patterns-loop-format l = Passed (pattern_list l.format) l.initial.self (pattern_list l.format) l.self
+
+abbrev pub decreases-patterns-loop-format : goal.decreases-patterns-loop-format
+decreases-patterns-loop-format l = left l.self
+
+abbrev pub invariant-triggers-loop-self : goal.invariant-triggers-loop-self
+invariant-triggers-loop-self l = Passed trigger_list l.initial.self trigger_list l.self
+
+abbrev pub decreases-triggers-loop-self : goal.decreases-triggers-loop-self
+decreases-triggers-loop-self l = left l.self
+
+abbrev pub invariant-closures-loop-separator : goal.invariant-closures-loop-separator
+invariant-closures-loop-separator l = Passed (closure_list l.initial.separator) l.initial.self (closure_list l.separator) l.self
+
+abbrev pub decreases-closures-loop-separator : goal.decreases-closures-loop-separator
+decreases-closures-loop-separator l = left l.self
+
+abbrev pub invariant-properties-loop-separator : goal.invariant-properties-loop-separator
+invariant-properties-loop-separator l = Passed (property_list l.initial.separator) l.initial.self (property_list l.separator) l.self
+
+abbrev pub decreases-properties-loop-separator : goal.decreases-properties-loop-separator
+decreases-properties-loop-separator l = left l.self

@@ -4,9 +4,10 @@ use Rattle.lexing.specs.Answer.{pick}
 use Rattle.tree.specs.Ast.{no_stmts, stmts, no_cases, case, a_expr, AAssertion, no_a_exprs, a_exprs, VarDecl}
 use Rattle.tree.specs.declared.word.AExprTag.TheVariants as atag
 use Rattle.layout.specs.Statements.{shown, StatementList, choices, case_list, aexpr, PrintAExprs, StmtAsBlock}
-use Rattle.rendering.specs.Parts.{Told, named}
+use Rattle.rendering.specs.declared.printer.Printer.{Printer}
+use Rattle.rendering.specs.Parts.{Told, Prints, named}
 use Rattle.rendering.specs.StmtParts.{show, a_choose, an_if_case, an_a_expr, invariant_list, last_statements, branch_list, case_sequence, a_expr_list}
-use Rattle.rendering.proofs.Walk.{prints, ready, deeper, begin, reads, inside, word, text, these, part, done, at-end, as-print, left-as}
+use Rattle.rendering.proofs.Walk.{prints, ready, deeper, begin, reads, inside, word, text, these, part, done, at-end, as-print, left-as, none-yet, one-more, all-of}
 use Rattle.rendering.proofs.StmtPrints.Tags.{stands, stands-list, one-deeper, tagged, is-variable, is-assign, is-reinit, is-block, is-call, is-check, is-assume, is-reach, is-assert, is-forall, is-choose, is-if, is-if-case, is-loop, is-label, is-exit, is-return, is-probe, is-none, is-list}
 use Rattle.rendering.proofs.StmtPrints.Tests.{told, tells-of, empty-block-words}
 use Rattle.rendering.proofs.StmtPrints.Forms.{bare-print, if-print, branch-end, case-end, stmts-end, cases-end, last-is}
@@ -279,95 +280,106 @@ aexpr-returns-in-None t c = prints (cc) (cc) (omega arith) (no-assertion t c)
 
 -- ---- sequences
 
-pub list-returns : goal.list-returns
-list-returns t c =
-    prints (cc) (cc) (omega arith)
-    (λ ss rest g d.
-    let n = c.count-count.ensures.noted ∙ noted-at (names_in (length c.args.self.now.source.text.now)) c.args.self.now.source.counts.now c.args.self.now.source.words.now c.args.self.now.at of_stmt ss rest d g.1.0 in
-    done (part c.stmts.ensures ss (ready g.0 (omega arith) (omega arith), (n, g.1.1)) (begin d)))
-
-stmts-none : (t : _) (c : goal.stmts-Else-word-ne-NO_MORE t) → Told (last_statements c.args.left c.args.indent) c.args.self.now c.word.new.self
+-- after the number of its statements
+stmts-none : (t : _) (c : goal.list-After-loop-is_last t) → Told (last_statements c.loop-is_last.left c.args.indent) c.loop-is_last.self c.word.new.self
 unfolding StatementList
 stmts-none _ c no_stmts rest g d = done (word (begin d) c.word.ensures)
-stmts-none _ c (stmts s ss) rest g d = let z = reads (begin d) c.word.ensures in absurd (omega (arith, z, c.if-word-ne-NO_MORE.false))
+stmts-none _ c (stmts s ss) rest g d = let z = reads (begin d) c.word.ensures in absurd (omega (arith, z, c.loop-is_last-test.false))
 
-stmts-some : (t : _) (c : goal.stmts-After-stmts t) → Told (last_statements c.args.left c.args.indent) c.args.self.now c.stmts.new.self
+stmts-some : (t : _) (c : goal.list-After-stmt t) (s' : Printer) → Prints (last_statements c.saturating_sub-left.result c.args.indent) c.stmt.new.self s' → Told (last_statements c.loop-is_last.left c.args.indent) c.loop-is_last.self s'
 unfolding StatementList
-stmts-some _ c no_stmts rest g d = absurd (c.if-word-ne-NO_MORE.true (reads (begin d) c.word.ensures))
-stmts-some _ c (stmts s ss) rest g d =
-    let h = inside (begin {s = c.args.self.now} d) in
+stmts-some _ c s' p no_stmts rest g d = absurd (c.loop-is_last-test.true (reads (begin d) c.word.ensures))
+stmts-some _ c s' p (stmts s ss) rest g d =
+    let h = inside (begin {s = c.loop-is_last.self} d) in
     let item = word (begin d) c.word.ensures in
     let stmt = part (rw (last-is ss g.1.0) at c.stmt.ensures) s (ready g.0 (omega arith) (omega arith), g.1.1.0) (text item c.indent.ensures) in
     let n = g.1.0 in
-    let e = c.saturating_sub.ensures in
-    done (part c.stmts.ensures ss (ready g.0 (omega arith) (omega arith), (omega arith, g.1.1.1)) stmt)
+    let e = c.saturating_sub-left.ensures in
+    done (part p ss (ready g.0 (omega arith) (omega arith), (omega arith, g.1.1.1)) stmt)
 
-pub stmts-returns-then-word-ne-NO_MORE : goal.stmts-returns-then-word-ne-NO_MORE
-stmts-returns-then-word-ne-NO_MORE t c = prints (cc) (cc) (omega arith) (stmts-some t c)
+pub list-loop-is_last-init : goal.list-loop-is_last-init
+list-loop-is_last-init t c = none-yet
 
-pub stmts-returns-else-word-ne-NO_MORE : goal.stmts-returns-else-word-ne-NO_MORE
-stmts-returns-else-word-ne-NO_MORE t c = prints (cc) (cc) (omega arith) (stmts-none t c)
+pub list-loop-is_last-preserved : goal.list-loop-is_last-preserved
+list-loop-is_last-preserved t c = one-more c.loop-is_last.invariant (cc) (cc) (omega arith) (stmts-some t c)
 
-branches-none : (t : _) (c : goal.branches-Else-word-ne-NO_MORE t) → Told (branch_list c.args.indent) c.args.self.now c.word.new.self
+pub list-returns : goal.list-returns
+list-returns t c =
+    let all = all-of c.loop-is_last.invariant (prints (cc) (cc) (omega arith) (stmts-none t c)) in
+    prints all.source all.output all.forward
+    (λ ss rest g d.
+    let n = c.count-left.ensures.noted ∙ noted-at (names_in (length c.args.self.now.source.text.now)) c.args.self.now.source.counts.now c.args.self.now.source.words.now c.args.self.now.at of_stmt ss rest d g.1.0 in
+    done (part all ss (ready g.0 (omega arith) (omega arith), (n, g.1.1)) (begin d)))
+
+branches-none : (t : _) (c : goal.branches-After-loop-self t) → Told (branch_list c.args.indent) c.loop-self.self c.word.new.self
 unfolding choices
 branches-none _ c no_stmts rest g d = done (word (begin d) c.word.ensures)
-branches-none _ c (stmts s ss) rest g d = let z = reads (begin d) c.word.ensures in absurd (omega (arith, z, c.if-word-ne-NO_MORE.false))
+branches-none _ c (stmts s ss) rest g d = let z = reads (begin d) c.word.ensures in absurd (omega (arith, z, c.loop-self-test.false))
 
-branches-some : (t : _) (c : goal.branches-After-branches t) → Told (branch_list c.args.indent) c.args.self.now c.branches.new.self
+branches-some : (t : _) (c : goal.branches-After-put t) (s' : Printer) → Prints (branch_list c.args.indent) c.put.new.self s' → Told (branch_list c.args.indent) c.loop-self.self s'
 unfolding choices
-branches-some _ c no_stmts rest g d = absurd (c.if-word-ne-NO_MORE.true (reads (begin d) c.word.ensures))
-branches-some _ c (stmts s ss) rest g d =
-    let h = inside (begin {s = c.args.self.now} d) in
+branches-some _ c s' p no_stmts rest g d = absurd (c.loop-self-test.true (reads (begin d) c.word.ensures))
+branches-some _ c s' p (stmts s ss) rest g d =
+    let h = inside (begin {s = c.loop-self.self} d) in
     let item = word (begin d) c.word.ensures in
     let block = part c.block.ensures s (deeper g.0 (omega arith) (omega arith), g.1.0) item in
     let end = these (branch-end ss c.either.ensures (stmts-end ss rest block c.is_at_end-is_last.ensures)) c.put.ensures in
-    done (part c.branches.ensures ss (ready g.0 (omega arith) (omega arith), g.1.1) (text block end))
+    done (part p ss (ready g.0 (omega arith) (omega arith), g.1.1) (text block end))
 
-pub branches-returns-then-word-ne-NO_MORE : goal.branches-returns-then-word-ne-NO_MORE
-branches-returns-then-word-ne-NO_MORE t c = prints (cc) (cc) (omega arith) (branches-some t c)
+pub branches-loop-self-init : goal.branches-loop-self-init
+branches-loop-self-init t c = none-yet
 
-pub branches-returns-else-word-ne-NO_MORE : goal.branches-returns-else-word-ne-NO_MORE
-branches-returns-else-word-ne-NO_MORE t c = prints (cc) (cc) (omega arith) (branches-none t c)
+pub branches-loop-self-preserved : goal.branches-loop-self-preserved
+branches-loop-self-preserved t c = one-more c.loop-self.invariant (cc) (cc) (omega arith) (branches-some t c)
 
-cases-none : (t : _) (c : goal.cases-Else-word-ne-NO_MORE t) → Told (case_sequence c.args.indent) c.args.self.now c.word.new.self
+pub branches-returns : goal.branches-returns
+branches-returns t c = all-of c.loop-self.invariant (prints (cc) (cc) (omega arith) (branches-none t c))
+
+cases-none : (t : _) (c : goal.cases-After-loop-self t) → Told (case_sequence c.args.indent) c.loop-self.self c.word.new.self
 unfolding case_list
 cases-none _ c no_cases rest g d = done (word (begin d) c.word.ensures)
-cases-none _ c (case e s cs) rest g d = let z = reads (begin d) c.word.ensures in absurd (omega (arith, z, c.if-word-ne-NO_MORE.false))
+cases-none _ c (case e s cs) rest g d = let z = reads (begin d) c.word.ensures in absurd (omega (arith, z, c.loop-self-test.false))
 
-cases-some : (t : _) (c : goal.cases-After-cases t) → Told (case_sequence c.args.indent) c.args.self.now c.cases.new.self
+cases-some : (t : _) (c : goal.cases-After-put-in-loop-self-2 t) (s' : Printer) → Prints (case_sequence c.args.indent) c.put-in-loop-self-2.new.self s' → Told (case_sequence c.args.indent) c.loop-self.self s'
 unfolding case_list
-cases-some _ c no_cases rest g d = absurd (c.if-word-ne-NO_MORE.true (reads (begin d) c.word.ensures))
-cases-some _ c (case e s cs) rest g d =
-    let n = c.word.ensures.past (inside (begin {s = c.args.self.now} d)) in
+cases-some _ c s' p no_cases rest g d = absurd (c.loop-self-test.true (reads (begin d) c.word.ensures))
+cases-some _ c s' p (case e s cs) rest g d =
+    let n = c.word.ensures.past (inside (begin {s = c.loop-self.self} d)) in
     let item = word (begin d) c.word.ensures in
-    let test = text (part c.inline.ensures e (ready g.0 (omega arith) (omega arith), g.1.0) (text item c.put.ensures)) c.put-then-word-ne-NO_MORE.ensures in
+    let test = text (part c.inline.ensures e (ready g.0 (omega arith) (omega arith), g.1.0) (text item c.put.ensures)) c.put-in-loop-self.ensures in
     let block = part c.block.ensures s (deeper g.0 (omega arith) (omega arith), g.1.1) test in
-    let end = these (case-end cs c.either.ensures (cases-end cs rest block c.is_at_end-is_last.ensures)) c.put-then-word-ne-NO_MORE-2.ensures in
-    done (part c.cases.ensures cs (ready g.0 (omega arith) (omega arith), g.1.2) (text block end))
+    let end = these (case-end cs c.either.ensures (cases-end cs rest block c.is_at_end-is_last.ensures)) c.put-in-loop-self-2.ensures in
+    done (part p cs (ready g.0 (omega arith) (omega arith), g.1.2) (text block end))
 
-pub cases-returns-then-word-ne-NO_MORE : goal.cases-returns-then-word-ne-NO_MORE
-cases-returns-then-word-ne-NO_MORE t c = prints (cc) (cc) (omega arith) (cases-some t c)
+pub cases-loop-self-init : goal.cases-loop-self-init
+cases-loop-self-init t c = none-yet
 
-pub cases-returns-else-word-ne-NO_MORE : goal.cases-returns-else-word-ne-NO_MORE
-cases-returns-else-word-ne-NO_MORE t c = prints (cc) (cc) (omega arith) (cases-none t c)
+pub cases-loop-self-preserved : goal.cases-loop-self-preserved
+cases-loop-self-preserved t c = one-more c.loop-self.invariant (cc) (cc) (omega arith) (cases-some t c)
 
-aexprs-none : (t : _) (c : goal.aexprs-Else-word-ne-NO_MORE t) → Told (a_expr_list c.args.prefix.now c.args.indent) c.args.self.now c.word.new.self
+pub cases-returns : goal.cases-returns
+cases-returns t c = all-of c.loop-self.invariant (prints (cc) (cc) (omega arith) (cases-none t c))
+
+aexprs-none : (t : _) (c : goal.aexprs-After-loop-self t) → Told (a_expr_list c.args.prefix.now c.args.indent) c.loop-self.self c.word.new.self
 unfolding PrintAExprs
 aexprs-none _ c no_a_exprs rest g d = done (word (begin d) c.word.ensures)
-aexprs-none _ c (a_exprs a es) rest g d = let z = reads (begin d) c.word.ensures in absurd (omega (arith, z, c.if-word-ne-NO_MORE.false))
+aexprs-none _ c (a_exprs a es) rest g d = let z = reads (begin d) c.word.ensures in absurd (omega (arith, z, c.loop-self-test.false))
 
-aexprs-some : (t : _) (c : goal.aexprs-After-aexprs t) → Told (a_expr_list c.args.prefix.now c.args.indent) c.args.self.now c.aexprs.new.self
+aexprs-some : (t : _) (c : goal.aexprs-After-aexpr t) (s' : Printer) → Prints (a_expr_list c.args.prefix.now c.args.indent) c.aexpr.new.self s' → Told (a_expr_list c.args.prefix.now c.args.indent) c.loop-self.self s'
 unfolding PrintAExprs
-aexprs-some _ c no_a_exprs rest g d = absurd (c.if-word-ne-NO_MORE.true (reads (begin d) c.word.ensures))
-aexprs-some _ c (a_exprs a es) rest g d =
-    let h = inside (begin {s = c.args.self.now} d) in
+aexprs-some _ c s' p no_a_exprs rest g d = absurd (c.loop-self-test.true (reads (begin d) c.word.ensures))
+aexprs-some _ c s' p (a_exprs a es) rest g d =
+    let h = inside (begin {s = c.loop-self.self} d) in
     let item = word (begin d) c.word.ensures in
-    let start = text (text (text item c.indent.ensures) c.put.ensures) c.put-then-word-ne-NO_MORE.ensures in
+    let start = text (text (text item c.indent.ensures) c.put.ensures) c.put-in-loop-self.ensures in
     let assertion = part c.aexpr.ensures a (ready g.0 (omega arith) (omega arith), g.1.0) start in
-    done (part c.aexprs.ensures es (ready g.0 (omega arith) (omega arith), g.1.1) assertion)
+    done (part p es (ready g.0 (omega arith) (omega arith), g.1.1) assertion)
 
-pub aexprs-returns-then-word-ne-NO_MORE : goal.aexprs-returns-then-word-ne-NO_MORE
-aexprs-returns-then-word-ne-NO_MORE t c = prints (cc) (cc) (omega arith) (aexprs-some t c)
+pub aexprs-loop-self-init : goal.aexprs-loop-self-init
+aexprs-loop-self-init t c = none-yet
 
-pub aexprs-returns-else-word-ne-NO_MORE : goal.aexprs-returns-else-word-ne-NO_MORE
-aexprs-returns-else-word-ne-NO_MORE t c = prints (cc) (cc) (omega arith) (aexprs-none t c)
+pub aexprs-loop-self-preserved : goal.aexprs-loop-self-preserved
+aexprs-loop-self-preserved t c = one-more c.loop-self.invariant (cc) (cc) (omega arith) (aexprs-some t c)
+
+pub aexprs-returns : goal.aexprs-returns
+aexprs-returns t c = all-of c.loop-self.invariant (prints (cc) (cc) (omega arith) (aexprs-none t c))

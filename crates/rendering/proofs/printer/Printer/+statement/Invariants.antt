@@ -1,16 +1,18 @@
 -- Six for each word that is left, and a rank of the methods that begin at one place.
 use Rattle.std.proofs.Common.{ℕ, ◌+◌, ◌*◌, ◌-◌, length}
 use Rattle.rendering.specs.declared.printer.Printer.{Printer}
+use Rattle.rendering.specs.StmtParts.{last_statements, branch_list, case_sequence, a_expr_list}
+use Rattle.rendering.proofs.Walk.{Passed}
 use Rattle.rendering.proofs.printer.Printer.+statement.Given as goal
 
+abbrev left : Printer → ℕ
+left s = length s.source.words.now - s.at
+
 abbrev measure : Printer → ℕ → ℕ
-measure s rank = 6 * (length s.source.words.now - s.at) + rank
+measure s rank = 6 * left s + rank
 
 abbrev pub decreases-stmt : goal.decreases-stmt
 decreases-stmt l = measure l.self.now 0
-
-abbrev pub decreases-stmts : goal.decreases-stmts
-decreases-stmts l = measure l.self.now 0
 
 abbrev pub decreases-branches : goal.decreases-branches
 decreases-branches l = measure l.self.now 0
@@ -62,3 +64,29 @@ decreases-if_stmt l = measure l.self.now 5
 
 abbrev pub decreases-labeled_stmt : goal.decreases-labeled_stmt
 decreases-labeled_stmt l = measure l.self.now 5
+
+-- ---- the sequences: what is printed at each turn, and the words that are left
+
+abbrev pub invariant-list-loop-is_last : goal.invariant-list-loop-is_last
+invariant-list-loop-is_last l = Passed (last_statements l.initial.left l.indent) l.initial.self (last_statements l.left l.indent) l.self
+
+abbrev pub decreases-list-loop-is_last : goal.decreases-list-loop-is_last
+decreases-list-loop-is_last l = left l.self
+
+abbrev pub invariant-branches-loop-self : goal.invariant-branches-loop-self
+invariant-branches-loop-self l = Passed (branch_list l.indent) l.initial.self (branch_list l.indent) l.self
+
+abbrev pub decreases-branches-loop-self : goal.decreases-branches-loop-self
+decreases-branches-loop-self l = left l.self
+
+abbrev pub invariant-cases-loop-self : goal.invariant-cases-loop-self
+invariant-cases-loop-self l = Passed (case_sequence l.indent) l.initial.self (case_sequence l.indent) l.self
+
+abbrev pub decreases-cases-loop-self : goal.decreases-cases-loop-self
+decreases-cases-loop-self l = left l.self
+
+abbrev pub invariant-aexprs-loop-self : goal.invariant-aexprs-loop-self
+invariant-aexprs-loop-self l = Passed (a_expr_list l.prefix l.indent) l.initial.self (a_expr_list l.prefix l.indent) l.self
+
+abbrev pub decreases-aexprs-loop-self : goal.decreases-aexprs-loop-self
+decreases-aexprs-loop-self l = left l.self
