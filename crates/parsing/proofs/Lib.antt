@@ -21,3 +21,4 @@ pub mod StatementLoops
 pub mod StatementPlaces
 pub mod StatementRules
 pub mod StatementWords
+mod Named
