@@ -1,12 +1,16 @@
 -- A node's words in a table. The walk keeps a stack of frames, each of which stands for a run of words: its first words are written, and the
 -- frames of its parts take its place. Contracts of the walk's functions.
-use Rattle.std.specs.Prelude.{ℕ, zero, suc, ◌+◌, ◌≤◌, ◌<◌, min, ◌≡◌, List, [], ◌∷◌, ◌++◌, length, get_or, replicate, Option, Some, None}
+use Rattle.std.specs.Prelude.{ℕ, ◌+◌, ◌-◌, ◌≤◌, ◌<◌, ◌≡◌, List, [], ◌∷◌, ◌++◌, length, get_or, replicate, Option, Some, None, Result, Ok, Err}
+use Rattle.tree.specs.Stack.{items}
+use Rattle.tree.specs.declared.stack.Stack.{Stack}
 use Rattle.tree.specs.Tags.{more, no_more, id_expr_tag, operator_expr_tag}
 use Rattle.parsing.specs.Arena.{Run, Holds, most_arena, outside}
 use Rattle.parsing.specs.declared.arena.Node.{Node}
 use Rattle.parsing.specs.declared.arena.Node.TheVariants.{Empty, One, Two, Three, Ident, Unary, Binary, Item, Pair, Closed, Headed}
 use Rattle.reading.specs.declared.flat.Frame.{Frame}
 use Rattle.reading.specs.declared.flat.Frame.TheVariants.{Whole, Next, Last, End}
+use Rattle.reading.specs.declared.writer.Full.{Full}
+use Rattle.reading.specs.declared.writer.Writer.{Writer}
 
 -- ---- frames
 
@@ -69,43 +73,45 @@ onto None fs = fs
 abbrev pub frames_of : Option Frame × Option Frame → List Frame
 frames_of p = onto p.0 (onto p.1 [])
 
--- a frame can be put on those from the place `top` on of a stack of n
-abbrev pub Spare : Option Frame → ℕ → ℕ → Type 0
-Spare f top n = (length (onto f []) ≤ top) × (top ≤ n)
+-- a frame, if there is one, is put on a stack
+pub record Puts (f : Option Frame) (s s' : Stack Frame) : Type 0 where
+  pub items : items s' ≡ onto f (items s)
+  pub free : s.free ≡ s'.free + length (onto f [])
 
 -- ---- words
 
--- the table of n places: as many of the words as it has places for, and zeros after them
-abbrev pub fill : ℕ → List ℕ → List ℕ
-fill zero ws = []
-fill (suc n) [] = 0 ∷ fill n []
-fill (suc n) (w ∷ ws) = w ∷ fill n ws
-
--- of the words `total`, the table has all but `rest`; `out` counts them, at most to one more than the table has places
-pub record Written (total rest table : List ℕ) (out : ℕ) : Type 0 where
+-- of the words `total`, all but `rest` are written, and the table's other words are 0
+pub record Written (total rest : List ℕ) (w : Writer) : Type 0 where
   pub done : List ℕ
+  pub free : ℕ
   pub split : total ≡ done ++ rest
-  pub filled : table ≡ fill (length table) done
-  pub counted : out ≡ min (length done) (length table + 1)
+  pub filled : w.table.now ≡ done ++ replicate free 0
+  pub counted : w.len ≡ length done
+
+-- so they are after a write, or the words are more than the table has places for
+abbrev pub Wrote : (total rest : List ℕ) → Writer → Result Unit Full → Type 0
+Wrote total rest w (Ok u) = Written total rest w
+Wrote total rest w (Err e) = length w.table.now < length total
 
 -- a run of words is written
-abbrev pub Writes : Run → List ℕ → ℕ → List ℕ → ℕ → Type 0
-Writes run before out after next = (total rest : List ℕ) → Written total (run rest) before out → Written total rest after next
+pub record Writes (run : Run) (w w' : Writer) (r : Result Unit Full) : Type 0 where
+  pub output : w'.table.ghost_name ≡ w.table.ghost_name
+  pub size : length w'.table.now ≡ length w.table.now
+  pub wrote : (total rest : List ℕ) → Written total (run rest) w → Wrote total rest w' r
 
 -- ---- the walk
 
--- what the walk from a root needs: the node and its parts below `top`, and a stack of `frames` places, one for each node
-pub record Rooted (arena : List Node) (frames : ℕ) (table : List ℕ) (root : ℕ) : Type 0 where
+-- what the walk from a root needs: the node and its parts below `top`, and a stack of `places`, one for each node
+pub record Rooted (arena : List Node) (places root : ℕ) : Type 0 where
   pub run : Run
   pub top : ℕ
   pub holds : Holds arena root run
   pub below : root < top
   pub inside : top ≤ length arena
   pub small : length arena ≤ most_arena
-  pub room : top ≤ frames
-  pub clear : table ≡ replicate (length table) 0
+  pub room : top ≤ places
 
--- and what it gives
-pub record Flattened (words before after : List ℕ) (count : ℕ) : Type 0 where
-  pub filled : after ≡ fill (length before) words
-  pub counted : count ≡ min (length words) (length before + 1)
+-- and what it gives: the words and zeros after them, or that they are more than the table has places for
+abbrev pub Flattened : (words before after : List ℕ) → Result ℕ Full → Type 0
+Flattened words before after (Ok count) = (count ≡ length words) × (after ≡ words ++ replicate (length before - length words) 0)
+Flattened words before after (Err e) = length before < length words

@@ -12,6 +12,7 @@ use parsing::{Node, Whole, parse};
 use tree::{MOST_TEXT, MOST_WORDS};
 
 // All words become 0.
+// Kept: it is one call of the library, whose contract gives both callers what they need in the words of the specs.
 fn clear(table: &mut [u32])
     ensures { table.new ≡ replicate (length table.old) 0 }
 {
@@ -21,20 +22,19 @@ fn clear(table: &mut [u32])
 // The tree's words in the table, or refusal 5. The stack is made here, where that of the rules' calls is free again.
 #[inline(never)]
 fn store<const SIZE: usize>(arena: &[Node], root: u32, table: &mut [u32]) -> Result<usize, Refusal>
-    requires rooted { Rooted arena.now SIZE table.old root }
+    requires rooted { Rooted arena.now SIZE root }
+    requires clear { table.old ≡ replicate (length table.old) 0 }
     requires small { SIZE ≤ most_arena }
     ensures { (f : Run) → Holds arena.now root f → outcome_of result table.new ≡ stored (length table.old) (f []) }
 {
-    let mut stack = [Frame::Whole(0); SIZE];
-    let n = flatten(arena, root, &mut stack, table);
-    if n <= table.len().min(MOST_WORDS) {
-        return Ok(n);
+    let mut places = [Frame::Whole(0); SIZE];
+    match flatten(arena, root, &mut places, table) {
+        Ok(n) if n <= MOST_WORDS => Ok(n),
+        _ => {
+            clear(table);
+            Err(Refusal::new(Reason::TreeTooLarge, 0))
+        }
     }
-    clear(table);
-    Err(Refusal {
-        reason: Reason::TreeTooLarge,
-        place: 0,
-    })
 }
 
 // Reads a text by way of an arena and a stack of so many places: eleven, and two for each byte.
@@ -57,10 +57,7 @@ fn read(text: &[u8], table: &mut [u32], whole: Whole) -> Result<usize, Refusal>
 {
     clear(table);
     if MOST_TEXT < text.len() {
-        return Err(Refusal {
-            reason: Reason::TextTooLong,
-            place: MOST_TEXT,
-        });
+        return Err(Refusal::new(Reason::TextTooLong, MOST_TEXT));
     }
     if text.len() <= 512 {
         return read_sized::<1035>(text, table, whole);
@@ -73,6 +70,8 @@ fn read(text: &[u8], table: &mut [u32], whole: Whole) -> Result<usize, Refusal>
     }
     read_sized::<65547>(text, table, whole)
 }
+
+// Kept: the two entries are each one call of `read`, with the kind of tree that their name says.
 
 // Reads an expression: the words of its tree in the table, with zeros after them, and how many they are. Refusals 1 to 5 leave the table all
 // zero.

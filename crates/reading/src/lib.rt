@@ -4,6 +4,7 @@
 
 mod entry;
 mod flat;
+mod writer;
 
 pub use entry::{read_expression, read_program};
 pub use lexing::refusal::Refusal;

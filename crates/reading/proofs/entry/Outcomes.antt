@@ -1,17 +1,15 @@
 -- The outcomes of `store`, `read_in` and `read`, over plain lists and any kind of tree.
-use Prim.Native.Nat.{ℕ, ◌+◌, ◌*◌, ◌-◌, ◌≤◌, ◌<◌, min}
+use Prim.Native.Nat.{ℕ, ◌≤◌, ◌<◌}
 use native.Mathlib.Omega.{arith}
 use mathlib.Core.Path.{◌≡◌, refl, sym, ap, ◌∙◌}
-use mathlib.Core.Bool.{Bool, true, false, ◌&&◌}
-use mathlib.Core.List.{List, [], ◌++◌}
-use lib.ListN.{length, replicate, length-replicate}
-use lib.Dec.{leb}
-use borrow.Author.Tests.{le-leb, lt-leb, leb-true}
-use Rattle.lexing.specs.Answer.{Answer, ok, refused, pick}
-use Rattle.tree.specs.Limits.{most_text, most_words}
+use mathlib.Core.List.{List, []}
+use lib.ListN.{length, replicate}
+use borrow.Author.Tests.{le-leb, lt-leb}
+use Rattle.lexing.specs.Answer.{Answer, ok, refused}
+use Rattle.tree.specs.Limits.{most_text}
 use Rattle.tree.specs.Words.{program_words}
 use Rattle.grammar.specs.Steps.{after, mapped}
-use Rattle.grammar.specs.Reading.{Outcome, words, refusal, stored, outcome_by, tree_words, parse_text, parse_program, read_tree, read_tree_of_program, read_expression, read_program}
+use Rattle.grammar.specs.Reading.{Outcome, refusal, stored, outcome_by, tree_words, parse_text, parse_program, read_tree, read_tree_of_program, read_expression, read_program}
 use Rattle.parsing.specs.Arena.{Run, Holds}
 use Rattle.parsing.specs.Contract.{same}
 use Rattle.parsing.specs.Parse.{arena_nodes, whole_run, parsed, Planted, Parses}
@@ -21,34 +19,10 @@ use Rattle.parsing.specs.declared.arena.Node.{Node}
 use Rattle.std.specs.Prelude.{Result, Ok, Err}
 use Rattle.lexing.specs.CodeAnswers.{number}
 use Rattle.lexing.specs.declared.refusal.Refusal.{Refusal}
-use Rattle.lexing.specs.declared.refusal.Reason.TheVariants.{TextTooLong, TreeTooLarge}
+use Rattle.lexing.specs.declared.refusal.Reason.TheVariants.{TextTooLong}
 use Rattle.reading.specs.TreeRead.{outcome_of}
 use Rattle.reading.specs.Entry.{Sized, whole_outcome, read_outcome}
-use Rattle.reading.specs.Flat.{Rooted, Flattened}
-use Rattle.reading.proofs.flat.Words.{fill-all}
-
--- ---- `store`
-
-module _ {ws before after : List ℕ} {count : ℕ} (o : Flattened ws before after count) where
-  pub store_words : {most : ℕ} → most ≡ min (length after) most_words → length after ≡ length before → count ≤ most
-      → outcome_of (Ok count) after ≡ stored (length before) ws
-  store_words {most} e k h =
-      let c : count ≡ length ws = omega (arith, o.counted) in
-      let p : length ws ≤ length before = omega (arith, o.counted) in
-      let q : length ws ≤ most_words = omega (arith, o.counted) in
-      simp (le-leb _ _ p, le-leb _ _ q) (ap (λ n. words n after) c ∙ ap (words (length ws)) (o.filled ∙ fill-all (length before) ws p))
-
-  pub store-refused : {most : ℕ} {table : List ℕ} → most ≡ min (length after) most_words → length after ≡ length before → most < count
-      → table ≡ replicate (length after) 0 → outcome_of (Err (record { reason = TreeTooLarge; place = 0 })) table ≡ stored (length before) ws
-  store-refused {most} {table} e k h z =
-      ap (refusal 5 0) (z ∙ ap (λ n. replicate n 0) k) ∙ refused-by (leb (length ws) (length before)) (leb (length ws) most_words) refl refl
-    where
-      refused-by : (a b : Bool) → leb (length ws) (length before) ≡ a → leb (length ws) most_words ≡ b
-          → refusal 5 0 (replicate (length before) 0)
-          ≡ pick (a && b) (words (length ws) (ws ++ replicate (length before - length ws) 0)) (refusal 5 0 (replicate (length before) 0))
-      refused-by true true p q = absurd (omega (arith, leb-true (length ws) (length before) p, leb-true (length ws) most_words q, o.counted))
-      refused-by true false p q = refl
-      refused-by false b p q = refl
+use Rattle.reading.specs.Flat.{Rooted}
 
 -- ---- `read_in`
 
@@ -85,7 +59,7 @@ module _ (k : Whole) {text table : List ℕ} {size : ℕ} {arena later : List No
     tree = rw e at o.gives
 
     -- what `store` needs of it
-    pub parse-rooted : Rooted later size table root
+    pub parse-rooted : Rooted later size root
     parse-rooted =
         record {
           run = tree.run;
@@ -95,7 +69,6 @@ module _ (k : Whole) {text table : List ℕ} {size : ℕ} {arena later : List No
           inside = omega (arith, q.room, o.length-kept, l);
           small = omega (arith, q.small, o.length-kept, l);
           room = q.room;
-          clear = q.clear;
         }
 
     -- what `store` answers
@@ -115,7 +88,3 @@ pub answered-long : (k : Whole) (text table : List ℕ) (n : ℕ) → most_text 
 unfolding read_expression read_tree read_program read_tree_of_program
 answered-long Expression text table n h z = simp (lt-leb _ _ h) (ap (refusal 1 most_text) z)
 answered-long Program text table n h z = simp (lt-leb _ _ h) (ap (refusal 1 most_text) z)
-
--- a cleared table is as long as it was
-pub cleared-again : {table : List ℕ} {n : ℕ} → length table ≡ n → table ≡ replicate n 0 → table ≡ replicate (length table) 0
-cleared-again k z = z ∙ ap (λ n. replicate n 0) (sym k)

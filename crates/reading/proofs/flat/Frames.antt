@@ -1,7 +1,7 @@
 -- Frames of the walk: what the stack stands for, and one step.
 use Prim.Native.Nat.{ℕ, suc, ◌+◌, ◌*◌, ◌-◌, ◌^◌, ◌≤◌, ◌<◌}
 use native.Mathlib.Omega.{arith}
-use mathlib.Core.Path.{◌≡◌, refl, sym, ap, ◌∙◌}
+use mathlib.Core.Path.{◌≡◌, refl}
 use mathlib.Core.List.{List, [], ◌∷◌, ◌++◌}
 use lib.ListN.{length, get_or}
 use lib.Pow.{pow_pos, pow-lt, add-lt-pow}
@@ -76,60 +76,61 @@ two-less a b w k h j =
     let e : suc (w - 1) ≡ w = omega arith in
     omega (arith, rw e at (add-lt-pow (w - 1) (pow-lt p) (pow-lt q)))
 
--- the frame w on top of fs, whose runs give the words ws: after w's first words
-pub record Stepped (arena : List Node) (top : ℕ) (w : Frame) (fs : List Frame) (ws : List ℕ) : Type 0 where
+-- the frame w on top of fs, whose run is g: after w's first words
+pub record Stepped (arena : List Node) (top : ℕ) (w : Frame) (fs : List Frame) (g : Run) : Type 0 where
   pub limit : ℕ
   pub run : Run
   pub pending : Pending arena top limit (parts_of arena w ++ fs) run
-  pub says : ws ≡ head_of arena w (run [])
+  pub says : (r : List ℕ) → g r ≡ head_of arena w (run r)
   pub less : weight (parts_of arena w ++ fs) < 2 ^ rank w + weight fs
 
 -- a node's frame
 module _ {arena : List Node} {n : ℕ} {node : Node} (e : get_or arena n outside ≡ node) where
-  visited : {top limit : ℕ} {run : Run} (ps fs : List Frame) {ws : List ℕ} → node_parts node ≡ ps → Pending arena top limit (ps ++ fs) run
-      → ws ≡ node_head node (run []) → weight (ps ++ fs) < 2 ^ rank (Whole n) + weight fs → Stepped arena top (Whole n) fs ws
+  visited : {top limit : ℕ} {run g : Run} (ps fs : List Frame) → node_parts node ≡ ps → Pending arena top limit (ps ++ fs) run
+      → ((r : List ℕ) → g r ≡ node_head node (run r)) → weight (ps ++ fs) < 2 ^ rank (Whole n) + weight fs → Stepped arena top (Whole n) fs g
   visited {limit = limit} {run = run} ps fs q p s h =
-      record { limit = limit; run = run; pending = rw (e, q) p; says = rw e s; less = rw (e, q) h }
+      record { limit = limit; run = run; pending = rw (e, q) p; says = λ r. rw e (s r); less = rw (e, q) h }
 
   -- a node with no part, and one with two
-  leaf : {top m : ℕ} {fs : List Frame} {ws : List ℕ} {g : Run} → node_parts node ≡ [] → Pending arena top m fs g → ws ≡ node_head node (g [])
-      → Stepped arena top (Whole n) fs ws
+  leaf : {top m : ℕ} {fs : List Frame} {g h : Run} → node_parts node ≡ [] → Pending arena top m fs g → ((r : List ℕ) → h r ≡ node_head node (g r))
+      → Stepped arena top (Whole n) fs h
   leaf {fs = fs} q p s = visited [] fs q p s (none-less (rank (Whole n)) (weight fs))
 
-  over : {top m l y : ℕ} {fs : List Frame} {ws : List ℕ} {f g : Run} (v : Frame) {k : Run} → node_parts node ≡ Whole y ∷ v ∷ [] → rank v + 2 ≤ rank (Whole n)
+  over : {top m l y : ℕ} {fs : List Frame} {f g j : Run} (v : Frame) {k : Run} → node_parts node ≡ Whole y ∷ v ∷ [] → rank v + 2 ≤ rank (Whole n)
       → y < n → n < l → l < m → Holds arena y f → Means arena l v k → Pending arena top m fs g
-      → ws ≡ node_head node (f (k (g []))) → Stepped arena top (Whole n) fs ws
+      → ((r : List ℕ) → j r ≡ node_head node (f (k (g r)))) → Stepped arena top (Whole n) fs j
   over {y = y} {fs = fs} v q u b c h o fr p s =
       visited (Whole y ∷ v ∷ []) fs q (push (alone b o) c (push fr h p)) s (two-less (rank (Whole y)) (rank v) (rank (Whole n)) (weight fs) (omega arith) u)
 
 module _ {arena : List Node} {top l m : ℕ} {fs : List Frame} {g : Run} (h : l < m) (p : Pending arena top m fs g) where
-  node-step : {n : ℕ} {f : Run} → n < l → Holds arena n f → Stepped arena top (Whole n) fs (f (g []))
-  node-step c (empty a) = leaf a refl p refl
-  node-step c (one a) = leaf a refl p refl
-  node-step c (two a) = leaf a refl p refl
-  node-step c (three a) = leaf a refl p refl
-  node-step c (ident a) = leaf a refl p refl
-  node-step c (unary a b o) = over a End refl (omega arith) b c h o (end (omega arith)) p refl
-  node-step c (binary {z = z} a b d o q) = over a (Last z) refl (omega arith) b c h o (between (omega arith) q) p refl
-  node-step c (item {z = z} a b d o q) = over a (Next z) refl (omega arith) b c h o (after_one (omega arith) q) p refl
-  node-step c (pair {z = z} a b d o q) = over a (Whole z) refl (omega arith) b c h o (alone (omega arith) q) p refl
-  node-step c (closed a b o) = over a End refl (omega arith) b c h o (end (omega arith)) p refl
-  node-step c (headed {y = y} a b o) = visited a (Whole y ∷ []) fs refl (push (alone b o) (omega arith) p) refl (one_less (weight fs) (omega arith))
+  node-step : {n : ℕ} {f : Run} → n < l → Holds arena n f → Stepped arena top (Whole n) fs (λ r. f (g r))
+  node-step c (empty a) = leaf a refl p (λ r. refl)
+  node-step c (one a) = leaf a refl p (λ r. refl)
+  node-step c (two a) = leaf a refl p (λ r. refl)
+  node-step c (three a) = leaf a refl p (λ r. refl)
+  node-step c (ident a) = leaf a refl p (λ r. refl)
+  node-step c (unary a b o) = over a End refl (omega arith) b c h o (end (omega arith)) p (λ r. refl)
+  node-step c (binary {z = z} a b d o q) = over a (Last z) refl (omega arith) b c h o (between (omega arith) q) p (λ r. refl)
+  node-step c (item {z = z} a b d o q) = over a (Next z) refl (omega arith) b c h o (after_one (omega arith) q) p (λ r. refl)
+  node-step c (pair {z = z} a b d o q) = over a (Whole z) refl (omega arith) b c h o (alone (omega arith) q) p (λ r. refl)
+  node-step c (closed a b o) = over a End refl (omega arith) b c h o (end (omega arith)) p (λ r. refl)
+  node-step c (headed {y = y} a b o) =
+      visited a (Whole y ∷ []) fs refl (push (alone b o) (omega arith) p) (λ r. refl) (one_less (weight fs) (omega arith))
 
-  frame_step : {w : Frame} {f : Run} → Means arena l w f → Stepped arena top w fs (f (g []))
-  frame_step (end c) = record { limit = m; run = g; pending = p; says = refl; less = none-less 0 (weight fs) }
+  frame_step : {w : Frame} {f : Run} → Means arena l w f → Stepped arena top w fs (λ r. f (g r))
+  frame_step (end c) = record { limit = m; run = g; pending = p; says = λ r. refl; less = none-less 0 (weight fs) }
   frame_step (alone c o) = node-step c o
   frame_step (after_one {n = n} c o) =
-      record { limit = l; run = _; pending = push (alone c o) h p; says = refl; less = one_less {a = rank (Whole n)} (weight fs) (omega arith) }
+      record { limit = l; run = _; pending = push (alone c o) h p; says = λ r. refl; less = one_less {a = rank (Whole n)} (weight fs) (omega arith) }
   frame_step (between {n = n} c o) =
       let a : n < n + 1 = omega arith in
       record {
         limit = n + 1;
         run = _;
         pending = push (alone a o) (omega arith) (push (end (omega arith)) h p);
-        says = refl;
+        says = λ r. refl;
         less = two-less (rank (Whole n)) 0 (rank (Last n)) (weight fs) (omega arith) (omega arith);
       }
 
-pub step : {arena : List Node} {top l : ℕ} {w : Frame} {fs : List Frame} {g : Run} → Pending arena top l (w ∷ fs) g → Stepped arena top w fs (g [])
+pub step : {arena : List Node} {top l : ℕ} {w : Frame} {fs : List Frame} {g : Run} → Pending arena top l (w ∷ fs) g → Stepped arena top w fs g
 step (push fr h p) = frame_step h p fr

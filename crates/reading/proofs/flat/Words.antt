@@ -1,86 +1,78 @@
--- Words in the table: what a store of one more gives.
-use Prim.Native.Nat.{ℕ, zero, suc, ◌+◌, ◌-◌, ◌≤◌, ◌<◌}
+-- Words in the table: what a write of a few more gives.
+use Prim.Native.Nat.{ℕ, ◌+◌, ◌-◌, ◌≤◌, ◌<◌}
 use native.Mathlib.Omega.{arith}
 use mathlib.Core.Path.{◌≡◌, refl, sym, ap, ◌∙◌}
-use mathlib.Core.List.{List, [], ◌∷◌, ◌++◌, append_assoc}
-use lib.ListN.{length, get_or, set, take, replicate, length-append, length-set}
-use lib.Seq.{append_snoc, take_all}
-use Rattle.std.proofs.lemmas.List.{take_more}
+use mathlib.Core.List.{List, [], ◌++◌, append-nil}
+use lib.ListN.{length, take, drop, replicate, length-take, length-drop, length-replicate}
+use Rattle.std.specs.Prelude.{Result, Ok, Err}
+use Rattle.std.proofs.lemmas.List.{append_assoc, length-append, take_at, drop_at, drop-replicate}
 use Rattle.parsing.specs.Arena.{Run}
-use Rattle.reading.specs.Flat.{fill, Writes}
-
-pub length-fill : (n : ℕ) (ws : List ℕ) → length (fill n ws) ≡ n
-length-fill zero ws = refl
-length-fill (suc n) [] = ap suc (length-fill n [])
-length-fill (suc n) (w ∷ ws) = ap suc (length-fill n ws)
-
-pub fill_none : (n : ℕ) → replicate n 0 ≡ fill n []
-fill_none zero = refl
-fill_none (suc n) = ap (λ l. 0 ∷ l) (fill_none n)
-
--- one more word, in the table and past its end
-fill_more : (n : ℕ) (ws : List ℕ) (w : ℕ) → length ws < n → set (fill n ws) (length ws) w ≡ fill n (ws ++ (w ∷ []))
-fill_more zero ws w h = absurd (omega arith)
-fill_more (suc n) [] w h = refl
-fill_more (suc n) (a ∷ ws) w h = ap (λ l. a ∷ l) (fill_more n ws w (omega arith))
-
-fill-past : (n : ℕ) (ws : List ℕ) (w : ℕ) → n ≤ length ws → fill n ws ≡ fill n (ws ++ (w ∷ []))
-fill-past zero ws w h = refl
-fill-past (suc n) [] w h = absurd (omega arith)
-fill-past (suc n) (a ∷ ws) w h = ap (λ l. a ∷ l) (fill-past n ws w (omega arith))
-
--- where all the words have their place
-pub fill-all : (n : ℕ) (ws : List ℕ) → length ws ≤ n → fill n ws ≡ ws ++ replicate (n - length ws) 0
-fill-all zero [] h = refl
-fill-all zero (w ∷ ws) h = absurd (omega arith)
-fill-all (suc n) [] h = let e : suc n - 0 ≡ suc n = omega arith in rw e (sym (fill_none (suc n)))
-fill-all (suc n) (w ∷ ws) h =
-    let e : suc n - suc (length ws) ≡ n - length ws = omega arith in
-    ap (λ l. w ∷ l) (fill-all n ws (omega arith) ∙ ap (λ k. ws ++ replicate k 0) (sym e))
-
--- ---- `emit`
-
-module _ {w out : ℕ} (table : List ℕ) where
-  pub emit-inside : out < length table → Writes (λ r. w ∷ r) table out (set table out w) (out + 1)
-  emit-inside h total rest p =
-      let e : out ≡ length p.done = omega (arith, p.counted) in
-      let l : length (set table out w) ≡ length table = length-set table out w in
-      let d : length (p.done ++ (w ∷ [])) ≡ length p.done + 1 = length-append p.done (w ∷ []) in
-      record {
-        done = p.done ++ (w ∷ []);
-        split = p.split ∙ sym (append_snoc p.done w rest);
-        filled =
-            ap (λ t. set t out w) p.filled ∙ ap (λ i. set (fill (length table) p.done) i w) e
-            ∙ fill_more (length table) p.done w (omega arith)
-            ∙ ap (λ n. fill n (p.done ++ (w ∷ []))) (sym l);
-        counted = omega (arith, p.counted, l, d);
-      }
-
-  pub emit-past : length table ≤ out → Writes (λ r. w ∷ r) table out table (length table + 1)
-  emit-past h total rest p =
-      let d : length (p.done ++ (w ∷ [])) ≡ length p.done + 1 = length-append p.done (w ∷ []) in
-      record {
-        done = p.done ++ (w ∷ []);
-        split = p.split ∙ sym (append_snoc p.done w rest);
-        filled = p.filled ∙ fill-past (length table) p.done w (omega (arith, p.counted));
-        counted = omega (arith, p.counted, d);
-      }
+use Rattle.reading.specs.Flat.{Written, Wrote, Writes, Flattened}
+use Rattle.reading.specs.declared.writer.Full.{Full}
+use Rattle.reading.specs.declared.writer.Writer.{Writer}
 
 -- no word
-pub writes_none : {t : List ℕ} {i : ℕ} → Writes (λ r. r) t i t i
-writes_none total rest p = p
+pub writes_none : {w : Writer} → Writes (λ r. r) w w (Ok tt)
+writes_none = record { output = refl; size = refl; wrote = λ total rest p. p }
 
--- a run after another
-pub writes_more : {f g : Run} {t u v : List ℕ} {i j k : ℕ} → Writes f t i u j → Writes g u j v k → Writes (λ r. f (g r)) t i v k
-writes_more {g = g} p q total rest o = q total rest (p total (g rest) o)
+module _ {w w' : Writer} (ws : List ℕ) where
+  -- words after those that are written
+  pub writes-inside : {ys : List ℕ} {k : ℕ} → w'.table.ghost_name ≡ w.table.ghost_name → w'.len ≡ w.len + k
+      → w'.table.now ≡ take w.len w.table.now ++ (ys ++ drop k (drop w.len w.table.now)) → ys ≡ ws → k ≡ length ws → w.len + k ≤ length w.table.now
+      → Writes (λ r. ws ++ r) w w' (Ok tt)
+  writes-inside {ys} {k} o l e y n h = record { output = o; size = size; wrote = wrote }
+    where
+      size : length w'.table.now ≡ length w.table.now
+      size =
+          omega (
+            arith,
+            ap length e,
+            ap length y,
+            n,
+            length-append (take w.len w.table.now) (ys ++ drop k (drop w.len w.table.now)),
+            length-append ys (drop k (drop w.len w.table.now)),
+            length-take w.len w.table.now,
+            length-drop k (drop w.len w.table.now),
+            length-drop w.len w.table.now,
+          )
 
--- one word more of a slice, and all of them
-pub writes_further : (ws : List ℕ) (i : ℕ) {t u v : List ℕ} {a b c : ℕ} → i < length ws → Writes (λ r. take i ws ++ r) t a u b
-    → Writes (λ r. get_or ws i 0 ∷ r) u b v c → Writes (λ r. take (i + 1) ws ++ r) t a v c
-writes_further ws i h p q total rest o =
-    let e : take (i + 1) ws ++ rest ≡ take i ws ++ (get_or ws i 0 ∷ rest) =
-    ap (λ (l : List ℕ). l ++ rest) (take_more ws i 0 h) ∙ append_assoc (take i ws) (get_or ws i 0 ∷ []) rest in
-    q total rest (p total (get_or ws i 0 ∷ rest) (rw e at o))
+      wrote : (total rest : List ℕ) → Written total (ws ++ rest) w → Written total rest w'
+      wrote total rest p =
+          let q : take w.len w.table.now ≡ p.done = ap (take w.len) p.filled ∙ take_at p.done (replicate p.free 0) w.len (sym p.counted) in
+          let d : drop k (drop w.len w.table.now) ≡ replicate (p.free - k) 0 =
+          ap (λ l. drop k (drop w.len l)) p.filled ∙ ap (drop k) (drop_at p.done (replicate p.free 0) w.len (sym p.counted)) ∙ drop-replicate k p.free 0 in
+          record {
+            done = p.done ++ ws;
+            free = p.free - k;
+            split = p.split ∙ sym (append_assoc p.done ws rest);
+            filled = e ∙ rw (q, y, d) (sym (append_assoc p.done ws (replicate (p.free - k) 0)));
+            counted = omega (arith, l, p.counted, n, length-append p.done ws);
+          }
 
-pub writes_all : (ws : List ℕ) (i : ℕ) {t u : List ℕ} {a b : ℕ} → length ws ≤ i → Writes (λ r. take i ws ++ r) t a u b → Writes (λ r. ws ++ r) t a u b
-writes_all ws i h p total rest o = p total rest (rw (sym (take_all i ws h)) at o)
+  -- words that the table has no places for
+  pub writes-past : w'.table.ghost_name ≡ w.table.ghost_name → w'.table.now ≡ w.table.now → length w'.table.now < w.len + length ws
+      → Writes (λ r. ws ++ r) w w' (Err _)
+  writes-past o e h =
+      record {
+        output = o;
+        size = ap length e;
+        wrote = λ total rest p. omega (arith, h, ap length p.split, p.counted, length-append p.done (ws ++ rest), length-append ws rest);
+      }
+
+-- a run from the start of a table of zeros on
+module _ {f : Run} {w w' : Writer} {r : Result Unit Full} (x : Writes f w w' r) (z : w.len ≡ 0) (e : w.table.now ≡ replicate (length w.table.now) 0) where
+  all : Wrote (f []) [] w' r
+  all = x.wrote (f []) [] (record { done = []; free = length w.table.now; split = refl; filled = e; counted = z })
+
+  -- t is what the table holds once the writer is let go
+  pub all-written : r ≡ Ok tt → {t : List ℕ} → (w.table.ghost_name ≡ w'.table.ghost_name → t ≡ w'.table.now) → Flattened (f []) w.table.now t (Ok w'.len)
+  all-written h later =
+      let p : Written (f []) [] w' = rw h at all in
+      let d : p.done ≡ f [] = sym (p.split ∙ append-nil p.done) in
+      let n : length w'.table.now ≡ length p.done + p.free =
+      ap length p.filled ∙ length-append p.done (replicate p.free 0) ∙ ap (λ n. length p.done + n) (length-replicate p.free 0) in
+      let k : p.free ≡ length w.table.now - length p.done = omega (arith, x.size) in
+      rw (sym d) (p.counted, later (sym x.output) ∙ p.filled ∙ ap (λ n. p.done ++ replicate n 0) k)
+
+  pub not-all : {e : Full} → r ≡ Err e → length w.table.now < length (f [])
+  not-all h = let l : length w'.table.now < length (f []) = rw h at all in omega (arith, x.size)

@@ -4,7 +4,7 @@ use Rattle.reading.proofs.entry.Outcomes.{answered, answered-long}
 use Rattle.reading.proofs.entry.read.Goals as goal
 
 pub returns-then-text-gt-MOST_TEXT : goal.returns-then-text-gt-MOST_TEXT
-returns-then-text-gt-MOST_TEXT c = answered-long c.args.whole _ _ _ c.if-text-gt-MOST_TEXT.true c.clear.ensures
+returns-then-text-gt-MOST_TEXT c = rw c.new.ensures (answered-long c.args.whole _ _ _ c.if-text-gt-MOST_TEXT.true c.clear.ensures)
 
 pub returns-then-text-le512 : goal.returns-then-text-le512
 returns-then-text-le512 c = answered c.args.whole _ c.read_sized.ensures c.clear.auto.table (omega arith)
