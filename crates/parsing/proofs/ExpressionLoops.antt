@@ -1,5 +1,5 @@
 -- Where a turn of a loop of the expressions' rules begins.
-use Rattle.std.proofs.Common.{ℕ, zero, suc, ◌≡◌, ◌+◌, ◌<◌, ◌≤◌, ◌∙◌, refl, sym, ap, Bool, true, false, arith, List, [], ◌∷◌, length, get_or, Option, Some, None, Ok}
+use Rattle.std.proofs.Common.{ℕ, zero, suc, ◌≡◌, ◌+◌, ◌<◌, ◌≤◌, ◌∙◌, refl, sym, ap, arith, List, [], ◌∷◌, length, get_or, Option, Some, None, Ok}
 use Rattle.std.proofs.Math.Dec.{leb-zero}
 use Rattle.std.proofs.Math.Nat.{le_refl}
 use mathlib.Core.Path.{fun_ext}
@@ -20,7 +20,7 @@ use Rattle.parsing.specs.declared.expr.seq.Kind.{Kind}
 use Rattle.parsing.specs.declared.expr.seq.Kind.TheVariants.{Exprs, Bindings, Closures, Properties, Names, Formals, Parameters, Arguments}
 use Rattle.parsing.specs.declared.parser.Parser.{Parser}
 use Rattle.tree.specs.Codes.{as_operator}
-use Rattle.parsing.specs.Signs.{Operated, build_of, level_rule, ordered}
+use Rattle.parsing.specs.Signs.{Operated, build_of, level_rule}
 use Rattle.parsing.specs.Code.{turns, inner, turning, tighter_of, Layer, unary_layer, binary_layer, fold_layers, Links, Foldable, Folded}
 use Rattle.parsing.specs.declared.sign.Sign.{Sign}
 use Rattle.parsing.specs.declared.sign.Level.TheVariants.{Implication}
@@ -269,24 +269,16 @@ waiting-again depth {p} (suc left) ls v {at} l b w h k m =
       };
     }
 
--- the word of an operator whose tree is in text order
-straight-word : (sign : Sign) (op : Operator) → build_of sign ≡ straight op → as_operator sign.op ≡ op
-straight-word sign op e = by-order sign.swap e
-  where
-    by-order : (b : Bool) → ordered b sign ≡ straight op → as_operator sign.op ≡ op
-    by-order false e = cc
-    by-order true e = impossible cc
-
 -- one operator more, with its first operand
 pub waiting-next : (depth : ℕ) {p q s s₁ s₂ : Parser} {e link n e₁ word : ℕ} {sign : Sign} (w : Waiting depth p q e link)
-    → Operated build_of (level_rule Implication) q s sign → word ≡ operator_word (as_operator sign.op) → Pushed (Binary word e link) s s₁ n
+    → Operated build_of (level_rule Implication) q s sign → word ≡ operator_word LogicalImp → Pushed (Binary word e link) s s₁ n
     → Read tree_words (needed (tighter_of implication depth)) 1 0 s₁ s₂ e₁ → Waiting depth p s₂ e₁ n
 waiting-next depth {p} {s₂ = s₂} {e} {link} {n} {sign = sign} w o x m r =
     let is-implies : build_of sign ≡ straight LogicalImp = implies-is _ _ o.says in
     let l = read (tighter_of implication depth) _ r (unused m.made (operated (level_rule Implication) _ _ o w.place) (omega arith)) (leb-zero _) in
     let on = later-next o.went.later (later-next m.made.later r.went.later) in
     let here : get_or s₂.arena.now n outside ≡ Binary (operator_word LogicalImp) e link
-    = rw (x, straight-word sign LogicalImp is-implies) at (r.went.later.kept.below n (omega (arith, m.made.last)) ∙ m.here) in
+    = rw x at (r.went.later.kept.below n (omega (arith, m.made.last)) ∙ m.here) in
     let below = w.place.stands.0.below in
     let links : Links s₂.arena.now n (binary_layer LogicalImp w.tree ∷ w.layers)
     = Links.binary_link here (omega (arith, w.links-below, o.top_same, m.made.last, m.made.top)) (omega (arith, below, o.top_same, m.made.last, m.made.top))

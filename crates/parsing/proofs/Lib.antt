@@ -13,6 +13,7 @@ pub mod ExpressionPlaces
 pub mod ExpressionRules
 pub mod ProgramPlaces
 pub mod ProgramRules
+pub mod SignTables
 pub mod SimpleStatements
 pub mod StatementBranches
 pub mod StatementEquations

@@ -1,24 +1,25 @@
 -- What the functions that read operators promise.
-use Rattle.std.specs.Prelude.{ℕ, ◌≡◌, Bool, true, false, ◌||◌, eqb, Option, Some, None, Result, Ok, Err}
-use Rattle.lexing.specs.Answer.{ok, refused}
+use Rattle.std.specs.Prelude.{ℕ, ◌≡◌, ◌≤◌, Bool, ◌||◌, eqb, List, [], ◌∷◌, length, Option, Some, None, Result, Ok, Err}
+use Rattle.lexing.specs.Answer.{Answer, ok, refused}
 use Rattle.lexing.specs.CodeAnswers.{number}
 use Rattle.lexing.specs.declared.refusal.Refusal.{Refusal}
 use Rattle.tree.specs.Codes.{as_operator}
 use Rattle.grammar.specs.Grammar.{Build, straight, swapped, Class, product, sum, comparison, conjunction, disjunction, implication, explication, equivalence}
+use Rattle.grammar.specs.Steps.{mapped, ◌or◌}
 use Rattle.grammar.specs.Rules.{operator_of}
-use Rattle.parsing.specs.Contract.{Rule, Went, Missing}
+use Rattle.parsing.specs.Contract.{Rule, Went, Missing, word, sign, sign_but}
 use Rattle.parsing.specs.declared.parser.Parser.{Parser}
 use Rattle.parsing.specs.declared.sign.Level.{Level}
 use Rattle.parsing.specs.declared.sign.Level.TheVariants.{Product, Sum, Comparison, Conjunction, Disjunction, Implication, Explication, Equivalence}
 use Rattle.parsing.specs.declared.sign.Sign.{Sign}
+use Rattle.parsing.specs.declared.sign.Sign.TheVariants.{Straight, Swapped}
+use Rattle.parsing.specs.declared.sign.Spelling.{Spelling}
+use Rattle.parsing.specs.declared.sign.Spelling.TheVariants.{Sym, SymNotPrefix, Keyword}
 
 -- an operator between operands, in text order or swapped
-abbrev pub ordered : Bool → Sign → Build
-ordered false s = straight (as_operator s.op)
-ordered true s = swapped (as_operator s.op)
-
 abbrev pub build_of : Sign → Build
-build_of s = ordered s.swap s
+build_of (Straight op) = straight (as_operator op)
+build_of (Swapped op) = swapped (as_operator op)
 
 -- an operator that was read
 pub record Operated {B C : Type 0} (of : C → B) (rule : Rule B) (p q : Parser) (c : C) : Type 0 where
@@ -49,3 +50,26 @@ class_of Equivalence = equivalence
 -- the rule of a level's operators
 abbrev pub level_rule : Level → Rule Build
 level_rule level text = operator_of text (class_of level)
+
+-- ---- tables of operators
+
+-- the rule of a spelling, and how many bytes it has
+abbrev pub spelt : Spelling → Rule ℕ
+spelt (Sym b) = sign b.now
+spelt (SymNotPrefix b longer) = sign_but b.now longer.now
+spelt (Keyword b) = word b.now
+
+abbrev pub size : Spelling → ℕ
+size (Sym b) = length b.now
+size (SymNotPrefix b longer) = length b.now
+size (Keyword b) = length b.now
+
+-- what stands beside the first spelling of a table that is read
+unfoldable pub table_rule : {T : Type 0} → List (Spelling × T) → Rule T
+table_rule [] text at = Answer.none
+table_rule (e ∷ es) text at = mapped (λ _. e.1) (spelt e.0 text at) or table_rule es text at
+
+-- no spelling of a table is empty
+abbrev pub Filled : {T : Type 0} → List (Spelling × T) → Type 0
+Filled [] = Unit {0}
+Filled (e ∷ es) = 1 ≤ size e.0 × Filled es

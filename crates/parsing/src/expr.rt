@@ -7,7 +7,7 @@ use crate::expr::seq::Kind;
 use crate::parser::{Name, Parser, unusable};
 use crate::sign::Level;
 use lexing::refusal::Refusal;
-use tree::word::{ExprTag, FALSE};
+use tree::word::{ExprTag, FALSE, Operator};
 
 // The levels.
 impl<'a> Parser<'a> {
@@ -69,8 +69,8 @@ impl<'a> Parser<'a> {
         if self.sees(Level::Implication)? {
             let mut e = first;
             let mut link = EMPTY;
-            while let Some(sign) = self.operator(Level::Implication)? {
-                link = self.push(Node::Binary(sign.op.word(), e, link));
+            while self.operator(Level::Implication)?.is_some() {
+                link = self.push(Node::Binary(Operator::LogicalImp.word(), e, link));
                 e = self.need_tight(Level::Implication, depth)?;
             }
             return Ok(Some(self.fold(link, e)));
@@ -112,6 +112,7 @@ impl<'a> Parser<'a> {
     }
 
     // The operands of a level.
+    // Kept: a level has its operands as it has its signs; as a closure they would stand beside it in each call of `chain` and of `left`.
     #[cycle(expression)]
     #[tactic(auto, using(crate::proofs::Laws::failing))]
     fn tight(&mut self, level: Level, depth: usize) -> Result<Option<u32>, Refusal>

@@ -90,11 +90,10 @@ impl<'a> Parser<'a> {
         requires { Ready self.old 1 }
         ensures { Combined sign a b self.old self.new result }
     {
-        let op = sign.op.word();
-        if sign.swap {
-            return self.push(Node::Binary(op, b, a));
+        match sign {
+            Sign::Straight(op) => self.push(Node::Binary(op.word(), a, b)),
+            Sign::Swapped(op) => self.push(Node::Binary(op.word(), b, a)),
         }
-        self.push(Node::Binary(op, a, b))
     }
 
     // The operators that `first` leads back through, over the operand `last`. While they wait, each has the one before it in the place of its last

@@ -1,10 +1,9 @@
 // Operators between operands and before them.
-ghost use Rattle.std.specs.Prelude.{◌≡◌, get_or};
-ghost use Rattle.std.specs.Prelude.{Some, true, false};
+ghost use Rattle.std.specs.Prelude.{◌≡◌};
 ghost use Rattle.tree.specs.Codes.{as_operator};
-ghost use Rattle.grammar.specs.Rules.{unary_operator, equality_operator, less_operator, more_operator, parse_comparison_operator, term_operator, factor_operator, and_operator, or_operator, implies_operator, explies_operator, equiv_operator};
-ghost use Rattle.parsing.specs.Contract.{Ready};
-ghost use Rattle.parsing.specs.Signs.{build_of, Operates, level_rule, begins_operator};
+ghost use Rattle.grammar.specs.Rules.{unary_operator};
+ghost use Rattle.parsing.specs.Contract.{Ready, Takes_if};
+ghost use Rattle.parsing.specs.Signs.{build_of, Operates, level_rule, begins_operator, spelt, size, table_rule, Filled};
 
 use crate::parser::Parser;
 use lexing::refusal::Refusal;
@@ -23,184 +22,109 @@ pub(crate) enum Level {
     Equivalence,
 }
 
-// An operator between operands, and whether it swaps them.
+// An operator between operands, with those in text order or swapped.
 #[derive(Clone, Copy, PartialEq, Eq, Debug)]
-pub(crate) struct Sign {
-    pub(crate) op: Operator,
-    pub(crate) swap: bool,
+pub(crate) enum Sign {
+    Straight(Operator),
+    Swapped(Operator),
 }
 
-// In text order, and swapped.
-fn straight(op: Operator) -> Option<Sign>
-    ensures { result ≡ Some (record { op = op; swap = false }) }
-{
-    Some(Sign { op, swap: false })
+// How an operator is written: a symbol, a symbol that is not the head of the longer one, or a word.
+#[derive(Clone, Copy)]
+enum Spelling<'a> {
+    Sym(&'a [u8]),
+    SymNotPrefix(&'a [u8], &'a [u8]),
+    Keyword(&'a [u8]),
 }
 
-fn swapped(op: Operator) -> Option<Sign>
-    ensures { result ≡ Some (record { op = op; swap = true }) }
-{
-    Some(Sign { op, swap: true })
-}
+// The operators of the levels, each with its spelling, and those before an operand.
+const FACTORS: [(Spelling, Sign); 3] = [
+    (Spelling::Sym(b"*"), Sign::Straight(Operator::Times)),
+    (Spelling::Keyword(b"div"), Sign::Straight(Operator::Div)),
+    (Spelling::Keyword(b"mod"), Sign::Straight(Operator::Mod)),
+];
+
+const TERMS: [(Spelling, Sign); 2] = [
+    (Spelling::Sym(b"+"), Sign::Straight(Operator::Plus)),
+    (Spelling::Sym(b"-"), Sign::Straight(Operator::Minus)),
+];
+
+const COMPARISONS: [(Spelling, Sign); 6] = [
+    (
+        Spelling::SymNotPrefix(b"==", b"==>"),
+        Sign::Straight(Operator::Eq),
+    ),
+    (Spelling::Sym(b"!="), Sign::Straight(Operator::Neq)),
+    (
+        Spelling::SymNotPrefix(b"<=", b"<=="),
+        Sign::Straight(Operator::AtMost),
+    ),
+    (
+        Spelling::SymNotPrefix(b"<", b"<=="),
+        Sign::Straight(Operator::Less),
+    ),
+    (Spelling::Sym(b">="), Sign::Swapped(Operator::AtMost)),
+    (Spelling::Sym(b">"), Sign::Swapped(Operator::Less)),
+];
+
+const CONJUNCTIONS: [(Spelling, Sign); 1] = [(
+    Spelling::Sym(b"&&"),
+    Sign::Straight(Operator::LogicalAnd),
+)];
+
+const DISJUNCTIONS: [(Spelling, Sign); 1] = [(
+    Spelling::Sym(b"||"),
+    Sign::Straight(Operator::LogicalOr),
+)];
+
+const IMPLICATIONS: [(Spelling, Sign); 1] = [(
+    Spelling::Sym(b"==>"),
+    Sign::Straight(Operator::LogicalImp),
+)];
+
+const EXPLICATIONS: [(Spelling, Sign); 1] = [(
+    Spelling::SymNotPrefix(b"<==", b"<==>"),
+    Sign::Swapped(Operator::LogicalImp),
+)];
+
+const EQUIVALENCES: [(Spelling, Sign); 1] = [(
+    Spelling::Sym(b"<==>"),
+    Sign::Straight(Operator::Equiv),
+)];
+
+const UNARIES: [(Spelling, Operator); 2] = [
+    (Spelling::SymNotPrefix(b"!", b"!="), Operator::LogicalNot),
+    (Spelling::Sym(b"-"), Operator::UnaryMinus),
+];
 
 impl<'a> Parser<'a> {
-    #[tactic(auto, using(crate::proofs::Laws::failing), unfolding(grammar::specs::Rules::factor_operator))]
-    fn factor_operator(&mut self) -> Result<Option<Sign>, Refusal>
+    // Whether a spelling stands here, which is passed.
+    #[inline(always)]
+    fn spelt(&mut self, spelling: Spelling) -> Result<bool, Refusal>
         requires { Ready self.old 0 }
-        ensures { Operates build_of factor_operator self.old self.new result }
+        ensures { Takes_if (spelt spelling.entry) (size spelling.entry) self.old self.new result }
     {
-        if self.sym(b"*")? {
-            return Ok(straight(Operator::Times));
+        match spelling {
+            Spelling::Sym(bytes) => self.sym(bytes),
+            Spelling::SymNotPrefix(bytes, longer) => self.sym_not_prefix(bytes, longer),
+            Spelling::Keyword(bytes) => self.keyword(bytes),
         }
-        if self.keyword(b"div")? {
-            return Ok(straight(Operator::Div));
-        }
-        if self.keyword(b"mod")? {
-            return Ok(straight(Operator::Mod));
+    }
+
+    // What a table has beside the first of its spellings that stands here.
+    #[inline(always)]
+    #[tactic(auto, using(crate::proofs::Laws::failing))]
+    fn first_of<T: Copy>(&mut self, table: &[(Spelling, T)]) -> Result<Option<T>, Refusal>
+        requires ready { Ready self.old 0 }
+        requires filled { Filled table.now }
+        ensures { Operates (λ v. v) (table_rule table.now) self.old self.new result }
+    {
+        for &(spelling, value) in table {
+            if self.spelt(spelling)? {
+                return Ok(Some(value));
+            }
         }
         Ok(None)
-    }
-
-    #[tactic(auto, using(crate::proofs::Laws::failing), unfolding(grammar::specs::Rules::term_operator))]
-    fn term_operator(&mut self) -> Result<Option<Sign>, Refusal>
-        requires { Ready self.old 0 }
-        ensures { Operates build_of term_operator self.old self.new result }
-    {
-        if self.sym(b"+")? {
-            return Ok(straight(Operator::Plus));
-        }
-        if self.sym(b"-")? {
-            return Ok(straight(Operator::Minus));
-        }
-        Ok(None)
-    }
-
-    #[tactic(auto, using(crate::proofs::Laws::failing), unfolding(grammar::specs::Rules::equality_operator))]
-    fn equality_operator(&mut self) -> Result<Option<Sign>, Refusal>
-        requires { Ready self.old 0 }
-        ensures { Operates build_of equality_operator self.old self.new result }
-    {
-        if self.sym_not_prefix(b"==", b"==>")? {
-            return Ok(straight(Operator::Eq));
-        }
-        if self.sym(b"!=")? {
-            return Ok(straight(Operator::Neq));
-        }
-        Ok(None)
-    }
-
-    #[tactic(auto, using(crate::proofs::Laws::failing), unfolding(grammar::specs::Rules::less_operator))]
-    fn less_operator(&mut self) -> Result<Option<Sign>, Refusal>
-        requires { Ready self.old 0 }
-        ensures { Operates build_of less_operator self.old self.new result }
-    {
-        if self.sym_not_prefix(b"<=", b"<==")? {
-            return Ok(straight(Operator::AtMost));
-        }
-        if self.sym_not_prefix(b"<", b"<==")? {
-            return Ok(straight(Operator::Less));
-        }
-        Ok(None)
-    }
-
-    #[tactic(auto, using(crate::proofs::Laws::failing), unfolding(grammar::specs::Rules::more_operator))]
-    fn more_operator(&mut self) -> Result<Option<Sign>, Refusal>
-        requires { Ready self.old 0 }
-        ensures { Operates build_of more_operator self.old self.new result }
-    {
-        if self.sym(b">=")? {
-            return Ok(swapped(Operator::AtMost));
-        }
-        if self.sym(b">")? {
-            return Ok(swapped(Operator::Less));
-        }
-        Ok(None)
-    }
-
-    #[tactic(auto, using(crate::proofs::Laws::failing), unfolding(grammar::specs::Rules::parse_comparison_operator))]
-    fn comparison_operator(&mut self) -> Result<Option<Sign>, Refusal>
-        requires { Ready self.old 0 }
-        ensures { Operates build_of parse_comparison_operator self.old self.new result }
-    {
-        if let Some(sign) = self.equality_operator()? {
-            return Ok(Some(sign));
-        }
-        if let Some(sign) = self.less_operator()? {
-            return Ok(Some(sign));
-        }
-        self.more_operator()
-    }
-
-    #[tactic(auto, using(crate::proofs::Laws::failing), unfolding(grammar::specs::Rules::and_operator))]
-    fn and_operator(&mut self) -> Result<Option<Sign>, Refusal>
-        requires { Ready self.old 0 }
-        ensures { Operates build_of and_operator self.old self.new result }
-    {
-        if self.sym(b"&&")? {
-            return Ok(straight(Operator::LogicalAnd));
-        }
-        Ok(None)
-    }
-
-    #[tactic(auto, using(crate::proofs::Laws::failing), unfolding(grammar::specs::Rules::or_operator))]
-    fn or_operator(&mut self) -> Result<Option<Sign>, Refusal>
-        requires { Ready self.old 0 }
-        ensures { Operates build_of or_operator self.old self.new result }
-    {
-        if self.sym(b"||")? {
-            return Ok(straight(Operator::LogicalOr));
-        }
-        Ok(None)
-    }
-
-    #[tactic(auto, using(crate::proofs::Laws::failing), unfolding(grammar::specs::Rules::implies_operator))]
-    fn implies_operator(&mut self) -> Result<Option<Sign>, Refusal>
-        requires { Ready self.old 0 }
-        ensures { Operates build_of implies_operator self.old self.new result }
-    {
-        if self.sym(b"==>")? {
-            return Ok(straight(Operator::LogicalImp));
-        }
-        Ok(None)
-    }
-
-    #[tactic(auto, using(crate::proofs::Laws::failing), unfolding(grammar::specs::Rules::explies_operator))]
-    fn explies_operator(&mut self) -> Result<Option<Sign>, Refusal>
-        requires { Ready self.old 0 }
-        ensures { Operates build_of explies_operator self.old self.new result }
-    {
-        if self.sym_not_prefix(b"<==", b"<==>")? {
-            return Ok(swapped(Operator::LogicalImp));
-        }
-        Ok(None)
-    }
-
-    #[tactic(auto, using(crate::proofs::Laws::failing), unfolding(grammar::specs::Rules::equiv_operator))]
-    fn equiv_operator(&mut self) -> Result<Option<Sign>, Refusal>
-        requires { Ready self.old 0 }
-        ensures { Operates build_of equiv_operator self.old self.new result }
-    {
-        if self.sym(b"<==>")? {
-            return Ok(straight(Operator::Equiv));
-        }
-        Ok(None)
-    }
-
-    // The operator of a level, token by token.
-    fn level_operator(&mut self, level: Level) -> Result<Option<Sign>, Refusal>
-        requires { Ready self.old 0 }
-        ensures { Operates build_of (level_rule level) self.old self.new result }
-    {
-        match level {
-            Level::Product => self.factor_operator(),
-            Level::Sum => self.term_operator(),
-            Level::Comparison => self.comparison_operator(),
-            Level::Conjunction => self.and_operator(),
-            Level::Disjunction => self.or_operator(),
-            Level::Implication => self.implies_operator(),
-            Level::Explication => self.explies_operator(),
-            Level::Equivalence => self.equiv_operator(),
-        }
     }
 
     // The operator of a level. After an operand that is the last, one look at the next byte tells that there is none.
@@ -208,24 +132,27 @@ impl<'a> Parser<'a> {
         requires { Ready self.old 0 }
         ensures { Operates build_of (level_rule level) self.old self.new result }
     {
-        if begins_operator(self.peek(0)) {
-            return self.level_operator(level);
+        if !begins_operator(self.peek(0)) {
+            return Ok(None);
         }
-        Ok(None)
+        match level {
+            Level::Product => self.first_of(&FACTORS),
+            Level::Sum => self.first_of(&TERMS),
+            Level::Comparison => self.first_of(&COMPARISONS),
+            Level::Conjunction => self.first_of(&CONJUNCTIONS),
+            Level::Disjunction => self.first_of(&DISJUNCTIONS),
+            Level::Implication => self.first_of(&IMPLICATIONS),
+            Level::Explication => self.first_of(&EXPLICATIONS),
+            Level::Equivalence => self.first_of(&EQUIVALENCES),
+        }
     }
 
-    #[tactic(auto, using(crate::proofs::Laws::failing), unfolding(grammar::specs::Rules::unary_operator))]
+    // The operator before an operand.
     pub(crate) fn unary_operator(&mut self) -> Result<Option<Operator>, Refusal>
         requires { Ready self.old 0 }
         ensures { Operates as_operator unary_operator self.old self.new result }
     {
-        if self.sym_not_prefix(b"!", b"!=")? {
-            return Ok(Some(Operator::LogicalNot));
-        }
-        if self.sym(b"-")? {
-            return Ok(Some(Operator::UnaryMinus));
-        }
-        Ok(None)
+        self.first_of(&UNARIES)
     }
 }
 

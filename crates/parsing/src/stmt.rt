@@ -199,6 +199,7 @@ impl<'a> Parser<'a> {
     }
 
     // After `var` or `val`.
+    // Kept: `mutable` is VarDecl's own field, a Bool in RawAst, and chooses no step.
     #[cycle(statement)]
     fn var_decl(&mut self, mutable: bool, depth: usize) -> Result<u32, Refusal>
         requires { Ready self.old 6 }

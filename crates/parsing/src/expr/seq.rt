@@ -114,6 +114,7 @@ impl<'a> Parser<'a> {
     ghost use Rattle.tree.specs.Words.{seq_words, binding_words, option_words, p_parameter_words, call_argument_words};
 
     // After `forall` or `exists`.
+    // Kept: `universal` is QuantifierExpr's own field, a Bool in RawAst, and chooses no step.
     #[cycle(expression)]
     #[tactic(auto, using(crate::proofs::Laws::failing), unfolding(grammar::specs::Rules::after_quantifier))]
     pub(crate) fn quant(&mut self, universal: bool, depth: usize) -> Result<u32, Refusal>

@@ -23,6 +23,7 @@ use borrow.Author.Tests.{le-leb}
 use Rattle.parsing.proofs.Openings.{level-opens}
 use Rattle.parsing.proofs.ExpressionRules.{universal-word, worded-rule, wordless-rule, triggers, triggered-rule, untriggered-rule, invariant-is, argument-is}
 use Rattle.parsing.proofs.ExpressionLoops.{comma-repetition, marked-repetition, gathering, gathering-next, end-run, signed-none, signed-bare, signed-foldable, signed-done, listed, leaning-again, waiting_rest, waiting-first, waiting-next, foldable, folded, signed-first, signed-next}
+use Rattle.parsing.proofs.SignTables.{operator-stood, operator-absent}
 use Rattle.parsing.proofs.parser.Parser.+expression.Goals as goal
 
 -- ---- levels
@@ -39,9 +40,9 @@ chain-returns t c =
     let l = read_if _ _ _ first (begin c.requires) refl in
     done _ (read_last (left_rest (class_of c.args.level) c.args.depth first.value) (c.in_ok-left.ensures first.value l.stands.0) l refl) refl refl
 
-pub imp-loop-sign-init : goal.imp-loop-sign-init
+pub imp-loop-self-init : goal.imp-loop-self-init
 unfolding parse_imp_exp_expr imp_exp_tail
-imp-loop-sign-init t c =
+imp-loop-self-init t c =
     let first = rw c.in-Some.is at c.in_ok-first.ensures in
     let l = seen (level_rule Implication) _ _ (was-seen (level_rule Implication) _ _ c.in_ok-sees.ensures c.if-branch.true) (read_if _ _ _ first (begin c.requires) refl) in
     record {
@@ -54,20 +55,21 @@ imp-loop-sign-init t c =
       place = again (waiting_rest c.args.self.now.text.now c.args.depth [] (length c.args.self.now.text.now) first.value) 1 0 (said (waiting-first _ _ _ _ _) l) refl refl;
     }
 
-pub imp-loop-sign-preserved : goal.imp-loop-sign-preserved
-imp-loop-sign-preserved t c =
-    waiting-next c.args.depth c.loop-sign.invariant (rw c.in-Some-2.is at c.in_ok-sign.ensures) c.word.ensures c.push-link.ensures c.in_ok-e.ensures
+pub imp-loop-self-preserved : goal.imp-loop-self-preserved
+imp-loop-self-preserved t c =
+    let o = operator-stood _ (level_rule Implication) _ _ _ c.in_ok-operator.ensures (sym c.is_some.ensures ∙ c.if-is_some.true) in
+    waiting-next c.args.depth c.loop-self.invariant o.1 c.word.ensures c.push-link.ensures c.in_ok-e.ensures
 
 pub imp-fold-requires : goal.imp-fold-requires
 imp-fold-requires t c =
-    let w = c.loop-sign.invariant in
-    let no = rw c.in_default-2.is at c.in_ok-sign.ensures in
+    let w = c.loop-self.invariant in
+    let no = operator-absent _ (level_rule Implication) _ _ _ c.in_ok-operator.ensures (sym c.is_some.ensures ∙ c.if-is_some.false) in
     rw no.same (foldable w.layers w.tree c.requires w.place (omega arith) w.links w.links-below)
 
 pub imp-returns-then-branch : goal.imp-returns-then-branch
 imp-returns-then-branch t c =
-    let w = c.loop-sign.invariant in
-    let no = rw c.in_default-2.is at c.in_ok-sign.ensures in
+    let w = c.loop-self.invariant in
+    let no = operator-absent _ (level_rule Implication) _ _ _ c.in_ok-operator.ensures (sym c.is_some.ensures ∙ c.if-is_some.false) in
     done _ (folded w.layers w.tree c.fold.ensures (rw no.same w.links) (skipped (level_rule Implication) _ _ no w.place) (omega arith)) refl refl
 
 pub logic-returns-then-branch : goal.logic-returns-then-branch

@@ -130,11 +130,11 @@ invariant-left-loop-sign l = Turning (class_of l.level) l.depth l.first l.fn.sel
 abbrev pub decreases-left-loop-sign : goal.decreases-left-loop-sign
 decreases-left-loop-sign l = length l.self.text.now - l.self.at
 
-abbrev pub invariant-imp-loop-sign : goal.invariant-imp-loop-sign
-invariant-imp-loop-sign l = Waiting l.depth l.fn.self l.self l.e l.link
+abbrev pub invariant-imp-loop-self : goal.invariant-imp-loop-self
+invariant-imp-loop-self l = Waiting l.depth l.fn.self l.self l.e l.link
 
-abbrev pub decreases-imp-loop-sign : goal.decreases-imp-loop-sign
-decreases-imp-loop-sign l = length l.self.text.now - l.self.at
+abbrev pub decreases-imp-loop-self : goal.decreases-imp-loop-self
+decreases-imp-loop-self l = length l.self.text.now - l.self.at
 
 abbrev pub invariant-unary-loop-op : goal.invariant-unary-loop-op
 invariant-unary-loop-op l = Signed l.depth l.fn.self l.self l.link
