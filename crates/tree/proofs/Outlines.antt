@@ -1,6 +1,5 @@
 -- What the functions of the outline do at one place: a kind is noted, fields are passed.
-use Prim.Native.Nat.{ℕ, zero, suc, min, ◌+◌, ◌-◌, ◌≤◌, ◌<◌}
-use native.Mathlib.Nat.{le_of_suc-le-suc, not-suc-le-zero}
+use Prim.Native.Nat.{ℕ, suc, min, ◌+◌, ◌-◌, ◌≤◌, ◌<◌}
 use native.Mathlib.Omega.{arith}
 use mathlib.Core.Path.{◌≡◌, refl, sym, ap, ◌∙◌}
 use mathlib.Core.Bool.{Bool, true, false, ◌||◌}
@@ -11,7 +10,7 @@ use lib.Dec.{eqb, ltb}
 use borrow.Author.Tests.{eqb-false, ltb-false, lt-ltb, le-ltb}
 use Rattle.std.specs.Prelude.{Option, Some, None}
 use Rattle.tree.specs.Clash.{impossible}
-use Rattle.tree.specs.Kind.{Kind, by_row}
+use Rattle.tree.specs.Kind.{by_row}
 use Rattle.tree.specs.KindNumbers.{second_word, natural_kind, kind_of}
 use Rattle.tree.specs.KindCodes.{as_kind, kind_code}
 use Rattle.tree.specs.Codes.{Decodes}
@@ -41,15 +40,11 @@ module _ (at next : ℕ) (notes : List ℕ) {v number : ℕ} {notes₁ : List �
 
 -- ---- the ends
 
--- the loop over a row's kinds: as many fields are passed as kinds
-pub field-passed : (ends : List ℕ) (row : List Kind) (i at : ℕ) {end r : ℕ} → i < length row → end ≡ get_or ends at 0
-    → fields_end (length row - i) ends at ≡ r → fields_end (length row - (i + 1)) ends end ≡ r
-field-passed ends row i at h e f =
-    let n : length row - i ≡ suc (length row - (i + 1)) = omega arith in
-    ap (fields_end (length row - (i + 1)) ends) e ∙ sym (ap (λ (k : ℕ). fields_end k ends at) n) ∙ f
-
-pub fields-passed : (ends : List ℕ) (row : List Kind) (i at : ℕ) {r : ℕ} → length row ≤ i → fields_end (length row - i) ends at ≡ r → at ≡ r
-fields-passed ends row i at h f = let n : length row - i ≡ 0 = omega arith in sym (ap (λ (k : ℕ). fields_end k ends at) n) ∙ f
+-- the loop over a row's kinds: of n fields as many are passed as kinds
+pub field-passed : (ends : List ℕ) (n i at : ℕ) {end r : ℕ} → i < n → end ≡ get_or ends at 0 → fields_end (n - i) ends at ≡ r → fields_end (n - (i + 1)) ends end ≡ r
+field-passed ends n i at h e f =
+    let m : n - i ≡ suc (n - (i + 1)) = omega arith in
+    ap (fields_end (n - (i + 1)) ends) e ∙ sym (ap (λ (k : ℕ). fields_end k ends at) m) ∙ f
 
 -- ---- the fields of what has a kind's number, and of what has none
 
@@ -131,9 +126,6 @@ pub record Ending (words kinds ends₀ ends : List ℕ) (i : ℕ) : Type 0 where
   pub kept : length ends ≡ length ends₀
   pub found : end_notes words kinds i ends ≡ end_notes words kinds (length words) ends₀
 
-pub ending-starts : (words kinds ends : List ℕ) → length words ≤ most_words → Ending words kinds ends ends (length words)
-ending-starts words kinds ends h = record { few = h; inside = omega arith; kept = refl; found = refl }
-
 pub ending-more : {words kinds ends₀ ends ends₁ : List ℕ} {i v : ℕ} → Ending words kinds ends₀ ends i → 0 < i → v ≡ end_at words kinds (i - 1) ends → ends₁ ≡ set ends (i - 1) v
     → Ending words kinds ends₀ ends₁ (i - 1)
 unfolding end_notes
@@ -155,11 +147,10 @@ ending-ends {words} {kinds} {ends₀} {ends} {i} e h = let z : 0 ≡ i = omega a
 
 -- ---- copies
 
--- the first n numbers, as far as there is a place for them, and what stands behind
-pub filled-cut : (from before : List ℕ) (n m : ℕ) → m ≡ min n (length before) → n ≤ length from → take m from ++ drop m before ≡ filled (take n from) before
-filled-cut from before zero m e h = let z : m ≡ 0 = omega arith in rw z
-filled-cut [] before (suc n) m e h = absurd (not-suc-le-zero h)
-filled-cut (x ∷ from) [] (suc n) m e h = let z : m ≡ 0 = omega arith in rw z
-filled-cut (x ∷ from) (b ∷ before) (suc n) m e h =
-    let z : m ≡ suc (min n (length before)) = omega arith in
-    rw z (ap (λ (l : List ℕ). x ∷ l) (filled-cut from before n (min n (length before)) refl (le_of_suc-le-suc h)))
+-- the numbers, as far as there is a place for them, and what stands behind
+pub filled-cut : (from before : List ℕ) (m : ℕ) → m ≡ min (length from) (length before) → take m from ++ drop m before ≡ filled from before
+filled-cut [] before m e = let z : m ≡ 0 = omega arith in rw z
+filled-cut (x ∷ from) [] m e = let z : m ≡ 0 = omega arith in rw z
+filled-cut (x ∷ from) (b ∷ before) m e =
+    let z : m ≡ suc (min (length from) (length before)) = omega arith in
+    rw z (ap (λ (l : List ℕ). x ∷ l) (filled-cut from before (min (length from) (length before)) refl))

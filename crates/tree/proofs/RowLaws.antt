@@ -13,12 +13,10 @@ use Rattle.tree.specs.Clash.{impossible}
 use Rattle.tree.specs.Kind.{Kind, bool, operator, mode, expr, stmt, aexpr, Turn, fits, misfit, row_at, tagged, by_row, second, expr_rows, stmt_rows, aexpr_rows}
 use Rattle.tree.specs.Codes.{mode_code, operator_code, expr_code, stmt_code, aexpr_code, Decodes}
 use Rattle.tree.specs.KindCodes.{as_kind}
-use Rattle.tree.specs.Rows.{word_fields, content_fields, row_kinds, as_turn, OneWord}
+use Rattle.tree.specs.Rows.{word_fields, OneWord}
 use Rattle.tree.specs.Trees.{◌▸◌}
 use Rattle.tree.specs.declared.kind.Kind.{Kind as KindCode}
 use Rattle.tree.specs.declared.kind.Kind.TheVariants as kind
-use Rattle.tree.specs.declared.rows.Row.{Row}
-use Rattle.tree.specs.declared.rows.Row.TheVariants as row
 use Rattle.tree.specs.declared.word.Mode.{Mode}
 use Rattle.tree.specs.declared.word.Mode.TheVariants as mode_of
 use Rattle.tree.specs.declared.word.Operator.{Operator}
@@ -130,8 +128,8 @@ fits-expr expr_of.LetExpr = refl
 fits-expr expr_of.QuantifierExpr = refl
 fits-expr expr_of.ClosureExpr = refl
 
-pub expr-row : (e : ExprTag) (w : ℕ) → Decodes expr_code w (Some e) → as_turn (Some (row.Expr e)) ≡ by_row expr w
-unfolding all_exprs row_kinds
+pub expr-row : (e : ExprTag) (w : ℕ) → Decodes expr_code w (Some e) → fits (word_fields expr (expr_code e)) ≡ by_row expr w
+unfolding all_exprs
 expr-row e w d = decoded-row expr_code 1 all_exprs (refl ▸ refl ▸ refl ▸ refl ▸ refl ▸ refl ▸ refl ▸ refl ▸ refl ▸ refl ▸ tt) expr_rows refl (λ e. word_fields expr (expr_code e)) fits-expr (Some e) w d
 
 pub expr-none : (w : ℕ) → Decodes expr_code w None → misfit 0 ≡ by_row expr w
@@ -161,8 +159,8 @@ fits-stmt stmt_of.Exit = refl
 fits-stmt stmt_of.Return = refl
 fits-stmt stmt_of.Probe = refl
 
-pub stmt-row : (e : StmtTag) (w : ℕ) → Decodes stmt_code w (Some e) → as_turn (Some (row.Stmt e)) ≡ by_row stmt w
-unfolding all_stmts row_kinds
+pub stmt-row : (e : StmtTag) (w : ℕ) → Decodes stmt_code w (Some e) → fits (word_fields stmt (stmt_code e)) ≡ by_row stmt w
+unfolding all_stmts
 stmt-row e w d = decoded-row stmt_code 21 all_stmts (refl ▸ refl ▸ refl ▸ refl ▸ refl ▸ refl ▸ refl ▸ refl ▸ refl ▸ refl ▸ refl ▸ refl ▸ refl ▸ refl ▸ refl ▸ refl ▸ refl ▸ refl ▸ tt) stmt_rows refl (λ e. word_fields stmt (stmt_code e)) fits-stmt (Some e) w d
 
 pub stmt-none : (w : ℕ) → Decodes stmt_code w None → misfit 0 ≡ by_row stmt w
@@ -176,8 +174,8 @@ fits-aexpr : (e : AExprTag) → tagged 1 aexpr_rows (aexpr_code e) ≡ fits (wor
 fits-aexpr aexpr_of.AExpr = refl
 fits-aexpr aexpr_of.AAssertion = refl
 
-pub aexpr-row : (e : AExprTag) (w : ℕ) → Decodes aexpr_code w (Some e) → as_turn (Some (row.AExpr e)) ≡ by_row aexpr w
-unfolding all_aexprs row_kinds
+pub aexpr-row : (e : AExprTag) (w : ℕ) → Decodes aexpr_code w (Some e) → fits (word_fields aexpr (aexpr_code e)) ≡ by_row aexpr w
+unfolding all_aexprs
 aexpr-row e w d = decoded-row aexpr_code 1 all_aexprs (refl ▸ refl ▸ tt) aexpr_rows refl (λ e. word_fields aexpr (aexpr_code e)) fits-aexpr (Some e) w d
 
 pub aexpr-none : (w : ℕ) → Decodes aexpr_code w None → misfit 0 ≡ by_row aexpr w
@@ -192,67 +190,6 @@ bool-row (suc (suc w)) =
     let n : 2 ≤ suc (suc w) = omega arith in
     let l : length {A = List Kind} (replicate 2 []) ≡ 2 = refl in
     ap (λ (b : Bool). second b 0) (lt-leb (suc (suc w)) 1 n) ∙ tagged-high 0 (replicate 2 []) (suc (suc w)) (omega (arith, l))
-
--- an option's and a sequence's
-abbrev pub IsContent : KindCode → Type 0
-IsContent kind.Bool = ⊥
-IsContent kind.Operator = ⊥
-IsContent kind.Mode = ⊥
-IsContent kind.Expr = ⊥
-IsContent kind.Stmt = ⊥
-IsContent kind.AExpr = ⊥
-IsContent kind.OptionName = Unit {0}
-IsContent kind.OptionExpr = Unit {0}
-IsContent kind.OptionStmt = Unit {0}
-IsContent kind.OptionDefinition = Unit {0}
-IsContent kind.Names = Unit {0}
-IsContent kind.Exprs = Unit {0}
-IsContent kind.Bindings = Unit {0}
-IsContent kind.Patterns = Unit {0}
-IsContent kind.ClosureBindings = Unit {0}
-IsContent kind.ClosureProperties = Unit {0}
-IsContent kind.Stmts = Unit {0}
-IsContent kind.CallArguments = Unit {0}
-IsContent kind.Cases = Unit {0}
-IsContent kind.AExprs = Unit {0}
-IsContent kind.Taggers = Unit {0}
-IsContent kind.FParameters = Unit {0}
-IsContent kind.Functions = Unit {0}
-IsContent kind.Axioms = Unit {0}
-IsContent kind.PParameters = Unit {0}
-IsContent kind.Procedures = Unit {0}
-IsContent kind.Name = ⊥
-IsContent kind.Natural = ⊥
-
-pub content-row : (k : KindCode) (w : ℕ) → IsContent k → tagged 0 ([] ∷ content_fields (as_kind k) ∷ []) w ≡ by_row (as_kind k) w
-content-row kind.Bool w c = absurd c
-content-row kind.Operator w c = absurd c
-content-row kind.Mode w c = absurd c
-content-row kind.Expr w c = absurd c
-content-row kind.Stmt w c = absurd c
-content-row kind.AExpr w c = absurd c
-content-row kind.OptionName w c = refl
-content-row kind.OptionExpr w c = refl
-content-row kind.OptionStmt w c = refl
-content-row kind.OptionDefinition w c = refl
-content-row kind.Names w c = refl
-content-row kind.Exprs w c = refl
-content-row kind.Bindings w c = refl
-content-row kind.Patterns w c = refl
-content-row kind.ClosureBindings w c = refl
-content-row kind.ClosureProperties w c = refl
-content-row kind.Stmts w c = refl
-content-row kind.CallArguments w c = refl
-content-row kind.Cases w c = refl
-content-row kind.AExprs w c = refl
-content-row kind.Taggers w c = refl
-content-row kind.FParameters w c = refl
-content-row kind.Functions w c = refl
-content-row kind.Axioms w c = refl
-content-row kind.PParameters w c = refl
-content-row kind.Procedures w c = refl
-content-row kind.Name w c = absurd c
-content-row kind.Natural w c = absurd c
 
 -- of one word are all but a name and a natural
 pub one-word : (k : KindCode) → (k ≡ kind.Name → ⊥) → (k ≡ kind.Natural → ⊥) → OneWord (as_kind k)
@@ -284,68 +221,3 @@ one-word kind.PParameters n m = λ inside w. refl
 one-word kind.Procedures n m = λ inside w. refl
 one-word kind.Name n m = absurd (n refl)
 one-word kind.Natural n m = absurd (m refl)
-
--- no row has more than six kinds
-pub row-short : (r : Row) → length (row_kinds r) ≤ 6
-unfolding row_kinds
-row-short row.Empty = omega arith
-row-short row.Expression = omega arith
-row-short row.Program = omega arith
-row-short (row.Expr expr_of.BLiteral) = omega arith
-row-short (row.Expr expr_of.ILiteral) = omega arith
-row-short (row.Expr expr_of.CustomLiteral) = omega arith
-row-short (row.Expr expr_of.IdExpr) = omega arith
-row-short (row.Expr expr_of.OperatorExpr) = omega arith
-row-short (row.Expr expr_of.FunctionCallExpr) = omega arith
-row-short (row.Expr expr_of.LabeledExpr) = omega arith
-row-short (row.Expr expr_of.LetExpr) = omega arith
-row-short (row.Expr expr_of.QuantifierExpr) = omega arith
-row-short (row.Expr expr_of.ClosureExpr) = omega arith
-row-short (row.Stmt stmt_of.VarDecl) = omega arith
-row-short (row.Stmt stmt_of.Assign) = omega arith
-row-short (row.Stmt stmt_of.Reinit) = omega arith
-row-short (row.Stmt stmt_of.Block) = omega arith
-row-short (row.Stmt stmt_of.Call) = omega arith
-row-short (row.Stmt stmt_of.Check) = omega arith
-row-short (row.Stmt stmt_of.Assume) = omega arith
-row-short (row.Stmt stmt_of.Reach) = omega arith
-row-short (row.Stmt stmt_of.Assert) = omega arith
-row-short (row.Stmt stmt_of.AForall) = omega arith
-row-short (row.Stmt stmt_of.Choose) = omega arith
-row-short (row.Stmt stmt_of.If) = omega arith
-row-short (row.Stmt stmt_of.IfCase) = omega arith
-row-short (row.Stmt stmt_of.Loop) = omega arith
-row-short (row.Stmt stmt_of.LabeledStmt) = omega arith
-row-short (row.Stmt stmt_of.Exit) = omega arith
-row-short (row.Stmt stmt_of.Return) = omega arith
-row-short (row.Stmt stmt_of.Probe) = omega arith
-row-short (row.AExpr aexpr_of.AExpr) = omega arith
-row-short (row.AExpr aexpr_of.AAssertion) = omega arith
-row-short (row.After kind.Bool) = omega arith
-row-short (row.After kind.Operator) = omega arith
-row-short (row.After kind.Mode) = omega arith
-row-short (row.After kind.Expr) = omega arith
-row-short (row.After kind.Stmt) = omega arith
-row-short (row.After kind.AExpr) = omega arith
-row-short (row.After kind.OptionName) = omega arith
-row-short (row.After kind.OptionExpr) = omega arith
-row-short (row.After kind.OptionStmt) = omega arith
-row-short (row.After kind.OptionDefinition) = omega arith
-row-short (row.After kind.Names) = omega arith
-row-short (row.After kind.Exprs) = omega arith
-row-short (row.After kind.Bindings) = omega arith
-row-short (row.After kind.Patterns) = omega arith
-row-short (row.After kind.ClosureBindings) = omega arith
-row-short (row.After kind.ClosureProperties) = omega arith
-row-short (row.After kind.Stmts) = omega arith
-row-short (row.After kind.CallArguments) = omega arith
-row-short (row.After kind.Cases) = omega arith
-row-short (row.After kind.AExprs) = omega arith
-row-short (row.After kind.Taggers) = omega arith
-row-short (row.After kind.FParameters) = omega arith
-row-short (row.After kind.Functions) = omega arith
-row-short (row.After kind.Axioms) = omega arith
-row-short (row.After kind.PParameters) = omega arith
-row-short (row.After kind.Procedures) = omega arith
-row-short (row.After kind.Name) = omega arith
-row-short (row.After kind.Natural) = omega arith

@@ -1,20 +1,20 @@
 -- The rows and the stack of the check's code. Only contracts of private functions cite this file.
-use Rattle.std.specs.Prelude.{ℕ, Bool, ◌+◌, ◌<◌, ◌≤◌, ◌≡◌, cond, List, [], ◌∷◌, ◌++◌, length, drop, set, leb, Result, Ok, Err, Option, Some, None}
+use Rattle.std.specs.Prelude.{ℕ, Bool, ◌+◌, ◌<◌, ◌≤◌, ◌≡◌, cond, List, [], ◌∷◌, ◌++◌, length, map, drop, leb, Result, Ok, Err, Option, Some, None}
 use Rattle.std.proofs.Math.Option.{Option as Maybe, none, some}
-use Rattle.tree.specs.Kind.{Kind, bool, operator, mode, natural, low, name, length_from, expr, stmt, aexpr, option, seq, fields, contents, program_fields, Turn, fits, misfit, by_row, turn}
+use denote.Ref.{Bor}
+use Rattle.tree.specs.Kind.{Kind, bool, operator, mode, natural, low, name, length_from, expr, stmt, aexpr, option, seq, fields, contents, Turn, fits, misfit, by_row, turn}
 use Rattle.tree.specs.KindNumbers.{kind_number}
 use Rattle.tree.specs.KindCodes.{as_kind}
-use Rattle.tree.specs.Codes.{expr_code, stmt_code, aexpr_code}
 use Rattle.tree.specs.Check.{run, within}
 use Rattle.tree.specs.Tally.{Mark, Expected, mark_at, more, marked, noted, tally}
 use Rattle.tree.specs.Notes.{note_kind, kind_notes}
-use Rattle.tree.specs.declared.rows.Row.{Row}
-use Rattle.tree.specs.declared.rows.Row.TheVariants as row
 use Rattle.tree.specs.declared.kind.Kind.{Kind as KindCode}
 use Rattle.tree.specs.declared.frames.Mark.{Mark as MarkCode}
 use Rattle.tree.specs.declared.frames.Frame.{Frame}
 use Rattle.tree.specs.declared.walk.Step.{Step}
 use Rattle.tree.specs.declared.CheckError.{CheckError}
+use Rattle.tree.specs.declared.stack.Stack.{Stack}
+use Rattle.tree.specs.Stack.{items, Pushed}
 
 -- the fields of a word where that kind is expected, none where it misfits
 abbrev pub word_fields : Kind → ℕ → List Kind
@@ -39,19 +39,9 @@ content_fields (seq i) = fields i ++ (seq i ∷ [])
 abbrev pub OneWord : Kind → Type 0
 OneWord k = (inside : ℕ → ℕ → Bool) (w : ℕ) → turn inside k w ≡ by_row k w
 
--- the kinds of a row
-unfoldable pub row_kinds : Row → List Kind
-row_kinds row.Empty = []
-row_kinds row.Expression = expr ∷ []
-row_kinds row.Program = program_fields
-row_kinds (row.Expr t) = word_fields expr (expr_code t)
-row_kinds (row.Stmt t) = word_fields stmt (stmt_code t)
-row_kinds (row.AExpr t) = word_fields aexpr (aexpr_code t)
-row_kinds (row.After k) = content_fields (as_kind k)
-
 -- what the code's answer says of a word
-abbrev pub as_turn : Option Row → Turn
-as_turn (Some r) = fits (row_kinds r)
+abbrev pub as_turn : Option (Bor (List KindCode)) → Turn
+as_turn (Some r) = fits (map as_kind r.now)
 as_turn None = misfit 0
 
 -- ---- the frames of the walk's stack
@@ -66,47 +56,33 @@ abbrev pub passed_of : Option MarkCode → ℕ
 passed_of None = 0
 passed_of (Some m) = m.passed
 
--- all kinds of a row, and a frame after its first kind
-abbrev pub frame_of : Row → Option MarkCode → Frame
-frame_of r m = record { row = r; next = 0; end = length (row_kinds r); mark = m }
-
-abbrev pub rest_of : Frame → Frame
-rest_of f = record { row = f.row; next = f.next + 1; end = f.end; mark = f.mark }
-
--- a frame's end is its row's
-abbrev pub Whole : Frame → Type 0
-Whole f = f.end ≡ length (row_kinds f.row)
-
--- what a frame expects: the kinds of its row from the next on, the last with its mark
-abbrev pub left : Frame → List Kind
-left f = drop f.next (row_kinds f.row)
-
+-- what a frame expects: its kinds, the last with its mark
 abbrev pub expected_of : Frame → List Expected
-expected_of f = marked (left f) (as_mark f.mark)
+expected_of f = marked (map as_kind f.kinds.now) (as_mark f.mark)
 
--- the first of them, where there is one
-abbrev pub FirstIs : Frame → Option KindCode → Type 0
-FirstIs f None = left f ≡ []
-FirstIs f (Some k) = (f.next < length (row_kinds f.row)) × (left f ≡ as_kind k ∷ drop (f.next + 1) (row_kinds f.row))
+-- its first kind, where there is one, and what it expects after that
+abbrev pub Splits : Frame → Option (KindCode × Frame) → Type 0
+Splits f None = f.kinds.now ≡ []
+Splits f (Some s) = (f.kinds.now ≡ s.0 ∷ s.1.kinds.now) × (s.1.mark ≡ f.mark)
 
--- the mark of the first kind of a frame, which is the frame's where no other follows
+-- the mark of the kind before what a frame expects, which is the frame's where no other follows
 abbrev pub own_mark : Frame → Maybe Mark
-own_mark f = cond (leb (length (row_kinds f.row)) (f.next + 1)) (as_mark f.mark) none
+own_mark rest = cond (leb (length rest.kinds.now) 0) (as_mark rest.mark) none
 
--- the mark of a frame's first kind at a place, of which no more is passed than of the frame's
-pub record MarkIs (f : Frame) (k : KindCode) (at : ℕ) (r : Option MarkCode) : Type 0 where
-  pub is : as_mark r ≡ mark_at (as_kind k) (own_mark f) at
-  pub small : passed_of r ≤ passed_of f.mark
+-- that mark at a place, of which no more is passed than of the frame's
+pub record MarkIs (rest : Frame) (k : KindCode) (at : ℕ) (r : Option MarkCode) : Type 0 where
+  pub is : as_mark r ≡ mark_at (as_kind k) (own_mark rest) at
+  pub small : passed_of r ≤ passed_of rest.mark
 
 -- one item more
 pub record MoreIs (m r : Option MarkCode) : Type 0 where
   pub is : as_mark r ≡ more (as_mark m)
   pub small : passed_of r ≤ passed_of m + 1
 
--- a frame is put on the first `top` of a stack, unless its row has run out
-pub record Pushed (stack : List Frame) (top : ℕ) (frame : Frame) (stack' : List Frame) (r : ℕ) : Type 0 where
-  pub dropped : left frame ≡ [] → (r ≡ top) × (stack' ≡ stack)
-  pub put : (left frame ≡ [] → ⊥) → (r ≡ top + 1) × (stack' ≡ set stack top frame)
+-- a frame is put on the stack, or expects nothing
+pub record Expects (f : Frame) (s s' : Stack Frame) : Type 0 where
+  pub none : f.kinds.now ≡ [] → (items s' ≡ items s) × (s'.free ≡ s.free)
+  pub some : (f.kinds.now ≡ [] → ⊥) → Pushed f s s'
 
 -- ---- a step of the walk
 
@@ -127,5 +103,11 @@ pub record Stopped (words : List ℕ) (len at : ℕ) (k : Kind) (e : CheckError)
 
 -- what a step says of the words from a place on where the kind k is expected
 abbrev pub Stepped : List ℕ → ℕ → ℕ → Kind → Result Step CheckError → Type 0
-Stepped words len at k (Ok s) = Went words len at k s.next (row_kinds s.fields)
+Stepped words len at k (Ok s) = Went words len at k s.next (map as_kind s.fields.now)
 Stepped words len at k (Err e) = Stopped words len at k e
+
+-- what a walk finds where kinds are expected at the table's start, how it leaves the numbers of items, and, where the words are one tree, the kinds
+abbrev pub Walked : List ℕ → ℕ → List Kind → Result (Unit {0}) CheckError → List ℕ → List ℕ → List ℕ → List ℕ → Type 0
+Walked words len ks r counts counts' kinds kinds' =
+    (r ≡ run (within len) ks 0 words) × (counts' ≡ tally (within len) (marked ks none) 0 words counts)
+    × (r ≡ Ok tt → kinds' ≡ kind_notes (within len) ks 0 words kinds)

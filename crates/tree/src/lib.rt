@@ -11,28 +11,25 @@ pub mod stack;
 mod walk;
 pub mod word;
 
-ghost use Rattle.std.specs.Prelude.{◌≡◌, ◌+◌, ◌*◌, ◌^◌, get_or};
+ghost use Rattle.std.specs.Prelude.{◌≡◌, ◌+◌, ◌*◌, ◌^◌, ◌<◌, ◌≤◌, get_or, length, map};
+ghost use Rattle.tree.specs.Limits.{most_words};
 ghost use Rattle.tree.specs.Resolve.{part};
 ghost use Rattle.tree.specs.Check.{within, check as check_of, error_number, error_place, refusal, expression_refusal, program_refusal};
-ghost use Rattle.tree.specs.Rows.{row_kinds};
+ghost use Rattle.tree.specs.KindCodes.{as_kind};
 ghost use Rattle.tree.specs.Outline.{program_kinds, program_ends};
+ghost use Rattle.tree.specs.Rows.{Walked};
 ghost use Rattle.tree.specs.Notes.{kind_notes};
 ghost use Rattle.tree.specs.Tally.{counts as counts_of, expression_counts, program_counts};
 
 use frames::Frame;
+use kind::Kind;
 use outline::{blank, fill, find_ends};
-use rows::Row;
-use walk::walk;
+use walk::Table;
 
 // The limits of a table's words and of a text's bytes.
 pub const MOST_WORDS: usize = 16384;
 
 pub const MOST_TEXT: usize = 32768;
-
-// The numbers of a print's refusals: text, words or start indent are past their limits; the words aren't one tree over the text.
-const OVERSIZED: u64 = 6;
-
-const MISFITTING: u64 = 7;
 
 // Why a table is refused.
 #[derive(Clone, Copy, PartialEq, Eq, Debug)]
@@ -44,13 +41,13 @@ pub enum CheckError {
 }
 
 impl CheckError {
-    // The number of the refusal.
+    // The number of a print's refusal: text, words or start indent are past their limits, or the words aren't one tree over the text.
     pub fn number(self) -> u64
         ensures { result ≡ error_number self }
     {
         match self {
-            CheckError::Misfit(_) => MISFITTING,
-            CheckError::TooLong => OVERSIZED,
+            CheckError::Misfit(_) => 7,
+            CheckError::TooLong => 6,
         }
     }
 
@@ -87,14 +84,14 @@ pub fn count_expression(
 ) -> Result<(), CheckError>
     ensures { (refusal result ≡ expression_refusal words.now text_len) × (counts.new ≡ expression_counts words.now text_len counts.old) }
 {
-    count(words, text_len, Row::Expression, counts, &mut [])
+    count(&Table { words, text_len }, EXPRESSION, counts, &mut [])
 }
 
 // The same of a program.
 pub fn count_program(words: &[u32], text_len: usize, counts: &mut [u16]) -> Result<(), CheckError>
     ensures { (refusal result ≡ program_refusal words.now text_len) × (counts.new ≡ program_counts words.now text_len counts.old) }
 {
-    count(words, text_len, Row::Program, counts, &mut [])
+    count(&Table { words, text_len }, PROGRAM, counts, &mut [])
 }
 
 // Whether the words are one program over a text of that length; where they are, `kinds` gets for each word the number of the kind that is
@@ -108,51 +105,114 @@ pub fn outline_program(
     ensures { (refusal result ≡ program_refusal words.now text_len) × (kinds.new ≡ program_kinds words.now text_len kinds.old) × (ends.new ≡ program_ends words.now text_len ends.old) }
 {
     let mut noted = blank();
-    count(words, text_len, Row::Program, &mut [], &mut noted)?;
+    count(&Table { words, text_len }, PROGRAM, &mut [], &mut noted)?;
     let mut found = blank();
     find_ends(words, &noted, &mut found);
-    fill(&noted, words.len(), kinds);
-    fill(&found, words.len(), ends);
+    fill(&noted[..words.len()], kinds);
+    fill(&found[..words.len()], ends);
     Ok(())
 }
 
-// A table of fewer words takes a small stack.
-const SMALL_TABLE: usize = 256;
+// What is expected of an expression, and of a program: its five sequences.
+const EXPRESSION: &'static [Kind] = &[Kind::Expr];
 
-// What the check finds where the kinds of a row are expected, with what is noted of it.
+const PROGRAM: &'static [Kind] = &[
+    Kind::Names,
+    Kind::Taggers,
+    Kind::Functions,
+    Kind::Axioms,
+    Kind::Procedures,
+];
+
+// What the check finds where kinds are expected, with what is noted of it. A table of fewer words takes a smaller stack.
 fn count(
-    words: &[u32],
-    text_len: usize,
-    first: Row,
+    table: &Table,
+    first: &'static [Kind],
     counts: &mut [u16],
     kinds: &mut [u16],
 ) -> Result<(), CheckError>
-    ensures { (result ≡ check_of (row_kinds first) words.now text_len) × (counts.new ≡ counts_of (row_kinds first) words.now text_len counts.old) × (result ≡ Ok tt → kinds.new ≡ kind_notes (within text_len) (row_kinds first) 0 words.now kinds.old) }
+    ensures { (result ≡ check_of (map as_kind first.now) table.now.words.now table.now.text_len) × (counts.new ≡ counts_of (map as_kind first.now) table.now.words.now table.now.text_len counts.old) × (result ≡ Ok tt → kinds.new ≡ kind_notes (within table.now.text_len) (map as_kind first.now) 0 table.now.words.now kinds.old) }
 {
-    if words.len() < SMALL_TABLE {
-        let mut stack = [Frame::EMPTY; SMALL_TABLE];
-        return walk(words, text_len, first, &mut stack, counts, kinds);
+    let size = table.words.len();
+    if size < SMALL {
+        walk_small(table, first, counts, kinds)
+    } else if size < MEDIUM {
+        walk_medium(table, first, counts, kinds)
+    } else if size <= MOST_WORDS {
+        walk_large(table, first, counts, kinds)
+    } else {
+        Err(CheckError::TooLong)
     }
-    if words.len() <= MOST_WORDS {
-        let mut stack = [Frame::EMPTY; MOST_WORDS + 1];
-        return walk(words, text_len, first, &mut stack, counts, kinds);
-    }
-    Err(CheckError::TooLong)
+}
+
+// The places of the stacks. Each stack is a function's own, so that a small table doesn't take a large one.
+// Kept: three functions, since in one with the size as a const parameter the borrow checker does not cover the array, whose frames hold slices.
+const SMALL: usize = 256;
+
+const MEDIUM: usize = 4096;
+
+#[inline(never)]
+fn walk_small(
+    table: &Table,
+    first: &'static [Kind],
+    counts: &mut [u16],
+    kinds: &mut [u16],
+) -> Result<(), CheckError>
+    requires { length table.now.words.now < 256 }
+    ensures { Walked table.now.words.now table.now.text_len (map as_kind first.now) result counts.old counts.new kinds.old kinds.new }
+{
+    let mut places = [Frame::EMPTY; SMALL];
+    table.walk(first, &mut places, counts, kinds)
+}
+
+#[inline(never)]
+fn walk_medium(
+    table: &Table,
+    first: &'static [Kind],
+    counts: &mut [u16],
+    kinds: &mut [u16],
+) -> Result<(), CheckError>
+    requires { length table.now.words.now < 4096 }
+    ensures { Walked table.now.words.now table.now.text_len (map as_kind first.now) result counts.old counts.new kinds.old kinds.new }
+{
+    let mut places = [Frame::EMPTY; MEDIUM];
+    table.walk(first, &mut places, counts, kinds)
+}
+
+#[inline(never)]
+fn walk_large(
+    table: &Table,
+    first: &'static [Kind],
+    counts: &mut [u16],
+    kinds: &mut [u16],
+) -> Result<(), CheckError>
+    requires { length table.now.words.now ≤ most_words }
+    ensures { Walked table.now.words.now table.now.text_len (map as_kind first.now) result counts.old counts.new kinds.old kinds.new }
+{
+    let mut places = [Frame::EMPTY; MOST_WORDS + 1];
+    table.walk(first, &mut places, counts, kinds)
 }
 
 // The word at a place; 0 past the end.
 pub fn get(words: &[u32], at: usize) -> u32
     ensures { result ≡ get_or words.now at 0 }
 {
-    words.get(at).copied().unwrap_or(0)
+    item_or(words, at, 0)
+}
+
+// The item at a place; the other one past the end.
+pub fn item_or<T: Copy>(items: &[T], at: usize, other: T) -> T
+    ensures { result ≡ get_or items.now at other }
+{
+    items.get(at).copied().unwrap_or(other)
 }
 
 // The natural whose high word stands at a place; a word past the end is 0.
 pub fn natural(words: &[u32], at: usize) -> u64
     ensures { result ≡ get_or words.now at 0 * 2 ^ 32 + get_or words.now (at + 1) 0 }
 {
-    let high = get(words, at) as u64;
-    let low = get(words, at.saturating_add(1)) as u64;
+    let high = u64::from(get(words, at));
+    let low = u64::from(get(words, at.saturating_add(1)));
     high << 32 | low
 }
 

@@ -2,13 +2,12 @@
 ghost use Rattle.std.specs.Prelude.{◌≡◌, ◌+◌, ◌<◌, ◌≤◌, length, get_or, set, take};
 ghost use Rattle.tree.specs.Limits.{most_words};
 ghost use Rattle.tree.specs.KindCodes.{kind_code};
-ghost use Rattle.tree.specs.Rows.{row_kinds};
 ghost use Rattle.tree.specs.Outline.{filled};
 ghost use Rattle.tree.specs.Notes.{note_kind, fields_end, end_at, end_notes};
 
 use crate::kind::{Kind, SECOND_WORD};
-use crate::rows::{Row, row_of};
-use crate::{MOST_WORDS, get};
+use crate::rows::row_of;
+use crate::{MOST_WORDS, get, item_or};
 
 // A place for each word of a table. Callers know its length alone, so no proof computes the array.
 pub(crate) fn blank() -> [u16; MOST_WORDS]
@@ -27,13 +26,6 @@ pub(crate) fn put(notes: &mut [u16], at: usize, number: u16)
     }
 }
 
-// The number at a place; 0 past the end.
-fn note_at(notes: &[u16], at: usize) -> u16
-    ensures { result ≡ get_or notes.now at 0 }
-{
-    notes.get(at).copied().unwrap_or(0)
-}
-
 // Notes the kind at a place, and a second word after it where the next place is two further on.
 pub(crate) fn note_kind(kinds: &mut [u16], at: usize, next: usize, kind: Kind)
     requires { at < most_words }
@@ -47,12 +39,12 @@ pub(crate) fn note_kind(kinds: &mut [u16], at: usize, next: usize, kind: Kind)
 }
 
 // The place after the fields of a row that begin at a place.
-fn after_fields(ends: &[u16], row: Row, first: u16) -> u16
-    ensures { result ≡ fields_end (length (row_kinds row)) ends.now first }
+fn after_fields(ends: &[u16], row: &[Kind], first: u16) -> u16
+    ensures { result ≡ fields_end (length row.now) ends.now first }
 {
     let mut next = first;
-    for _ in row.kinds() {
-        next = note_at(ends, next as usize);
+    for _ in row {
+        next = item_or(ends, usize::from(next), 0);
     }
     next
 }
@@ -64,11 +56,11 @@ fn end_of(words: &[u32], kinds: &[u16], ends: &[u16], at: usize) -> u16
 {
     let second = at + 1;
     let next = second as u16;
-    let Some(kind) = Kind::from_number(note_at(kinds, at)) else {
+    let Some(kind) = Kind::from_number(item_or(kinds, at, 0)) else {
         return next;
     };
     match kind {
-        Kind::Name | Kind::Natural => note_at(ends, second),
+        Kind::Name | Kind::Natural => item_or(ends, second, 0),
         _ => match row_of(kind, get(words, at)) {
             Some(row) => after_fields(ends, row, next),
             None => next,
@@ -87,11 +79,10 @@ pub(crate) fn find_ends(words: &[u32], kinds: &[u16], ends: &mut [u16])
     }
 }
 
-// Copies the first n numbers, as far as there is a place for them.
-pub(crate) fn fill(from: &[u16], n: usize, to: &mut [u16])
-    requires { n ≤ length from.now }
-    ensures { to.new ≡ filled (take n from.now) to.old }
+// Copies numbers, as far as there is a place for them.
+pub(crate) fn fill(from: &[u16], to: &mut [u16])
+    ensures { to.new ≡ filled from.now to.old }
 {
-    let n = n.min(to.len());
+    let n = from.len().min(to.len());
     to[..n].copy_from_slice(&from[..n]);
 }

@@ -3,52 +3,10 @@ ghost use Rattle.std.specs.Prelude.{◌≡◌, [], ◌∷◌, map};
 ghost use Rattle.tree.specs.Kind.{expr, stmt, aexpr, second, tagged, by_row};
 ghost use Rattle.tree.specs.KindCodes.{as_kind};
 ghost use Rattle.tree.specs.Codes.{expr_code, stmt_code, aexpr_code};
-ghost use Rattle.tree.specs.Rows.{word_fields, content_fields, row_kinds, as_turn};
+ghost use Rattle.tree.specs.Rows.{word_fields, content_fields, as_turn};
 
 use crate::kind::Kind;
 use crate::word::{AExprTag, ExprTag, MORE, Mode, NO_MORE, Operator, StmtTag, TRUE};
-
-// Which kinds are expected in turn.
-#[derive(Clone, Copy)]
-pub(crate) enum Row {
-    // None.
-    Empty,
-    // An expression.
-    Expression,
-    // A program's five sequences.
-    Program,
-    // The fields of a constructor.
-    Expr(ExprTag),
-    Stmt(StmtTag),
-    AExpr(AExprTag),
-    // What an option holds, or an item of a sequence and the rest of the sequence.
-    After(Kind),
-}
-
-impl Row {
-    // Its kinds. Inlined, the check of a table takes a sixth less time.
-    #[inline(always)]
-    #[tactic(auto, unfolding(crate::specs::Rows::row_kinds))]
-    pub(crate) fn kinds(self) -> &'static [Kind]
-        ensures { map as_kind result.now ≡ row_kinds self }
-    {
-        match self {
-            Row::Empty => &[],
-            Row::Expression => &[Kind::Expr],
-            Row::Program => &[
-                Kind::Names,
-                Kind::Taggers,
-                Kind::Functions,
-                Kind::Axioms,
-                Kind::Procedures,
-            ],
-            Row::Expr(tag) => expr_row(tag),
-            Row::Stmt(tag) => stmt_row(tag),
-            Row::AExpr(tag) => aexpr_row(tag),
-            Row::After(kind) => content_row(kind),
-        }
-    }
-}
 
 // The fields of Expr's constructors.
 fn expr_row(tag: ExprTag) -> &'static [Kind]
@@ -171,37 +129,35 @@ fn content_row(kind: Kind) -> &'static [Kind]
 }
 
 // The row that a word of that kind begins, where there is such a word; a name and a natural, whose words may be any, have none.
-pub(crate) fn row_of(kind: Kind, word: u32) -> Option<Row>
+pub(crate) fn row_of(kind: Kind, word: u32) -> Option<&'static [Kind]>
     ensures { as_turn result ≡ by_row (as_kind kind) word }
 {
     match kind {
         Kind::Bool => leaf(word <= TRUE),
         Kind::Operator => leaf(Operator::from_word(word).is_some()),
         Kind::Mode => leaf(Mode::from_word(word).is_some()),
-        Kind::Expr => Some(Row::Expr(ExprTag::from_word(word)?)),
-        Kind::Stmt => Some(Row::Stmt(StmtTag::from_word(word)?)),
-        Kind::AExpr => Some(Row::AExpr(AExprTag::from_word(word)?)),
+        Kind::Expr => Some(expr_row(ExprTag::from_word(word)?)),
+        Kind::Stmt => Some(stmt_row(StmtTag::from_word(word)?)),
+        Kind::AExpr => Some(aexpr_row(AExprTag::from_word(word)?)),
         Kind::Name | Kind::Natural => None,
         _ => mark_row(kind, word),
     }
 }
 
 // That of a word without fields, where it fits.
-#[tactic(auto, unfolding(crate::specs::Rows::row_kinds))]
-fn leaf(fits: bool) -> Option<Row>
+fn leaf(fits: bool) -> Option<&'static [Kind]>
     ensures { as_turn result ≡ second fits 0 }
 {
-    fits.then_some(Row::Empty)
+    if fits { Some(&[]) } else { None }
 }
 
 // That of an option's or a sequence's mark: nothing follows 0, and its content follows 1.
-#[tactic(auto, unfolding(crate::specs::Rows::row_kinds))]
-fn mark_row(kind: Kind, word: u32) -> Option<Row>
+fn mark_row(kind: Kind, word: u32) -> Option<&'static [Kind]>
     ensures { as_turn result ≡ tagged 0 ([] ∷ content_fields (as_kind kind) ∷ []) word }
 {
     match word {
-        NO_MORE => Some(Row::Empty),
-        MORE => Some(Row::After(kind)),
+        NO_MORE => Some(&[]),
+        MORE => Some(content_row(kind)),
         _ => None,
     }
 }

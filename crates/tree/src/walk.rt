@@ -1,105 +1,128 @@
 // The walk over a table's words: a stack of frames, whose kinds from the top down are expected, with the marks of the sequences of which
 // items are passed.
-ghost use Rattle.std.specs.Prelude.{◌≡◌, ℕ, ◌+◌, ◌^◌, ◌<◌, ◌≤◌, length, get_or};
-ghost use Rattle.std.proofs.Math.Option.{none};
+ghost use Rattle.std.specs.Prelude.{ℕ, ◌<◌, ◌≤◌, length, map};
 ghost use Rattle.tree.specs.Limits.{most_words};
 ghost use Rattle.tree.specs.Kind.{name, natural};
-ghost use Rattle.tree.specs.Check.{run, within};
-ghost use Rattle.tree.specs.Tally.{marked, tally};
 ghost use Rattle.tree.specs.KindCodes.{as_kind};
-ghost use Rattle.tree.specs.Rows.{row_kinds, OneWord, Stepped};
-ghost use Rattle.tree.specs.Notes.{kind_notes};
+ghost use Rattle.tree.specs.Rows.{OneWord, Stepped, Walked};
 
-use crate::frames::{Frame, more, note, push};
+use crate::frames::{Frame, expect, more, note};
 use crate::kind::Kind;
 use crate::outline::note_kind;
-use crate::rows::{Row, row_of};
+use crate::rows::row_of;
+use crate::stack::Stack;
 use crate::{CheckError, get};
+
+// The words of a table, over a text of that length.
+#[derive(Clone, Copy)]
+pub(crate) struct Table<'a> {
+    pub(crate) words: &'a [u32],
+    pub(crate) text_len: usize,
+}
 
 // A step over the words at a place, which fit the kind that is expected there: the place after them, and what is expected next.
 #[derive(Clone, Copy)]
 pub(crate) struct Step {
     next: usize,
-    fields: Row,
+    fields: &'static [Kind],
 }
 
-// What the check finds where the kinds of the row `first` are expected at the table's start; the sequences' numbers of items are noted,
-// and the kinds where the words are one tree.
-pub(crate) fn walk(
-    words: &[u32],
-    text_len: usize,
-    first: Row,
-    stack: &mut [Frame],
-    counts: &mut [u16],
-    kinds: &mut [u16],
-) -> Result<(), CheckError>
-    requires { (length words.now < length stack.old) × (length words.now ≤ most_words) }
-    ensures { (result ≡ run (within text_len) (row_kinds first) 0 words.now) × (counts.new ≡ tally (within text_len) (marked (row_kinds first) none) 0 words.now counts.old) × (result ≡ Ok tt → kinds.new ≡ kind_notes (within text_len) (row_kinds first) 0 words.now kinds.old) }
-{
-    // Kept: a stack in a lent slice with the number of its frames, since the library has no heap for a Vec.
-    stack[0] = Frame::of(first, None);
-    let mut top: usize = 1;
-    let mut at: usize = 0;
-    while 0 < top {
-        let frame = stack[top - 1];
-        top -= 1;
-        if let Some(kind) = frame.first() {
-            let step = next_step(words, text_len, at, kind)?;
-            let mark = frame.mark_at(kind, at);
-            let fields = Frame::of(step.fields, more(mark));
-            note(counts, fields, mark);
-            note_kind(kinds, at, step.next, kind);
-            top = push(stack, top, frame.rest());
-            top = push(stack, top, fields);
-            at = step.next;
+impl Table<'_> {
+    // What the check finds where kinds are expected at the table's start; the sequences' numbers of items are noted, and the kinds where the
+    // words are one tree.
+    pub(crate) fn walk(
+        &self,
+        first: &'static [Kind],
+        places: &mut [Frame],
+        counts: &mut [u16],
+        kinds: &mut [u16],
+    ) -> Result<(), CheckError>
+        requires { (length self.now.words.now < length places.old) × (length self.now.words.now ≤ most_words) }
+        ensures { Walked self.now.words.now self.now.text_len (map as_kind first.now) result counts.old counts.new kinds.old kinds.new }
+    {
+        let mut stack = Stack::new(places);
+        stack.push(Frame {
+            kinds: first,
+            mark: None,
+        });
+        let mut at = 0;
+        while let Some(frame) = stack.pop() {
+            if let Some((kind, rest)) = frame.split() {
+                let step = self.next_step(at, kind)?;
+                let mark = rest.mark_before(kind, at);
+                note(counts, step.fields, mark);
+                note_kind(kinds, at, step.next, kind);
+                expect(&mut stack, rest);
+                expect(
+                    &mut stack,
+                    Frame {
+                        kinds: step.fields,
+                        mark: more(mark),
+                    },
+                );
+                at = step.next;
+            }
+        }
+        if at < self.words.len() {
+            Err(CheckError::Misfit(at))
+        } else {
+            Ok(())
         }
     }
-    if at < words.len() {
-        Err(CheckError::Misfit(at))
-    } else {
-        Ok(())
-    }
-}
 
-// The words at a place, where a kind is expected.
-// Kept: words and text_len apart; a struct of both would be taken apart here, since a name alone needs the length.
-fn next_step(words: &[u32], text_len: usize, at: usize, kind: Kind) -> Result<Step, CheckError>
-    requires { at ≤ length words.now }
-    ensures { Stepped words.now text_len at (as_kind kind) result }
-{
-    if words.len() <= at {
-        return Err(CheckError::Misfit(words.len()));
+    // The words at a place, where a kind is expected.
+    fn next_step(&self, at: usize, kind: Kind) -> Result<Step, CheckError>
+        requires { at ≤ length self.now.words.now }
+        ensures { Stepped self.now.words.now self.now.text_len at (as_kind kind) result }
+    {
+        if self.words.len() <= at {
+            return Err(CheckError::Misfit(self.words.len()));
+        }
+        match kind {
+            Kind::Name => self.name_step(at),
+            Kind::Natural => natural_step(self.words, at),
+            _ => self.word_step(at, kind),
+        }
     }
-    match kind {
-        Kind::Name => name_step(words, text_len, at),
-        Kind::Natural => natural_step(words, at),
-        _ => word_step(words, at, kind),
-    }
-}
 
-// A name's two words.
-fn name_step(words: &[u32], text_len: usize, at: usize) -> Result<Step, CheckError>
-    requires { at < length words.now }
-    ensures { Stepped words.now text_len at name result }
-{
-    if words.len() - at < 2 {
-        return Err(CheckError::Misfit(words.len()));
+    // A name's two words.
+    fn name_step(&self, at: usize) -> Result<Step, CheckError>
+        requires { at < length self.now.words.now }
+        ensures { Stepped self.now.words.now self.now.text_len at name result }
+    {
+        if self.words.len() - at < 2 {
+            return Err(CheckError::Misfit(self.words.len()));
+        }
+        let second = at + 1;
+        let start = get(self.words, at) as usize;
+        let len = get(self.words, second) as usize;
+        if self.text_len < start + len {
+            return Err(CheckError::Misfit(at));
+        }
+        Ok(Step {
+            next: at + 2,
+            fields: &[],
+        })
     }
-    let second = at + 1;
-    let start = get(words, at) as usize;
-    let len = get(words, second) as usize;
-    if text_len < start + len {
-        return Err(CheckError::Misfit(at));
+
+    // One word that is not the first of two.
+    fn word_step(&self, at: usize, kind: Kind) -> Result<Step, CheckError>
+        requires { (at < length self.now.words.now) × OneWord (as_kind kind) }
+        ensures { Stepped self.now.words.now self.now.text_len at (as_kind kind) result }
+    {
+        match row_of(kind, get(self.words, at)) {
+            Some(fields) => Ok(Step {
+                next: at + 1,
+                fields,
+            }),
+            None => Err(CheckError::Misfit(at)),
+        }
     }
-    Ok(Step {
-        next: at + 2,
-        fields: Row::Empty,
-    })
 }
 
 // A natural's two words, over a text of any length.
 fn natural_step(words: &[u32], at: usize) -> Result<Step, CheckError>
-    requires { (at < length words.now) × (get_or words.now (at + 1) 0 < 2 ^ 32) }
+    requires { at < length words.now }
     ensures { (len : ℕ) → Stepped words.now len at natural result }
 {
     if words.len() - at < 2 {
@@ -107,20 +130,6 @@ fn natural_step(words: &[u32], at: usize) -> Result<Step, CheckError>
     }
     Ok(Step {
         next: at + 2,
-        fields: Row::Empty,
+        fields: &[],
     })
-}
-
-// One word that is not the first of two.
-fn word_step(words: &[u32], at: usize, kind: Kind) -> Result<Step, CheckError>
-    requires { (at < length words.now) × OneWord (as_kind kind) }
-    ensures { (len : ℕ) → Stepped words.now len at (as_kind kind) result }
-{
-    match row_of(kind, get(words, at)) {
-        Some(fields) => Ok(Step {
-            next: at + 1,
-            fields,
-        }),
-        None => Err(CheckError::Misfit(at)),
-    }
 }

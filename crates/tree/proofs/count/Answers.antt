@@ -1,4 +1,4 @@
--- `count` meets its contract: a table that is not too long is walked, with a stack of one entry more than its words.
+-- `count` meets its contract: a table that is not too long is walked, another refused.
 use Rattle.std.specs.Prelude.{Err}
 use Prim.Native.Nat.{ℕ, ◌≤◌, ◌<◌}
 use mathlib.Core.Path.{◌≡◌, sym, ◌∙◌}
@@ -28,11 +28,14 @@ unwalked : (ks : List Kind) (words : List ℕ) (len : ℕ) (before kinds : List 
     → (Err TooLong ≡ check ks words len) × (before ≡ counts ks words len before) × (Err TooLong ≡ one_tree → kinds ≡ kind_notes (within len) ks 0 words kinds)
 unwalked ks words len before kinds h = (sym (simp (lt-leb (length words) most_words h)), sym (simp (lt-leb (length words) most_words h)), λ e. impossible cc)
 
-pub returns-then-words-lt-SMALL_TABLE : goal.returns-then-words-lt-SMALL_TABLE
-returns-then-words-lt-SMALL_TABLE c = walked _ _ _ _ _ (omega arith) c.walk.ensures
+pub returns-then-size-lt-SMALL : goal.returns-then-size-lt-SMALL
+returns-then-size-lt-SMALL c = walked _ _ _ _ _ (omega arith) c.walk_small.ensures
 
-pub returns-then-words-le-MOST_WORDS : goal.returns-then-words-le-MOST_WORDS
-returns-then-words-le-MOST_WORDS c = walked _ _ _ _ _ (omega arith) c.walk-then-words-le-MOST_WORDS.ensures
+pub returns-then-size-lt-MEDIUM : goal.returns-then-size-lt-MEDIUM
+returns-then-size-lt-MEDIUM c = walked _ _ _ _ _ (omega arith) c.walk_medium.ensures
 
-pub returns : goal.returns
-returns c = unwalked _ c.args.words.now _ _ _ (omega arith)
+pub returns-then-size-le-MOST_WORDS : goal.returns-then-size-le-MOST_WORDS
+returns-then-size-le-MOST_WORDS c = walked _ _ _ _ _ (omega arith) c.walk_large.ensures
+
+pub returns-else-size-le-MOST_WORDS : goal.returns-else-size-le-MOST_WORDS
+returns-else-size-le-MOST_WORDS c = unwalked _ c.args.table.now.words.now _ _ _ (omega arith)

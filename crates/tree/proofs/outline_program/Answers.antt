@@ -3,16 +3,15 @@ use native.Mathlib.Omega.{arith}
 use mathlib.Core.Path.{sym, ap, ◌∙◌}
 use Rattle.std.proofs.lemmas.Result.{err_from_is_err_and}
 use Rattle.tree.specs.Check.{check_program, refusal, program_refusal}
-use Rattle.tree.specs.Rows.{row_kinds}
 use Rattle.tree.proofs.OutlineAnswers.{accepted, refusal-of, refused-keeps, kinds-copied, ends-copied}
 use Rattle.tree.proofs.outline_program.Goals as goal
 
 pub find_ends-requires : goal.find_ends-requires
-unfolding check_program row_kinds
+unfolding check_program
 find_ends-requires c = (accepted c.args.words.now c.args.text_len c.in_ok-count.was c.count.ensures.0).0
 
 pub returns : goal.returns
-unfolding check_program program_refusal row_kinds
+unfolding check_program program_refusal
 returns c =
     let s = c.args in
     let w = s.words.now in
@@ -27,7 +26,7 @@ returns c =
     )
 
 pub returns-in_err-count : goal.returns-in_err-count
-unfolding check_program program_refusal row_kinds
+unfolding check_program program_refusal
 returns-in_err-count c =
     let s = c.args in
     let h = sym c.in_err-count.was ∙ c.count.ensures.0 in

@@ -1,9 +1,8 @@
 use Prim.Native.Nat.{◌-◌}
 use mathlib.Core.Path.{◌≡◌}
 use lib.ListN.{length}
-use Rattle.tree.specs.Rows.{row_kinds}
 use Rattle.tree.specs.Notes.{fields_end}
 use Rattle.tree.proofs.outline.after_fields.Given as goal
 
 abbrev pub invariant-loop : goal.invariant-loop
-invariant-loop l = fields_end (length (row_kinds l.fn.row) - l.index) l.ends l.next ≡ fields_end (length (row_kinds l.fn.row)) l.ends l.first
+invariant-loop l = fields_end (length l.row - l.index) l.ends l.next ≡ fields_end (length l.row) l.ends l.first
