@@ -2,6 +2,7 @@
 pub mod Writing
 pub mod Walk
 pub mod Words
+pub mod Sequences
 pub mod ExprPrints
 pub mod StmtPrints
 pub mod EntryAnswers

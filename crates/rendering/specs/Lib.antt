@@ -8,5 +8,6 @@ pub mod Wrote
 pub mod OperatorWords
 pub mod Parts
 pub mod ExprParts
+pub mod Sequences
 pub mod StmtParts
 pub mod DeclParts

@@ -4,23 +4,22 @@ use Rattle.std.proofs.Math.Option.{Option}
 use Rattle.lexing.specs.Answer.{pick}
 use Rattle.lexing.specs.Bytes.{bytes}
 use Rattle.tree.specs.Ast.{Expr, CallArgument, FParameter, PParameter, Variable, Stmt, VarDecl, Assign, Reinit, Block, Call, AForall, Choose, If, IfCase, Loop, LabeledStmt, Exit, Stmts, Cases, AExprs}
-use Rattle.tree.specs.Words.{name_words, option_words, seq_words, expr_words, variable_words, call_argument_words, f_parameter_words, p_parameter_words}
+use Rattle.tree.specs.Words.{name_words, option_words, expr_words, variable_words, call_argument_words, f_parameter_words, p_parameter_words}
 use Rattle.tree.specs.Words.{stmt_words, stmts_words, cases_words, a_expr_words, a_exprs_words}
-use Rattle.tree.specs.Counted.{Noted, stmt_count, CountedOption, CountedItems, CountedStmt, CountedStmts, CountedCases, CountedAExpr, CountedAExprs}
+use Rattle.tree.specs.Counted.{Noted, stmt_count, CountedOption, CountedStmt, CountedStmts, CountedCases, CountedAExpr, CountedAExprs}
 use Rattle.tree.specs.declared.word.Mode.{Mode}
 use Rattle.tree.specs.declared.word.Mode.TheVariants.{In, InOut, Out}
-use Rattle.rendering.specs.declared.items.Item.{Item}
-use Rattle.rendering.specs.declared.items.Item.TheVariants.{Name, Argument, Formal, Parameter}
 use Rattle.rendering.specs.declared.printer.Printer.{Printer}
 use Rattle.rendering.specs.declared.printer.Source.{Source}
 use Rattle.layout.specs.Text.{◌▹◌, ◌▸◌}
 use Rattle.layout.specs.PrintUtil.{Indent}
 use Rattle.layout.specs.Printer.{IdTypeDecl}
-use Rattle.layout.specs.Statements.{Before, Shown, is_no_a_exprs, optional, separated, mutability, inline, OptionalAutoInvariant, argument, shown, BlockAsStatementList, StmtAsBlock}
+use Rattle.layout.specs.Statements.{Shown, is_no_a_exprs, optional, mutability, inline, OptionalAutoInvariant, argument, shown, BlockAsStatementList, StmtAsBlock}
 use Rattle.layout.specs.Statements.{StatementList, choices, case_list, aexpr, PrintAExprs}
 use Rattle.layout.specs.Program.{formal, parameter}
 use Rattle.rendering.specs.Parts.{N, named, free, Parts}
 use Rattle.rendering.specs.ExprParts.{Numbered, counted}
+use Rattle.rendering.specs.Sequences.{Kind, one}
 
 -- `ParameterMode`
 abbrev pub mode_bytes : Maybe Mode → List ℕ
@@ -35,9 +34,10 @@ pub record Tells (s : Printer) (test : Shown → Bool) (r : Bool) : Type 0 where
 
 -- ---- names and expressions
 
--- an optional name after text
-abbrev pub optional_name : List ℕ → Parts
-optional_name prefix = free (λ S. option_words (name_words {N = N S} (λ n. n.span))) (λ S o rest. optional (λ n r. named S n ▹ r) prefix o rest)
+-- a name, as an item of lists and options
+abbrev pub a_named : Kind
+a_named =
+    record { Tree = N; numbers = λ S n rest. Unit {0}; words = λ S. name_words {N = N S} (λ n. n.span); print = λ S n rest. named S n ▹ rest; indent = λ S. 0 }
 
 -- a name and its type, with one word between them
 abbrev pub typed_apart : Parts
@@ -46,49 +46,50 @@ typed_apart =
     (λ S a rest. named S a.0 ▹ ": " ▸ named S a.2 ▹ rest)
 
 -- an expression on one line
+abbrev pub a_line : Kind
+a_line =
+    record {
+      Tree = λ S. Expr (N S);
+      numbers = Numbered;
+      words = λ S. expr_words {N = N S} (λ n. n.span);
+      print = λ S e rest. inline (named S) S.step e rest;
+      indent = λ S. 0;
+    }
+
 abbrev pub one_line : Parts
-one_line = counted Numbered (λ S. expr_words {N = N S} (λ n. n.span)) (λ S e rest. inline (named S) S.step e rest) (λ S. 0)
+one_line = one a_line
 
--- an optional expression after text
-abbrev pub optional_expr : List ℕ → Parts
-optional_expr prefix =
-    counted (λ S. CountedOption (Numbered S)) (λ S. option_words (expr_words {N = N S} (λ n. n.span)))
-    (λ S o rest. optional (inline (named S) S.step) prefix o rest) (λ S. 0)
+-- ---- arguments and parameters
 
--- ---- lists of names, arguments and parameters
+abbrev pub an_argument : Kind
+an_argument =
+    record {
+      Tree = λ S. CallArgument (N S);
+      numbers = λ S a rest. Numbered S a.arg rest;
+      words = λ S. call_argument_words {N = N S} (λ n. n.span);
+      print = λ S. argument (named S) S.step;
+      indent = λ S. 0;
+    }
 
-module _ (S : Source) where
-  abbrev pub ItemTree : Item → Type 0
-  ItemTree Name = N S
-  ItemTree Argument = CallArgument (N S)
-  ItemTree Formal = FParameter (N S)
-  ItemTree Parameter = PParameter (N S)
+abbrev pub a_formal : Kind
+a_formal =
+    record {
+      Tree = λ S. FParameter (N S);
+      numbers = λ S a rest. Unit {0};
+      words = λ S. f_parameter_words {N = N S} (λ n. n.span);
+      print = λ S. formal (named S);
+      indent = λ S. 0;
+    }
 
-  abbrev pub item_words : (k : Item) → ItemTree k → List ℕ → List ℕ
-  item_words Name = name_words (λ n. n.span)
-  item_words Argument = call_argument_words (λ n. n.span)
-  item_words Formal = f_parameter_words (λ n. n.span)
-  item_words Parameter = p_parameter_words (λ n. n.span)
-
-  abbrev pub item_print : (k : Item) → ItemTree k → Before
-  item_print Name = λ n r. named S n ▹ r
-  item_print Argument = argument (named S) S.step
-  item_print Formal = formal (named S)
-  item_print Parameter = parameter (named S) S.step
-
-  abbrev pub ItemCounted : (k : Item) → ItemTree k → List ℕ → Type 0
-  ItemCounted Name a rest = Unit {0}
-  ItemCounted Argument a rest = Numbered S a.arg rest
-  ItemCounted Formal a rest = Unit {0}
-  ItemCounted Parameter a rest = CountedOption (Numbered S) a.optional_auto_inv rest
-
-abbrev pub an_item : Item → Parts
-an_item k = counted (λ S. ItemCounted S k) (λ S. item_words S k) (λ S. item_print S k) (λ S. 0)
-
-abbrev pub item_list : Item → List ℕ → Parts
-item_list k first =
-    counted (λ S. CountedItems (item_words S k) (ItemCounted S k)) (λ S. seq_words (item_words S k))
-    (λ S l rest. separated (item_print S k) first (bytes ", ") l rest) (λ S. 0)
+abbrev pub a_parameter : Kind
+a_parameter =
+    record {
+      Tree = λ S. PParameter (N S);
+      numbers = λ S a rest. CountedOption (Numbered S) a.optional_auto_inv rest;
+      words = λ S. p_parameter_words {N = N S} (λ n. n.span);
+      print = λ S. parameter (named S) S.step;
+      indent = λ S. 0;
+    }
 
 -- ---- statements
 

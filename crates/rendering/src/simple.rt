@@ -2,7 +2,6 @@
 ghost use Rattle.rendering.specs.Parts.{Prints};
 ghost use Rattle.rendering.specs.StmtParts.{an_assign, a_reinit, a_call_stmt, an_exit, an_expression_stmt};
 
-use crate::items::Item;
 use crate::printer::Printer;
 
 impl Printer<'_> {
@@ -18,7 +17,7 @@ impl Printer<'_> {
         ensures { Prints a_reinit self.old self.new }
     {
         self.put(b"reinit ");
-        self.separated(Item::Name, b"");
+        self.separated(b"", b", ", |p| p.name());
         self.put(b"\n");
     }
 
@@ -26,7 +25,7 @@ impl Printer<'_> {
         ensures { Prints a_call_stmt self.old self.new }
     {
         self.name_then(b"(");
-        self.separated(Item::Argument, b"");
+        self.separated(b"", b", ", |p| p.argument());
         self.put(b")\n");
     }
 
@@ -34,7 +33,7 @@ impl Printer<'_> {
         ensures { Prints an_exit self.old self.new }
     {
         self.put(b"exit");
-        self.optional_name(b" ");
+        self.optional(b" ", |p| p.name());
         self.put(b"\n");
     }
 

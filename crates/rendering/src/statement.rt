@@ -66,9 +66,9 @@ impl Printer<'_> {
         self.put(either(is_constant, b"val ", b"var "));
         self.name();
         self.word();
-        self.optional_name(b": ");
-        self.optional_expr(b" autoinv ");
-        self.optional_expr(b" := ");
+        self.optional(b": ", |p| p.name());
+        self.optional(b" autoinv ", |p| p.inline());
+        self.optional(b" := ", |p| p.inline());
         self.put(b"\n");
     }
 

@@ -1,10 +1,13 @@
 -- Its word by the word after the name, the name, and the three optional parts.
-use Rattle.std.proofs.Common.{arith, ◌≡◌, true, false}
+use Rattle.std.proofs.Common.{arith, rules, ◌≡◌, true, false}
 use Rattle.lexing.specs.Bytes.{bytes}
 use Rattle.tree.specs.Words.{bool_word}
 use Rattle.layout.specs.Statements.{mutability}
-use Rattle.rendering.specs.Parts.{named}
+use Rattle.rendering.specs.Parts.{named, a_name}
+use Rattle.rendering.specs.Sequences.{one}
+use Rattle.rendering.specs.StmtParts.{a_named, a_line}
 use Rattle.rendering.proofs.Walk.{prints, ready, begin, word, text, these, part, done, third, seen}
+use Rattle.rendering.proofs.Sequences.{by-one-call, plainly, option-counted, printed-option}
 use Rattle.rendering.proofs.StmtPrints.Pieces.{declared}
 use Rattle.rendering.proofs.printer.Printer.variable.Goals as goal
 
@@ -14,11 +17,17 @@ kind c false e = rw e at c.either.ensures
 
 pub returns : goal.returns
 returns c =
-    prints (cc) (cc) (omega arith)
+    let a-type = printed-option a_named (λ s s' r. plainly a_named (by-one-call a_name r (search rules))) c.optional.ensures in
+    let an-invariant = printed-option a_line (λ s s' r. by-one-call (one a_line) r (search rules)) c.optional-2.ensures in
+    let a-value = printed-option a_line (λ s s' r. by-one-call (one a_line) r (search rules)) c.optional-3.ensures in
+    prints (cc) (cc) (let e = a-type.forward in let f = an-invariant.forward in let h = a-value.forward in omega arith)
     (λ a rest g d.
     let start = text (begin d) (these (kind c a.0.is_mutable (third (begin d) c.ahead-is_constant.ensures)) c.put.ensures) in
     let name = word (part c.name.ensures a.0.name tt start) c.word.ensures in
-    let typ = seen (declared (named c.args.self.now.source) (bytes (mutability a.0.is_mutable)) a.0.name a.0.optional_type) (part c.optional_name.ensures a.0.optional_type tt name) in
-    let invariant = part c.optional_expr.ensures a.0.optional_auto_inv (ready g.0 (omega arith) (omega arith), g.1.0) typ in
-    let value = part c.optional_expr-2.ensures a.1 (ready g.0 (omega arith) (omega arith), g.1.1) invariant in
+    let typ = seen (declared (named c.args.self.now.source) (bytes (mutability a.0.is_mutable)) a.0.name a.0.optional_type)
+    (part a-type a.0.optional_type (ready g.0 (omega arith) (omega arith), option-counted a.0.optional_type _) name) in
+    let f = a-type.forward in
+    let invariant = part an-invariant a.0.optional_auto_inv (ready g.0 (omega arith) (omega arith), g.1.0) typ in
+    let h = an-invariant.forward in
+    let value = part a-value a.1 (ready g.0 (omega arith) (omega arith), g.1.1) invariant in
     done (text value c.put-2.ensures))
