@@ -17,7 +17,7 @@ use Rattle.grammar.specs.Declarations.{TopLevel}
 use Rattle.grammar.specs.Reading.{leading, to_end, whole_text, tree_words, parse_text, parse_program}
 use Rattle.parsing.specs.Arena.{Run, outside, most_arena}
 use Rattle.parsing.specs.Code.{inner, opening}
-use Rattle.parsing.specs.Contract.{Rule, Ready, Read, Reads, needed, same}
+use Rattle.parsing.specs.Contract.{Rule, Spare, Read, Reads, needed, same}
 use Rattle.parsing.specs.Parse.{arena_nodes, roomy, whole_rule, whole_run, parsed, ending, Gives, Parses}
 use Rattle.parsing.specs.declared.arena.Node.{Node}
 use Rattle.parsing.specs.declared.arena.Node.TheVariants.{Empty, One}
@@ -91,7 +91,7 @@ run-reads words rule least credit least₁ credit₁ p q (Ok n) l c r =
       says = must-mapped-ok p.at (rule p.text.now p.at) words r.says;
       holds = r.holds;
       below = r.below;
-      went = record { later = r.went.later; onward = omega (arith, r.went.onward); paid = omega (arith, r.went.paid); ready = r.went.ready };
+      went = record { later = r.went.later; onward = omega (arith, r.went.onward); paid = omega (arith, r.went.paid) };
     }
 run-reads words rule least credit least₁ credit₁ p q (Err e) l c r = must-mapped-refused p.at (rule p.text.now p.at) words r
 
@@ -104,36 +104,44 @@ must-reads words rule least credit p q (Ok n) r =
 must-reads words rule least credit p q (Err e) r = rw r refl
 
 -- ---- the arena's first nodes
-module _ (p : Parser) (a : List Node) (room : roomy (length p.text.now) (length a) ≡ true) (arena-is : p.arena.now ≡ slice_set (slice_set a 0 Empty) 1 (One 0)) where
-  same-length : length p.arena.now ≡ length a
-  same-length = rw arena-is (length-set (slice_set a 0 Empty) 1 (One 0) ∙ length-set a 0 Empty)
+abbrev pub started : List Node → List Node
+started a = slice_set (slice_set a 0 Empty) 1 (One 0)
 
-  pub start-ready : p.at ≤ length p.text.now → p.top ≡ 2 → Ready p 9
-  start-ready inside top =
-      let (s, e) = both_true (leb (length p.text.now) most_text) _ room in
-      let (r, l) = both_true (leb (arena_nodes (length p.text.now)) (length a)) _ e in
-      let short = leb-true _ _ s in
-      let roomy = leb-true _ _ r in
-      let small = leb-true _ _ l in
-      record {
-        short = short;
-        small = omega (arith, small, same-length);
-        inside = inside;
-        above = omega arith;
-        room = omega (arith, roomy, same-length);
-        based = record {
-          empty-run = rw arena-is (get_or-set_other (slice_set a 0 Empty) 1 0 (One 0) outside (λ e. omega arith) ∙ get_or-set_same a 0 Empty outside (omega (arith, roomy)));
-          end-run = rw arena-is (get_or-set_same (slice_set a 0 Empty) 1 (One 0) outside (omega (arith, roomy, length-set a 0 Empty)));
-        };
-      }
+-- an arena that has room
+module _ (text : List ℕ) (a : List Node) (room : roomy (length text) (length a) ≡ true) where
+  start-length : length (started a) ≡ length a
+  start-length = length-set (slice_set a 0 Empty) 1 (One 0) ∙ length-set a 0 Empty
 
+  pub start-short : length text ≤ most_text
+  start-short = leb-true _ _ (both_true (leb (length text) most_text) _ room).0
+
+  arena-fits : (leb (arena_nodes (length text)) (length a) ≡ true) × (leb (length a) most_arena ≡ true)
+  arena-fits = both_true (leb (arena_nodes (length text)) (length a)) _ (both_true (leb (length text) most_text) _ room).1
+
+  pub start-small : length (started a) ≤ most_arena
+  start-small = let h = leb-true _ _ arena-fits.1 in omega (arith, start-length)
+
+  start-roomy : arena_nodes (length text) ≤ length a
+  start-roomy = leb-true _ _ arena-fits.0
+
+  pub start-room : (at : ℕ) → 2 + 9 + 2 * length text ≤ length (started a) + 2 * at
+  start-room at = omega (arith, start-roomy, start-length)
+
+  pub start-empty : get_or (started a) 0 outside ≡ Empty
+  start-empty =
+      get_or-set_other (slice_set a 0 Empty) 1 0 (One 0) outside (λ e. omega arith) ∙ get_or-set_same a 0 Empty outside (omega (arith, start-roomy))
+
+  pub start-end : get_or (started a) 1 outside ≡ One 0
+  start-end = get_or-set_same (slice_set a 0 Empty) 1 (One 0) outside (omega (arith, start-roomy, length-set a 0 Empty))
+
+module _ (p : Parser) (a : List Node) (arena-is : p.arena.now ≡ started a) where
   -- what `parse` answers, by the place that the rule of a whole text came to
-  pub start-gives : (whole : Whole) (q : Parser) (later : List Node) → p.top ≡ 2 → p.at ≤ length p.text.now
-      → parsed whole p.text.now (length a) ≡ ending (whole_rule whole) p.text.now p.at → length later ≡ length (slice_set (slice_set a 0 Empty) 1 (One 0))
+  pub start-gives : (whole : Whole) (q : Parser) (later : List Node) → p.top ≡ 2
+      → parsed whole p.text.now (length a) ≡ ending (whole_rule whole) p.text.now p.at → length later ≡ length (started a)
       → (p.arena.ghost_name ≡ q.arena.ghost_name → later ≡ q.arena.now) → (r : Result ℕ Refusal) → Reads (λ f. f) (ending (whole_rule whole)) 0 9 p q r
       → Parses whole p.text.now a later r
-  start-gives whole q later top inside says len name r f =
-      record { length-kept = len ∙ sym (ap length arena-is) ∙ same-length; gives = by-result r f }
+  start-gives whole q later top says len name r f =
+      record { length-kept = len ∙ length-set (slice_set a 0 Empty) 1 (One 0) ∙ length-set a 0 Empty; gives = by-result r f }
     where
       by-result : (r : Result ℕ Refusal) → Reads (λ f. f) (ending (whole_rule whole)) 0 9 p q r → Gives p.text.now later (parsed whole p.text.now (length a)) r
       by-result (Ok root) f =
@@ -143,7 +151,7 @@ module _ (p : Parser) (a : List Node) (room : roomy (length p.text.now) (length 
             next = q.at;
             says = says ∙ f.says;
             holds = rw e f.holds;
-            inside = omega (arith, f.below, f.went.paid, f.went.ready.inside, ap length f.went.later.text_same);
+            inside = omega (arith, f.below, f.went.paid, q.inside, ap length f.went.later.text_same);
           }
       by-result (Err e) f = says ∙ f
 
@@ -151,7 +159,7 @@ module _ (p : Parser) (a : List Node) (room : roomy (length p.text.now) (length 
 pub at-end : (whole : Whole) (p q : Parser) {n : ℕ} (r : Read (λ f. f) (needed (whole_rule whole)) 0 9 p q n) → length q.text.now ≤ q.at
     → Read (λ f. f) (ending (whole_rule whole)) 0 9 p q n
 at-end whole p q r h =
-    let e : eqb q.at (length p.text.now) ≡ true = eq-eqb _ _ (omega (arith, r.went.ready.inside, ap length r.went.later.text_same)) in
+    let e : eqb q.at (length p.text.now) ≡ true = eq-eqb _ _ (omega (arith, q.inside, ap length r.went.later.text_same)) in
     read_as _ _ _ 0 9 p q r (need-ok p.at (whole_rule whole p.text.now p.at) (to_end p.text.now) r.says ∙ rw e refl)
 
 pub before-end : (whole : Whole) (p q : Parser) {n : ℕ} (r : Read (λ f. f) (needed (whole_rule whole)) 0 9 p q n) → q.at < length q.text.now

@@ -14,7 +14,7 @@ use Rattle.grammar.specs.Rules.{left_tail, right_tail, operator_of, implies_oper
 use Rattle.grammar.specs.Rules.{exprs, comma_tail, parse_nonempty_comma_delimited_seq, parse_marked}
 use Rattle.grammar.specs.Reading.{tree_words}
 use Rattle.parsing.specs.Arena.{Run, Kept, outside}
-use Rattle.parsing.specs.Contract.{needed, sign, Ready, Read, Reads_if, Took, Missing, Standing, Pushed, same}
+use Rattle.parsing.specs.Contract.{needed, sign, Spare, Read, Reads_if, Took, Missing, Standing, Pushed, same}
 use Rattle.parsing.specs.Expressions.{left_rest, items_rule, list_rule, ItemOf, ListOf, sequence_of, item_words, list_words}
 use Rattle.parsing.specs.declared.expr.seq.Kind.{Kind}
 use Rattle.parsing.specs.declared.expr.seq.Kind.TheVariants.{Exprs, Bindings, Closures, Properties, Names, Formals, Parameters, Arguments}
@@ -27,8 +27,8 @@ use Rattle.parsing.specs.declared.sign.Level.TheVariants.{Implication}
 use Rattle.tree.specs.declared.word.Operator.{Operator as OperatorCode}
 use Rattle.parsing.specs.declared.arena.Node.{Node}
 use Rattle.parsing.specs.declared.arena.Node.TheVariants.{Unary, Binary}
-use Rattle.parsing.proofs.Places.{Place, begin, again, read, read_if, took, skipped, with_end, done, operated, said, as_run, later-next, holds_kept}
-use Rattle.parsing.proofs.ExpressionPlaces.{sure, unused, ready-spare, lessened}
+use Rattle.parsing.proofs.Places.{Place, no_credit, begin, begin_with, again, read, read_if, took, skipped, with_end, done, operated, said, as_run, later-next, holds_kept}
+use Rattle.parsing.proofs.ExpressionPlaces.{sure, unused, spare-left, lessened}
 use Rattle.parsing.proofs.ExpressionRules.{listed-rule}
 use borrow.Author.Tests.{le-leb}
 use Rattle.tree.specs.Clash.{impossible}
@@ -47,7 +47,7 @@ pub leaning-again : (k : Class) (depth : ℕ) (first : Expr Span) {p q : Parser}
     → Place (left_rest k depth first p.text.now p.at) 0 p q at bytes spare
     (left_tail left (operator_of p.text.now k) (tighter_of k depth p.text.now) tree at) ((e, tree_words tree) ∷ made)
     → length p.text.now < at + left → Leaning k depth first p q e
-leaning-again k depth first zero tree l h = absurd (omega (arith, l.ready.inside, l.here, ap length l.later.text_same))
+leaning-again k depth first {q = q} zero tree l h = absurd (omega (arith, q.inside, l.here, ap length l.later.text_same))
 leaning-again k depth first {p} (suc left) tree l h =
     record {
       tree = tree;
@@ -58,7 +58,6 @@ leaning-again k depth first {p} (suc left) tree l h =
 
 -- for any tree that the first operand stands for
 pub record Turning (k : Class) (depth first : ℕ) (p q : Parser) (e : ℕ) : Type 0 where
-  pub ready : Ready q 0
   pub turn : (tree : Expr Span) → Standing p first (tree_words tree) → Leaning k depth tree p q e
 
 -- ---- sequences
@@ -137,7 +136,7 @@ module _ {A L : Type 0} (mark : Reader ℕ) (item : Reader A) (put : A → L →
     pub gathering : (run : Run) (more : L → L) {list : ℕ} {made : List (ℕ × Run)} {at : ℕ} (left spare : ℕ)
         → ((l : L) (r : List ℕ) → run (words l r) ≡ words (more l) r) → least ≤ spare → ((list ≡ 0 → ⊥) → 1 ≤ spare) → length p.text.now < at + left
         → Place whole lent p q at bytes spare (mapped more (rest left at)) ((list, run) ∷ made) → Gathering whole lent bytes least p q list
-    gathering run more zero spare j b c h l = absurd (omega (arith, l.ready.inside, l.here, ap length l.later.text_same))
+    gathering run more zero spare j b c h l = absurd (omega (arith, q.inside, l.here, ap length l.later.text_same))
     gathering run more {list} {made} {at} (suc left) spare j b c h l =
         record {
           run = run;
@@ -154,7 +153,6 @@ module _ {A L : Type 0} (mark : Reader ℕ) (item : Reader A) (put : A → L →
             later = l.later;
             forward = omega (arith, l.forward, l.here);
             within = omega (arith, l.within, l.here);
-            ready = l.ready;
             stands = (l.stands.0, tt);
           };
         }
@@ -249,7 +247,7 @@ waiting-again : (depth : ℕ) {p s : Parser} (left : ℕ) (ls : List Layer) (v :
     → Place (turning parse_imp_exp_expr depth p.text.now p.at) 0 p s at bytes spare
     (mapped (fold_layers ls) (right_tail left (implies_operator p.text.now) (tighter_of implication depth p.text.now) v at)) ((e, tree_words v) ∷ made)
     → 1 ≤ bytes → length ls ≤ spare → length p.text.now < at + left → Links s.arena.now n ls → n < s.top → Waiting depth p s e n
-waiting-again depth zero ls v l b w h k m = absurd (omega (arith, l.ready.inside, l.here, ap length l.later.text_same))
+waiting-again depth {s = s} zero ls v l b w h k m = absurd (omega (arith, s.inside, l.here, ap length l.later.text_same))
 waiting-again depth {p} (suc left) ls v {at} l b w h k m =
     record {
       tree = v;
@@ -264,7 +262,6 @@ waiting-again depth {p} (suc left) ls v {at} l b w h k m =
         later = l.later;
         forward = omega (arith, l.forward, l.here);
         within = omega (arith, l.within, l.here);
-        ready = l.ready;
         stands = (l.stands.0, tt);
       };
     }
@@ -288,10 +285,10 @@ waiting-next depth {p} {s₂ = s₂} {e} {link} {n} {sign = sign} w o x m r =
 
 -- what `fold` is given
 pub foldable : {A : Type 0} {answer rest : Answer A} {lent at bytes spare e link : ℕ} {p q : Parser} (ls : List Layer) (tree : Expr Span) {made : List (ℕ × Run)}
-    → Ready p lent → Place answer lent p q at bytes spare rest ((e, tree_words tree) ∷ made) → length ls ≤ spare → Links q.arena.now link ls → link < q.top
+    → Spare p lent → Place answer lent p q at bytes spare rest ((e, tree_words tree) ∷ made) → length ls ≤ spare → Links q.arena.now link ls → link < q.top
     → Foldable link e q
 foldable ls tree r l h k b =
-    record { layers = ls; tree = tree; links = k; standing = l.stands.0; link_below = b; ready = ready-spare r (lessened _ _ (le_refl _) h l) }
+    record { layers = ls; tree = tree; links = k; standing = l.stands.0; link_below = b; spare = spare-left r (lessened _ _ (le_refl _) h l) }
 
 -- the layers were put over the last node
 pub folded : {A : Type 0} {answer rest : Answer A} {lent at bytes spare e link n : ℕ} {p q s : Parser} (ls : List Layer) (tree : Expr Span) {made : List (ℕ × Run)}
@@ -305,7 +302,6 @@ folded ls tree f k l h =
       later = later-next l.later f.later;
       forward = l.forward;
       within = omega (arith, l.within, g.top);
-      ready = f.ready;
       stands = (record { holds = g.holds; below = f.below }, tt);
     }
 
@@ -355,24 +351,24 @@ pub record Signed (depth : ℕ) (p q : Parser) (link : ℕ) : Type 0 where
   pub bare : layers ≡ [] → q ≡ p
   pub place : Place (turning parse_unary_expr depth p.text.now p.at) 0 p q q.at 0 (length layers) (signed_rest p.text.now depth layers left q.at) []
 
-pub signed-first : (depth : ℕ) {p : Parser} → Ready p 0 → Signed depth p p 0
+pub signed-first : (depth : ℕ) {p : Parser} → Signed depth p p 0
 unfolding parse_unary_expr
-signed-first depth {p} r =
+signed-first depth {p} =
     record {
       layers = [];
       left = length p.text.now;
       enough = omega arith;
       links = Links.ends;
-      links-below = omega (arith, r.above);
+      links-below = omega (arith, p.above);
       bare = λ e. refl;
-      place = said (signed-is p.text.now depth [] (length p.text.now) p.at) (begin r);
+      place = said (signed-is p.text.now depth [] (length p.text.now) p.at) begin;
     }
 
 signed-again : (depth : ℕ) {p s : Parser} (left : ℕ) (op : Operator) (ls : List Layer) {at bytes spare n : ℕ}
     → Place (turning parse_unary_expr depth p.text.now p.at) 0 p s at bytes spare
     (under (unary_layer op ∷ ls) at (unary_tail p.text.now (turns p.text.now) (inner depth p.text.now) left at)) []
     → suc (length ls) ≤ spare → length p.text.now < at + left → Links s.arena.now n (unary_layer op ∷ ls) → n < s.top → Signed depth p s n
-signed-again depth zero op ls l w h k m = absurd (omega (arith, l.ready.inside, l.here, ap length l.later.text_same))
+signed-again depth {s = s} zero op ls l w h k m = absurd (omega (arith, s.inside, l.here, ap length l.later.text_same))
 signed-again depth {p} (suc left) op ls {at} l w h k m =
     record {
       layers = unary_layer op ∷ ls;
@@ -387,7 +383,6 @@ signed-again depth {p} (suc left) op ls {at} l w h k m =
         later = l.later;
         forward = omega (arith, l.forward, l.here);
         within = omega (arith, l.within, l.here);
-        ready = l.ready;
         stands = tt;
       };
     }
@@ -436,21 +431,21 @@ module _ {depth : ℕ} {p q s : Parser} {link : ℕ} (w : Signed depth p q link)
     operand-links : Links t.arena.now link w.layers
     operand-links = links-kept r.went.later.kept (rw no.same w.links-below) (rw no.same w.links)
 
-    pub signed-foldable : Ready p 0 → Foldable link e t
-    signed-foldable m =
-        foldable w.layers r.value m operand-place (omega arith) operand-links (omega (arith, w.links-below, ap (λ p. p.top) no.same, r.went.later.grows))
+    pub signed-foldable : Foldable link e t
+    signed-foldable =
+        foldable w.layers r.value no_credit operand-place (omega arith) operand-links (omega (arith, w.links-below, ap (λ p. p.top) no.same, r.went.later.grows))
 
     pub signed-done : {u : Parser} {n : ℕ} → Folded link e t u n → Read tree_words (turning parse_unary_expr depth) 1 0 p u n
     signed-done g = done (turning parse_unary_expr depth) (folded w.layers r.value g operand-links operand-place (omega arith)) refl refl
 
 -- ---- a sequence and the sign that closes it
 
-pub listed : (k : Kind) (depth : ℕ) (close : List ℕ) {p q s : Parser} (o : Option ℕ) {n : ℕ} → Ready p 3
+pub listed : (k : Kind) (depth : ℕ) (close : List ℕ) {p q s : Parser} (o : Option ℕ) {n : ℕ} → Spare p 3
     → Reads_if (list_words k) (items_rule k depth) 1 3 p q (Ok o) → n ≡ unwrap_or o 1 → Took (needed (sign close)) (length close) q s → 1 ≤ length close
     → Read (list_words k) (list_rule k close depth) 1 1 p s n
 listed k depth close {p} (Some m) r f e t c =
-    let l = took (sign close) _ t (read_if (items_rule k depth) _ _ f (said (listed-rule _ _ _ _ _ _) (begin r)) refl) in
+    let l = took (sign close) _ t (read_if (items_rule k depth) _ _ f (said (listed-rule _ _ _ _ _ _) (begin_with r)) refl) in
     rw e (done (list_rule k close depth) l (le-leb _ _ (omega arith)) (le-leb _ _ (omega arith)))
 listed k depth close {p} None r f e t c =
-    let l = took (sign close) _ t (as_run (sym (fun_ext (nil-words k))) (with_end (skipped (items_rule k depth) _ _ f (said (listed-rule _ _ _ _ _ _) (begin r))))) in
+    let l = took (sign close) _ t (as_run (sym (fun_ext (nil-words k))) (with_end (skipped (items_rule k depth) _ _ f (said (listed-rule _ _ _ _ _ _) (begin_with r))))) in
     rw e (done (list_rule k close depth) l (le-leb _ _ (omega arith)) (le-leb _ _ (omega arith)))

@@ -1,16 +1,18 @@
 -- Places of the rules of expressions: tests of tokens, nodes that the rule has no need of yet, and the end of a sequence.
 use Rattle.std.proofs.Common.{ℕ, zero, suc, ◌+◌, ◌*◌, ◌-◌, ◌≤◌, ◌≡◌, ◌∙◌, refl, ap, List, [], ◌∷◌, length, Bool, true, false, leb, Option, Some, None, Result, Ok, Err, arith}
+use Rattle.std.specs.Option.{is_some}
 use borrow.Author.Tests.{leb-true}
 use Rattle.lexing.specs.Answer.{Answer, ok, refused}
 use Rattle.lexing.specs.CodeAnswers.{number}
 use Rattle.lexing.specs.declared.refusal.Refusal.{Refusal}
 use Rattle.grammar.specs.Steps.{after, must}
 use Rattle.parsing.specs.Arena.{Run}
-use Rattle.parsing.specs.Contract.{Rule, needed, Ready, Read, Reads_if, Takes_if, Missing, Made, Closes}
+use Rattle.parsing.specs.Contract.{Rule, needed, Spare, Read, Reads_if, Takes_if, Missing, Made, Closes}
 use Rattle.parsing.specs.Expressions.{Seen, Sees}
+use Rattle.parsing.specs.Signs.{Operates}
 use Rattle.parsing.specs.declared.parser.Parser.{Parser}
 use Rattle.parsing.proofs.Laws.{after-ok, after-refused}
-use Rattle.parsing.proofs.Places.{Place, later-next, stand-on, taken, skipped, stood, absent}
+use Rattle.parsing.proofs.Places.{Place, later-next, later-back, parser-same, stand-on, taken, skipped, stood, absent}
 
 -- ---- steps
 module _ {A : Type 0} {answer : Answer A} {lent : ℕ} {p q : Parser} {at bytes spare : ℕ} where
@@ -18,7 +20,7 @@ module _ {A : Type 0} {answer : Answer A} {lent : ℕ} {p q : Parser} {at bytes 
   pub over-two : {n a b : ℕ} {f g h : Run} {rest : Answer A} {made : List (ℕ × Run)}
       → Place answer lent p q at bytes spare rest ((n, f) ∷ (a, g) ∷ (b, h) ∷ made) → Place answer lent p q at bytes spare rest ((n, f) ∷ made)
   over-two l =
-      record { says = l.says; here = l.here; later = l.later; forward = l.forward; within = l.within; ready = l.ready; stands = (l.stands.0, l.stands.1.1.1) }
+      record { says = l.says; here = l.here; later = l.later; forward = l.forward; within = l.within; stands = (l.stands.0, l.stands.1.1.1) }
 
   -- fewer bytes kept, and fewer nodes to spare
   pub lessened : {rest : Answer A} {made : List (ℕ × Run)} (bytes₁ spare₁ : ℕ) → bytes₁ ≤ bytes → spare₁ ≤ spare
@@ -30,23 +32,15 @@ module _ {A : Type 0} {answer : Answer A} {lent : ℕ} {p q : Parser} {at bytes 
         later = l.later;
         forward = omega (arith, l.forward);
         within = omega (arith, l.within);
-        ready = l.ready;
         stands = l.stands;
       }
 
   -- room for what is to spare
-  pub ready-spare : {rest : Answer A} {made : List (ℕ × Run)} → Ready p lent → Place answer lent p q at bytes spare rest made → Ready q spare
-  ready-spare r l =
+  pub spare-left : {rest : Answer A} {made : List (ℕ × Run)} → Spare p lent → Place answer lent p q at bytes spare rest made → Spare q spare
+  spare-left r l =
       let k = l.later.kept.length-kept in
       let t = l.later.text_same in
-      record {
-        short = l.ready.short;
-        small = l.ready.small;
-        inside = l.ready.inside;
-        above = l.ready.above;
-        room = omega (arith, r.room, l.within, l.here, ap length t, k);
-        based = l.ready.based;
-      }
+      record { room = omega (arith, r.room, l.within, l.here, ap length t, k) }
 
   -- an operator stands here
   pub seen : {B : Type 0} (rule : Rule B) (stop go : Answer A) {s : Parser} {made : List (ℕ × Run)} → Seen rule q s
@@ -59,7 +53,6 @@ module _ {A : Type 0} {answer : Answer A} {lent : ℕ} {p q : Parser} {at bytes 
         later = later-next l.later r.later;
         forward = l.forward;
         within = omega (arith, l.within, r.top_same);
-        ready = r.ready;
         stands = stand-on r.later made l.stands;
       }
 
@@ -73,7 +66,6 @@ module _ {A : Type 0} {answer : Answer A} {lent : ℕ} {p q : Parser} {at bytes 
         later = later-next l.later m.later;
         forward = l.forward;
         within = omega (arith, l.within, m.top);
-        ready = m.ready;
         stands = stand-on m.later made l.stands;
       }
 
@@ -88,7 +80,6 @@ module _ {A : Type 0} {answer : Answer A} {lent : ℕ} {p q : Parser} {at bytes 
         later = later-next l.later m.later;
         forward = l.forward;
         within = by-list list refl;
-        ready = m.ready;
         stands = (record { holds = m.holds l.stands.0; below = m.below }, tt);
       }
     where
@@ -134,10 +125,18 @@ module _ {A : Type 0} (words : A → Run) (whole rule : Rule A) (least credit le
         says = o ∙ g.says;
         holds = g.holds;
         below = g.below;
-        went = record { later = g.went.later; onward = omega (arith, g.went.onward); paid = omega (arith, g.went.paid); ready = g.went.ready };
+        went = record { later = g.went.later; onward = omega (arith, g.went.onward); paid = omega (arith, g.went.paid) };
       }
   tail_if (Ok None) e o f b w = let g : Missing rule p s = rw e at f in record { says = o ∙ g.says; same = g.same }
   tail_if (Err d) e o f b w = let g : rule p.text.now p.at ≡ refused (number d.reason) d.place = rw e at f in o ∙ g
+
+-- whether a rule's token stands here, where the parser goes back to
+pub sees-back : {B C : Type 0} (of : C → B) (rule : Rule B) (p q s : Parser) (o : Option C) {b : Bool} → Operates of rule p q (Ok o) → b ≡ is_some o
+    → s.text ≡ q.text → s.arena ≡ q.arena → s.at ≡ p.at → s.top ≡ q.top → Sees rule p s (Ok b)
+sees-back of rule p q s (Some c) r e t a h n =
+    rw e (record { value = of c; next = q.at; says = r.says; later = later-back r.went.later t a n; at_same = h; top_same = n ∙ r.top_same })
+sees-back of rule p q s None r e t a h n =
+    rw e (record { says = r.says; same = parser-same (t ∙ ap (λ p. p.text) r.same) (a ∙ ap (λ p. p.arena) r.same) h (n ∙ ap (λ p. p.top) r.same) })
 
 -- a test of a `bool`, after `sees`
 pub was-seen : {A : Type 0} (rule : Rule A) (p q : Parser) {b : Bool} → Sees rule p q (Ok b) → b ≡ true → Seen rule p q

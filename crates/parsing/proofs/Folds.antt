@@ -5,7 +5,7 @@ use Rattle.tree.specs.Clash.{impossible}
 use Rattle.tree.specs.Words.{operator_word}
 use Rattle.grammar.specs.Reading.{tree_words}
 use Rattle.parsing.specs.Arena.{Holds, outside}
-use Rattle.parsing.specs.Contract.{Ready, Later, Standing, Pushed}
+use Rattle.parsing.specs.Contract.{Spare, Later, Standing, Pushed}
 use Rattle.parsing.specs.Code.{Layer, unary_layer, binary_layer, layered, fold_layers, Links, Foldable, Folded, Layered}
 use Rattle.parsing.specs.declared.arena.Node.{Node}
 use Rattle.parsing.specs.declared.arena.Node.TheVariants.{Empty, Unary, Binary}
@@ -25,7 +25,6 @@ pub record Folding (p : Parser) (first last : ℕ) (s : Parser) (link e : ℕ) :
   pub later : Later p s
   pub at_same : s.at ≡ p.at
   pub link_below : link < p.top
-  pub ready : Ready s 0
   pub rest : (ls : List Layer) (t : Expr Span) → Links p.arena.now first ls → Standing p last (tree_words t) → Rest p s link e ls t
 
 -- a link is a node over an operator, or there is none
@@ -47,41 +46,25 @@ folding-start f =
       later = later-same;
       at_same = refl;
       link_below = f.link_below;
-      ready = record {
-        short = f.ready.short;
-        small = f.ready.small;
-        inside = f.ready.inside;
-        above = f.ready.above;
-        room = omega (arith, f.ready.room);
-        based = f.ready.based;
-      };
       rest = λ ls t k s. record { layers = ls; tree = t; links = k; standing = s; whole = refl; count = refl };
     }
 
 -- a turn reads a link that falls, and there is room for its node
 pub record Turn (s : Parser) (link before : ℕ) : Type 0 where
   pub falls : before < link
-  pub room : Ready s 1
+  pub room : Spare s 1
 
 module _ {p s : Parser} {first last link e : ℕ} (o : Folding p first last s link e) where
   -- a link is not the empty run
   filled : {n : Node} → get_or s.arena.now link outside ≡ n → (n ≡ Empty → ⊥) → link ≡ 0 → ⊥
-  filled h k z = k (sym h ∙ ap (λ i. get_or s.arena.now i outside) z ∙ o.ready.based.empty-run)
+  filled h k z = k (sym h ∙ ap (λ i. get_or s.arena.now i outside) z ∙ s.empty_run)
 
   was : get_or s.arena.now link outside ≡ get_or p.arena.now link outside
   was = o.later.kept.below link o.link_below
 
-  roomy : (f : Foldable first last p) (n : ℕ) → s.top + (1 + n) ≡ p.top + length f.layers → Ready s 1
+  roomy : (f : Foldable first last p) (n : ℕ) → s.top + (1 + n) ≡ p.top + length f.layers → Spare s 1
   roomy f n h =
-      let r = o.ready in
-      record {
-        short = r.short;
-        small = r.small;
-        inside = r.inside;
-        above = r.above;
-        room = omega (arith, f.ready.room, ap length o.later.text_same, o.later.kept.length-kept, o.at_same);
-        based = r.based;
-      }
+      record { room = omega (arith, f.spare.room, ap length o.later.text_same, o.later.kept.length-kept, o.at_same) }
 
   module _ {op before : ℕ} (h : get_or s.arena.now link outside ≡ Unary op before) where
     pub unary-turn : Foldable first last p → Turn s link before
@@ -100,7 +83,6 @@ module _ {p s : Parser} {first last link e : ℕ} (o : Folding p first last s li
           later = later-next o.later m.made.later;
           at_same = m.made.at_same ∙ o.at_same;
           link_below = omega (arith, u.falls, o.link_below);
-          ready = m.made.ready;
           rest = λ ls t k st. let r = o.rest ls t k st in by-link ls t r.tree r.layers (linking r.links) r.standing r.whole r.count;
         }
       where
@@ -138,7 +120,6 @@ module _ {p s : Parser} {first last link e : ℕ} (o : Folding p first last s li
           later = later-next o.later m.made.later;
           at_same = m.made.at_same ∙ o.at_same;
           link_below = omega (arith, u.falls, o.link_below);
-          ready = m.made.ready;
           rest = λ ls t k st. let r = o.rest ls t k st in by-link ls t r.tree r.layers (linking r.links) r.standing r.whole r.count;
         }
       where
@@ -169,7 +150,6 @@ module _ {p s : Parser} {first last link e : ℕ} (o : Folding p first last s li
       record {
         later = o.later;
         at_same = o.at_same;
-        ready = o.ready;
         below = r.standing.below;
         layered = λ ls t k st. let r = o.rest ls t k st in by-link ls t r.tree r.layers (linking r.links) r.standing r.whole r.count;
       }

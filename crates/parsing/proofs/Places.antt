@@ -1,22 +1,27 @@
 -- Places of a method: what is known there of the rule's answer, of the parser, and of the nodes made on the way. A place is the one before it
 -- and one step.
-use Rattle.std.proofs.Common.{ℕ, ◌+◌, ◌*◌, ◌-◌, ◌≤◌, ◌<◌, ◌≡◌, ◌∙◌, refl, sym, ap, subst, List, [], ◌∷◌, Bool, true, false, leb, Option, Some, None, Result, Ok, Err, arith}
+use Rattle.std.proofs.Common.{ℕ, ◌+◌, ◌*◌, ◌-◌, ◌≤◌, ◌<◌, ◌≡◌, ◌∙◌, refl, sym, ap, subst, List, [], ◌∷◌, length, get_or, Bool, true, false, leb, Option, Some, None, Result, Ok, Err, arith}
 use borrow.Author.Tests.{leb-true}
+use mathlib.Core.HLevel.{is_prop→PathP}
+use mathlib.Core.Sum.{⊎_set}
+use Rattle.std.proofs.Math.Bridge.{le_prop}
+use Rattle.std.proofs.Math.Nat.{ℕ_set}
 use Rattle.lexing.specs.Answer.{Answer, ok, refused}
 use Rattle.tree.specs.Ast.{Span, Expr}
 use Rattle.tree.specs.Clash.{impossible}
+use Rattle.tree.specs.Limits.{most_text}
 use Rattle.tree.specs.Tags.{more, no_more, operator_expr_tag, id_expr_tag}
 use Rattle.grammar.specs.Steps.{after, need, must, mapped}
 use Rattle.lexing.specs.CodeAnswers.{number}
-use Rattle.parsing.specs.Arena.{Run, Holds, Kept}
-use Rattle.parsing.specs.Contract.{Rule, needed, Later, Went, Ready, Read, Reads, Reads_if, Took, Takes_if, Named, Missing, span, Standing, Made, Pushed, Four, Chosen, Closes}
+use Rattle.parsing.specs.Arena.{Run, Holds, Kept, most_arena, outside}
+use Rattle.parsing.specs.Contract.{Rule, needed, Later, Went, Spare, Read, Reads, Reads_if, Took, Takes_if, Named, Missing, span, Standing, Made, Pushed, Four, Chosen, Closes}
 use Rattle.grammar.specs.Grammar.{build}
 use Rattle.grammar.specs.Reading.{tree_words}
 use Rattle.parsing.specs.Signs.{Operated, build_of}
 use Rattle.parsing.specs.Code.{Combined}
 use Rattle.parsing.specs.declared.sign.Sign.{Sign}
 use Rattle.parsing.specs.declared.arena.Node.{Node}
-use Rattle.parsing.specs.declared.arena.Node.TheVariants.{One, Two, Three, Ident, Unary, Binary, Item, Pair, Closed, Headed}
+use Rattle.parsing.specs.declared.arena.Node.TheVariants.{Empty, One, Two, Three, Ident, Unary, Binary, Item, Pair, Closed, Headed}
 use Rattle.parsing.specs.declared.parser.Name.{Name}
 use Rattle.lexing.specs.declared.refusal.Refusal.{Refusal}
 use Rattle.parsing.specs.declared.parser.Parser.{Parser}
@@ -65,7 +70,32 @@ pub stand-on : {p q : Parser} → Later p q → (ns : List (ℕ × Run)) → Sta
 stand-on l [] s = tt
 stand-on l ((n, f) ∷ ns) (s, ss) = (standing-on l s, stand-on l ns ss)
 
--- ---- places
+-- the place may go back
+pub later-back : {p q s : Parser} → Later p q → s.text ≡ q.text → s.arena ≡ q.arena → s.top ≡ q.top → Later p s
+later-back l t a n = record { text_same = rw t l.text_same; lent_same = rw a l.lent_same; kept = rw a l.kept; grows = omega (arith, l.grows) }
+
+-- ---- the parser
+
+-- parsers with the same fields are the same
+pub parser-same : {p q : Parser} → q.text ≡ p.text → q.arena ≡ p.arena → q.at ≡ p.at → q.top ≡ p.top → q ≡ p
+parser-same {p} {q} t a h n =
+    λ i. record {
+      text = t i;
+      arena = a i;
+      at = h i;
+      top = n i;
+      short = is_prop→PathP (λ i. length (t i).now ≤ most_text) (λ i. le_prop) q.short p.short i;
+      small = is_prop→PathP (λ i. length (a i).now ≤ most_arena) (λ i. le_prop) q.small p.small i;
+      inside = is_prop→PathP (λ i. h i ≤ length (t i).now) (λ i. le_prop) q.inside p.inside i;
+      above = is_prop→PathP (λ i. 2 ≤ n i) (λ i. le_prop) q.above p.above i;
+      room = is_prop→PathP (λ i. n i + 2 * length (t i).now ≤ length (a i).now + 2 * h i) (λ i. le_prop) q.room p.room i;
+      empty_run = is_prop→PathP (λ i. get_or (a i).now 0 outside ≡ Empty) (λ i. hlevel (ℕ_set, ⊎_set)) q.empty_run p.empty_run i;
+      end_run = is_prop→PathP (λ i. get_or (a i).now 1 outside ≡ One no_more) (λ i. hlevel (ℕ_set, ⊎_set)) q.end_run p.end_run i;
+    }
+
+-- room for no nodes more
+pub no_credit : {p : Parser} → Spare p 0
+no_credit {p} = record { room = omega (arith, p.room) }
 
 -- from p to q, with `lent` nodes more than two for each byte: the place `at` was come to, at least `bytes` bytes were kept, `spare` nodes are
 -- free beyond two for each byte; `rest` is what is left of the answer; the last node made is the first
@@ -75,20 +105,23 @@ pub record Place {A : Type 0} (answer : Answer A) (lent : ℕ) (p q : Parser) (a
   pub later : Later p q
   pub forward : p.at + bytes ≤ at
   pub within : q.top + spare + 2 * p.at ≤ p.top + lent + 2 * at
-  pub ready : Ready q 0
   pub stands : Stand q made
 
-pub begin : {A : Type 0} {answer : Answer A} {lent : ℕ} {p : Parser} → Ready p lent → Place answer lent p p p.at 0 lent answer []
-begin r =
-    record {
-      says = refl;
-      here = refl;
-      later = later-same;
-      forward = omega arith;
-      within = omega arith;
-      ready = record { short = r.short; small = r.small; inside = r.inside; above = r.above; room = omega (arith, r.room); based = r.based };
-      stands = tt;
-    }
+module _ {A : Type 0} {answer : Answer A} where
+  -- with room for `lent` nodes more, and for none
+  pub begin_with : {lent : ℕ} {p : Parser} → Spare p lent → Place answer lent p p p.at 0 lent answer []
+  begin_with r =
+      record {
+        says = refl;
+        here = refl;
+        later = later-same;
+        forward = omega arith;
+        within = omega arith;
+        stands = tt;
+      }
+
+  pub begin : {p : Parser} → Place answer 0 p p p.at 0 0 answer []
+  begin = begin_with no_credit
 
 less : (k spare : ℕ) → leb k spare ≡ true → spare - k + k ≤ spare
 less k spare c = let h = leb-true _ _ c in omega arith
@@ -111,7 +144,6 @@ module _ {A : Type 0} {answer : Answer A} {lent : ℕ} {p q : Parser} {at bytes 
         later = later-next l.later w.later;
         forward = omega (arith, l.forward, l.here, w.onward);
         within = omega (arith, l.within, l.here, w.paid);
-        ready = w.ready;
         stands = (x, stand-on w.later made l.stands);
       }
 
@@ -124,7 +156,6 @@ module _ {A : Type 0} {answer : Answer A} {lent : ℕ} {p q : Parser} {at bytes 
         later = later-next l.later w.later;
         forward = omega (arith, l.forward, l.here, w.onward);
         within = omega (arith, l.within, l.here, w.onward);
-        ready = w.ready;
         stands = stand-on w.later made l.stands;
       }
 
@@ -210,12 +241,12 @@ module _ {A : Type 0} {answer : Answer A} {lent : ℕ} {p q : Parser} {at bytes 
   pub said : {rest other : Answer A} {made : List (ℕ × Run)} → rest ≡ other → Place answer lent p q at bytes spare rest made
       → Place answer lent p q at bytes spare other made
   said e l =
-      record { says = l.says ∙ e; here = l.here; later = l.later; forward = l.forward; within = l.within; ready = l.ready; stands = l.stands }
+      record { says = l.says ∙ e; here = l.here; later = l.later; forward = l.forward; within = l.within; stands = l.stands }
 
   standing : {rest : Answer A} {made : List (ℕ × Run)} (others : List (ℕ × Run)) → Stand q others → Place answer lent p q at bytes spare rest made
       → Place answer lent p q at bytes spare rest others
   standing others x l =
-      record { says = l.says; here = l.here; later = l.later; forward = l.forward; within = l.within; ready = l.ready; stands = x }
+      record { says = l.says; here = l.here; later = l.later; forward = l.forward; within = l.within; stands = x }
 
   -- a rule that may follow was not there
   pub skipped : {B : Type 0} (rule : Rule B) (stop : Answer A) (go : B → ℕ → Answer A) {s : Parser} {made : List (ℕ × Run)}
@@ -230,11 +261,11 @@ module _ {A : Type 0} {answer : Answer A} {lent : ℕ} {p q : Parser} {at bytes 
 
     -- the empty run before the other nodes, and the end of a sequence without items
     pub with_empty : {made : List (ℕ × Run)} → Place answer lent p q at bytes spare rest made → Place answer lent p q at bytes spare rest ((0, λ r. r) ∷ made)
-    with_empty l = standing-more (record { holds = Holds.empty l.ready.based.empty-run; below = omega (arith, l.ready.above) }) l
+    with_empty l = standing-more (record { holds = Holds.empty q.empty_run; below = omega (arith, q.above) }) l
 
     pub with_end : {made : List (ℕ × Run)} → Place answer lent p q at bytes spare rest made
         → Place answer lent p q at bytes spare rest ((1, λ r. no_more ∷ r) ∷ made)
-    with_end l = standing-more (record { holds = Holds.one l.ready.based.end-run; below = omega (arith, l.ready.above) }) l
+    with_end l = standing-more (record { holds = Holds.one q.end_run; below = omega (arith, q.above) }) l
 
     -- the first two in the other order, and all but the first
     pub turned : {n m : ℕ} {f g : Run} {made : List (ℕ × Run)} → Place answer lent p q at bytes spare rest ((n, f) ∷ (m, g) ∷ made)
@@ -246,16 +277,15 @@ module _ {A : Type 0} {answer : Answer A} {lent : ℕ} {p q : Parser} {at bytes 
     without l = standing _ l.stands.1 l
 
     -- k nodes at most were made on the way from q to s
-    over_nodes : (k left : ℕ) {n : ℕ} {f : Run} {s : Parser} {made : List (ℕ × Run)} → Later q s → s.at ≡ q.at → Ready s 0 → s.top ≤ q.top + k → Standing s n f
+    over_nodes : (k left : ℕ) {n : ℕ} {f : Run} {s : Parser} {made : List (ℕ × Run)} → Later q s → s.at ≡ q.at → s.top ≤ q.top + k → Standing s n f
         → Place answer lent p q at bytes spare rest made → left + k ≤ spare → Place answer lent p s at bytes left rest ((n, f) ∷ made)
-    over_nodes k left {made = made} m e r t x l c =
+    over_nodes k left {made = made} m e t x l c =
         record {
           says = l.says;
           here = e ∙ l.here;
           later = later-next l.later m;
           forward = l.forward;
           within = omega (arith, l.within);
-          ready = r;
           stands = (x, stand-on m made l.stands);
         }
 
@@ -263,17 +293,17 @@ module _ {A : Type 0} {answer : Answer A} {lent : ℕ} {p q : Parser} {at bytes 
     pub noted : {k n : ℕ} {f : Run} {s : Parser} {made : List (ℕ × Run)} → Made k q s n → Holds s.arena.now n f
         → Place answer lent p q at bytes spare rest made → leb k spare ≡ true → Place answer lent p s at bytes (spare - k) rest ((n, f) ∷ made)
     noted {k} m h l c =
-        over_nodes k _ m.later m.at_same m.ready (omega (arith, m.top)) (record { holds = h; below = omega (arith, m.last) }) l (less k spare c)
+        over_nodes k _ m.later m.at_same (omega (arith, m.top)) (record { holds = h; below = omega (arith, m.last) }) l (less k spare c)
 
     -- the end of the last node's sequence, which has items or none
     pub ended : {n a : ℕ} {f : Run} {s : Parser} {made : List (ℕ × Run)} → Closes a q s n → Place answer lent p q at bytes spare rest ((a, f) ∷ made)
         → leb 1 spare ≡ true → Place answer lent p s at bytes (spare - 1) rest ((n, λ r. f (no_more ∷ r)) ∷ (a, f) ∷ made)
-    ended m l c = over_nodes 1 _ m.later m.at_same m.ready m.grows (record { holds = m.holds l.stands.0; below = m.below }) l (less 1 spare c)
+    ended m l c = over_nodes 1 _ m.later m.at_same m.grows (record { holds = m.holds l.stands.0; below = m.below }) l (less 1 spare c)
 
     pub ended_empty : {n a : ℕ} {f : Run} {s : Parser} {made : List (ℕ × Run)} → Closes a q s n → a ≡ 0
         → Place answer lent p q at bytes spare rest ((a, f) ∷ made) → Place answer lent p s at bytes spare rest ((n, λ r. f (no_more ∷ r)) ∷ (a, f) ∷ made)
     ended_empty m e l =
-        over_nodes 0 spare m.later m.at_same m.ready (omega (arith, m.stays e)) (record { holds = m.holds l.stands.0; below = m.below }) l (omega arith)
+        over_nodes 0 spare m.later m.at_same (omega (arith, m.stays e)) (record { holds = m.holds l.stands.0; below = m.below }) l (omega arith)
 
 -- what is left is a name, and it was read
 pub name_last : {answer : Answer Span} {lent : ℕ} {p q : Parser} {at bytes spare : ℕ} (rule : Rule Span) {n : Name} {s : Parser} {made : List (ℕ × Run)}
@@ -328,15 +358,15 @@ module _ {q s : Parser} {n : ℕ} where
         (holds_kept l.kept y.below y.holds)
 
 -- a sequence without items, with its end
-pub empty-closed : {p : Parser} {n : ℕ} {f : Run} → Ready p 0 → n ≡ 0 → Standing p n f → Holds p.arena.now 1 (λ r. f (no_more ∷ r))
-empty-closed {p = p} r e x = by-node e x.holds
+pub empty-closed : {p : Parser} {n : ℕ} {f : Run} → n ≡ 0 → Standing p n f → Holds p.arena.now 1 (λ r. f (no_more ∷ r))
+empty-closed {p = p} e x = by-node e x.holds
   where
     by-node : {n : ℕ} {f : Run} → n ≡ 0 → Holds p.arena.now n f → Holds p.arena.now 1 (λ r. f (no_more ∷ r))
-    by-node e (Holds.empty h) = Holds.one r.based.end-run
-    by-node e (Holds.one h) = let k = r.based.empty-run in impossible cc
-    by-node e (Holds.two h) = let k = r.based.empty-run in impossible cc
-    by-node e (Holds.three h) = let k = r.based.empty-run in impossible cc
-    by-node e (Holds.ident h) = let k = r.based.empty-run in impossible cc
+    by-node e (Holds.empty h) = Holds.one p.end_run
+    by-node e (Holds.one h) = let k = p.empty_run in impossible cc
+    by-node e (Holds.two h) = let k = p.empty_run in impossible cc
+    by-node e (Holds.three h) = let k = p.empty_run in impossible cc
+    by-node e (Holds.ident h) = let k = p.empty_run in impossible cc
     by-node e (Holds.unary h l x) = absurd (omega arith)
     by-node e (Holds.binary h l m x y) = absurd (omega arith)
     by-node e (Holds.item h l m x y) = absurd (omega arith)
@@ -426,7 +456,6 @@ again {bytes} {spare} rest bytes₁ spare₁ l b w =
       later = l.later;
       forward = omega (arith, l.forward, l.here);
       within = omega (arith, l.within, l.here);
-      ready = l.ready;
       stands = (l.stands.0, tt);
     }
 
@@ -452,7 +481,7 @@ took-as rule other least k p q t e h =
     record {
       value = t.value;
       says = e;
-      went = record { later = t.went.later; onward = omega (arith, t.went.onward); paid = t.went.paid; ready = t.went.ready };
+      went = record { later = t.went.later; onward = omega (arith, t.went.onward); paid = t.went.paid };
       top_same = t.top_same;
     }
 
@@ -489,7 +518,6 @@ done rule {v = v} l b w =
         later = l.later;
         onward = omega (arith, l.forward, l.here);
         paid = omega (arith, l.within, l.here);
-        ready = l.ready;
       };
     }
 

@@ -12,7 +12,7 @@ use Rattle.grammar.specs.StepLaws.{mapped-same}
 use Rattle.grammar.specs.Declarations.{declare, SeparateTopLevelDecls, TopLevel}
 use Rattle.parsing.specs.Arena.{Run, Holds}
 use Rattle.parsing.specs.Code.{opening}
-use Rattle.parsing.specs.Contract.{Ready, Later, Read, Missing, Standing, Pushed, Four, Closes, same}
+use Rattle.parsing.specs.Contract.{Spare, Later, Read, Missing, Standing, Pushed, Four, Closes, same}
 use Rattle.parsing.specs.Declarations.{decl_words, decl_rule, top_level, kind_rule, Begun, place_of, last_of, part_words, joined_run, Joined}
 use Rattle.parsing.specs.declared.arena.Node.TheVariants.{Item, Pair}
 use Rattle.parsing.specs.declared.parser.Parser.{Parser}
@@ -21,7 +21,7 @@ use Rattle.parsing.specs.declared.program.DeclKind.TheVariants.{Types, Taggers, 
 use Rattle.parsing.specs.contracts.program.DeclKind.{the_type as kind-type}
 use denote.Enum.Declared.{tag_of}
 use Rattle.parsing.proofs.Laws.{after-ok}
-use Rattle.parsing.proofs.Places.{Place, begin, read_if, skipped, said, standing-on, later-next, later-same, made-standing, pair-holds, item-holds}
+use Rattle.parsing.proofs.Places.{Place, begin_with, read_if, skipped, said, standing-on, later-next, later-same, made-standing, pair-holds, item-holds}
 use Rattle.parsing.proofs.StatementPlaces.{refuses}
 use Rattle.parsing.proofs.ProgramRules.{rest, turn-is}
 
@@ -59,20 +59,20 @@ five P a b c d e Axioms = d
 five P a b c d e Procedures = e
 
 -- before the first turn
-pub none-declared : (depth : ℕ) (p : Parser) → Ready p 9 → Declaring depth p p (0 ∷ 0 ∷ 0 ∷ 0 ∷ 0 ∷ [])
+pub none-declared : (depth : ℕ) (p : Parser) → Spare p 9 → Declaring depth p p (0 ∷ 0 ∷ 0 ∷ 0 ∷ 0 ∷ [])
 unfolding TopLevel
 none-declared depth p r =
     record {
       more = λ l. l;
       left = length p.text.now;
       enough = omega arith;
-      place = said (sym (mapped-same _)) (begin r);
+      place = said (sym (mapped-same _)) (begin_with r);
       length_is = refl;
       parts = five _ (none_of refl) (none_of refl) (none_of refl) (none_of refl) (none_of refl);
     }
   where
     none-stands : Standing p 0 (λ r. r)
-    none-stands = record { holds = Holds.empty r.based.empty-run; below = omega (arith, r.above) }
+    none-stands = record { holds = Holds.empty p.empty_run; below = omega (arith, p.above) }
 
     none_of : {s : DeclKind} → last_of (0 ∷ 0 ∷ 0 ∷ 0 ∷ 0 ∷ []) s ≡ 0 → Part p (0 ∷ 0 ∷ 0 ∷ 0 ∷ 0 ∷ []) (λ l. l) s
     none_of e = record { run = λ r. r; stands = rw e none-stands; joins = λ l r. refl }
@@ -100,7 +100,6 @@ module _ (depth : ℕ) {p q : Parser} {lists : List ℕ} (d : Declaring depth p 
           later = later-next l.later b.went.later;
           forward = omega (arith, l.forward, l.here, b.went.onward);
           within = omega (arith, l.within, l.here, b.went.onward, b.top_same);
-          ready = b.went.ready;
           stands = tt;
         }
 
@@ -179,7 +178,7 @@ module _ (depth : ℕ) {p q q₁ q₂ q₃ : Parser} {lists : List ℕ} {e n : �
             → Place (opening TopLevel depth p.text.now p.at) 9 p q₂ q₂.at 5 12 (mapped more₂ (rest depth p.text.now left q₂.at)) ((e, decl_words s f.value) ∷ [])
             → Declaring depth p q₃ (set lists (place_of s) n)
         by-left zero w l =
-            absurd (omega (arith, w, b.went.onward, f.went.onward, l.ready.inside, ap length l.later.text_same))
+            absurd (omega (arith, w, b.went.onward, f.went.onward, q₂.inside, ap length l.later.text_same))
         by-left (suc left) w l =
             record {
               more = more₂;
@@ -191,7 +190,6 @@ module _ (depth : ℕ) {p q q₁ q₂ q₃ : Parser} {lists : List ℕ} {e n : �
                 later = later-next l.later m.made.later;
                 forward = omega (arith, l.forward, m.made.at_same);
                 within = omega (arith, l.within, m.made.top, m.made.at_same);
-                ready = m.made.ready;
                 stands = tt;
               };
               length_is = length-set lists (place_of s) n ∙ d.length_is;
@@ -219,15 +217,13 @@ pub record Ending (p q : Parser) (k : ℕ) : Type 0 where
   pub later : Later p q
   pub at_same : q.at ≡ p.at
   pub grows : q.top ≤ p.top + k
-  pub ready : Ready q 0
 
-pub none-ended : {p : Parser} → Ready p 9 → Ending p p 0
-none-ended r =
+pub none-ended : {p : Parser} → Ending p p 0
+none-ended =
     record {
       later = later-same;
       at_same = refl;
       grows = omega arith;
-      ready = record { short = r.short; small = r.small; inside = r.inside; above = r.above; room = omega (arith, r.room); based = r.based };
     }
 
 pub ended : {p q s : Parser} {k list n : ℕ} → Closes list q s n → Ending p q k → Ending p s (k + 1)
@@ -236,17 +232,16 @@ ended c e =
       later = later-next e.later c.later;
       at_same = c.at_same ∙ e.at_same;
       grows = omega (arith, c.grows, e.grows);
-      ready = c.ready;
     }
 
 closed : {p q : Parser} {list n : ℕ} {f : Run} → Closes list p q n → Standing p list f → Standing q n (λ r. f (no_more ∷ r))
 closed c s = record { holds = c.holds s; below = c.below }
 
-pub all-joined : {lists : List ℕ} {p p₁ p₂ p₃ p₄ p₅ p₆ q : Parser} {a b c d e m n : ℕ} → Ready p 9 → Closes (last_of lists Types) p p₁ a → Closes (last_of lists Taggers) p₁ p₂ b
+pub all-joined : {lists : List ℕ} {p p₁ p₂ p₃ p₄ p₅ p₆ q : Parser} {a b c d e m n : ℕ} → Closes (last_of lists Types) p p₁ a → Closes (last_of lists Taggers) p₁ p₂ b
     → Closes (last_of lists Functions) p₂ p₃ c → Closes (last_of lists Axioms) p₃ p₄ d → Closes (last_of lists Procedures) p₄ p₅ e → Pushed (Pair a b) p₅ p₆ m
     → Four m c d e p₆ q n → Joined lists p q n
-all-joined {lists} {p} r a b c d e m n =
-    let after₁ = ended a (none-ended r) in
+all-joined {lists} {p} a b c d e m n =
+    let after₁ = ended a none-ended in
     let after₂ = ended b after₁ in
     let after₃ = ended c after₂ in
     let after₄ = ended d after₃ in
@@ -259,7 +254,6 @@ all-joined {lists} {p} r a b c d e m n =
       later = later-next after₅.later (later-next m.made.later n.made.later);
       at_same = n.made.at_same ∙ m.made.at_same ∙ after₅.at_same;
       grows = omega (arith, after₅.grows, m.made.top, n.made.top);
-      ready = n.made.ready;
       below = omega (arith, n.made.last);
       holds = λ f o.
           let x = standing-on on₂ (closed a (o Types)) in
@@ -305,6 +299,5 @@ module _ (depth : ℕ) {p q : Parser} {lists : List ℕ} (d : Declaring depth p 
           later = later-next l.later j.later;
           onward = omega (arith, l.forward, l.here, j.at_same);
           paid = omega (arith, l.within, l.here, j.grows, j.at_same);
-          ready = j.ready;
         };
       }

@@ -68,7 +68,7 @@ module _ {p q : Parser} (ws : List Word) (i : ℕ) (d : Word) (h : i < length ws
       let l = leb-true _ _ here.long.0 in
       record {
         says = here.says ∙ after-ok _ _ _ t.says;
-        went = record { later = t.went.later; onward = omega (arith, t.went.onward); paid = t.went.paid; ready = t.went.ready };
+        went = record { later = t.went.later; onward = omega (arith, t.went.onward); paid = t.went.paid };
         top_same = t.top_same;
       }
 

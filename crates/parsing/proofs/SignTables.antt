@@ -42,7 +42,7 @@ module _ {T : Type 0} {table : List (Spelling × T)} {p q : Parser} (es : List (
       let t : Took (spelt e.0) (size e.0) p r = rw here.same at t in
       record {
         says = here.says ∙ after-ok _ _ _ (after-ok _ _ _ t.says);
-        went = record { later = t.went.later; onward = omega (arith, t.went.onward, here.filled.0); paid = t.went.paid; ready = t.went.ready };
+        went = record { later = t.went.later; onward = omega (arith, t.went.onward, here.filled.0); paid = t.went.paid };
         top_same = t.top_same;
       }
 

@@ -8,20 +8,20 @@ use Rattle.tree.specs.Words.{stmt_words}
 use Rattle.grammar.specs.Reading.{tree_words}
 use Rattle.grammar.specs.Steps.{after, mapped, parse_name}
 use Rattle.grammar.specs.Statements.{atomic, mark, parse_optional_exit_argument}
-use Rattle.parsing.specs.Contract.{Ready, Reads, needed, same}
+use Rattle.parsing.specs.Contract.{Spare, Reads, needed, same}
 use Rattle.parsing.specs.Code.{inner}
 use Rattle.parsing.specs.Statements.{headed, exit_stmt, stated}
 use Rattle.parsing.specs.declared.parser.Parser.{Parser}
 use Rattle.parsing.proofs.Laws.{after-ok, after-none, after-refused}
-use Rattle.parsing.proofs.Places.{begin, said}
+use Rattle.parsing.proofs.Places.{begin_with, said}
 use Rattle.parsing.proofs.StatementPlaces.{tail-mapped}
 use Rattle.parsing.proofs.StatementEquations.{expr-mapped, atomic-none, atomic-refused}
 
 -- an expression that must follow, made into a statement
 pub stated-as : (depth : ℕ) {tag : ℕ} (f : Expr Span → Stmt Span) → ((e : Expr Span) → headed tag tree_words e ≡ stmt_words same (f e)) → {p : Parser} (q : Parser)
-    → Ready p 4 → (r : Result ℕ Refusal) → Reads (headed tag tree_words) (needed (inner depth)) 1 1 p q r → Reads (stmt_words same) (stated depth f) 0 4 p q r
+    → Spare p 4 → (r : Result ℕ Refusal) → Reads (headed tag tree_words) (needed (inner depth)) 1 1 p q r → Reads (stmt_words same) (stated depth f) 0 4 p q r
 stated-as depth f w q r x a =
-    tail-mapped (stmt_words same) (stated depth f) (needed (inner depth)) f w 0 4 1 1 q x a (said (expr-mapped f _ depth _) (begin r)) refl refl
+    tail-mapped (stmt_words same) (stated depth f) (needed (inner depth)) f w 0 4 1 1 q x a (said (expr-mapped f _ depth _) (begin_with r)) refl refl
 
 -- ---- `exit`
 

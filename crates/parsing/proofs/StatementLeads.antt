@@ -5,7 +5,7 @@ use Rattle.lexing.specs.Answer.{Answer, ok, refused}
 use Rattle.tree.specs.Ast.{Span, Stmt}
 use Rattle.grammar.specs.Steps.{parse_name}
 use Rattle.grammar.specs.Statements.{Gallery, parse_stmt, parse_variable_declaration}
-use Rattle.parsing.specs.Contract.{Ready, Spelt, Passing_word, span}
+use Rattle.parsing.specs.Contract.{Spelt, Passing_word, span}
 use Rattle.parsing.specs.Code.{turns, opened, opening}
 use Rattle.parsing.specs.Leads.{leads, lead_of}
 use Rattle.parsing.specs.declared.lead.Lead.{Lead}
@@ -14,7 +14,7 @@ use Rattle.parsing.specs.declared.parser.Name.{Name}
 use Rattle.parsing.specs.declared.parser.Parser.{Parser}
 use Rattle.tree.specs.Clash.{impossible}
 use Rattle.parsing.proofs.Laws.{after-none, after-refused}
-use Rattle.parsing.proofs.Places.{Place}
+use Rattle.parsing.proofs.Places.{Place, no_credit}
 use Rattle.parsing.proofs.StatementPlaces.{word-passed, says-of}
 use Rattle.parsing.proofs.StatementWords.{classed-long, word-long, word-apart}
 use Rattle.parsing.proofs.StatementBranches.{lead_rule, lead_least}
@@ -31,7 +31,7 @@ variable-name text m c is_mutable at {s} {next} e = by_name (parse_name text at)
     by_name Answer.none h = let q : refused 2 at ≡ ok s next = sym (after-none _ _ _ h) ∙ e in impossible (cc)
     by_name (refused number place) h = let q : refused number place ≡ ok s next = sym (after-refused _ _ _ h) ∙ e in impossible (cc)
 
-module _ (depth : ℕ) {p q : Parser} {len : ℕ} {lead : Lead} {n : Name} (r : Ready p 0) (s : Spelt p len) (f : len ≡ 0 → ⊥)
+module _ (depth : ℕ) {p q : Parser} {len : ℕ} {lead : Lead} {n : Name} (s : Spelt p len) (f : len ≡ 0 → ⊥)
     (e : lead ≡ lead_of (take len (drop p.at p.text.now))) (w : Passing_word len p q n) (k : Lead) (h : lead ≡ k) where
   -- the word has its bytes
   long : lead_least k ≤ len
@@ -48,7 +48,7 @@ module _ (depth : ℕ) {p q : Parser} {len : ℕ} {lead : Lead} {n : Name} (r : 
       ∙ ap (λ k. lead_rule k depth (span n) p.text.now q.at) h
 
   pub led : Place (opening parse_stmt depth p.text.now p.at) 0 p q q.at (lead_least k) (0 + 2 * lead_least k) (lead_rule k depth (span n) p.text.now q.at) []
-  led = word-passed (lead_least k) _ w.named r (omega (arith, long, w.named.low, w.named.start_is, w.len_is)) rest
+  led = word-passed (lead_least k) _ w.named no_credit (omega (arith, long, w.named.low, w.named.start_is, w.len_is)) rest
 
   -- where a declaration follows there is a blank before it
   pub declared : (is_mutable : Bool) {s : Stmt Span} {next : ℕ}
@@ -59,4 +59,4 @@ module _ (depth : ℕ) {p q : Parser} {len : ℕ} {lead : Lead} {n : Name} (r : 
       let (m, next, d) = variable-name _ _ _ is_mutable _ d in
       let d : parse_name p.text.now q.at ≡ ok m next = says-of parse_name w.named.went.later d in
       let g = word-apart p.text.now p.at len q.at s.measured (omega (arith, f)) (omega (arith, w.named.low, w.named.start_is, w.len_is)) d in
-      word-passed 4 _ w.named r (omega (arith, long, g)) rest
+      word-passed 4 _ w.named no_credit (omega (arith, long, g)) rest

@@ -7,7 +7,7 @@ use Rattle.grammar.specs.Steps.{after, mapped}
 use Rattle.grammar.specs.StepLaws.{mapped-same}
 use Rattle.grammar.specs.Statements.{rep}
 use Rattle.parsing.specs.Arena.{Run, Holds}
-use Rattle.parsing.specs.Contract.{Rule, Ready, Read, Pushed, Closes}
+use Rattle.parsing.specs.Contract.{Rule, Spare, Read, Pushed, Closes}
 use Rattle.parsing.specs.Code.{turns}
 use Rattle.parsing.specs.Statements.{Nothing, Spared, RepeatedOf, RepetitionOf, repeated, repeated_words, repetition_words, repeated_rule}
 use Rattle.parsing.specs.declared.arena.Node.TheVariants.{Item}
@@ -15,7 +15,7 @@ use Rattle.parsing.specs.declared.parser.Parser.{Parser}
 use Rattle.parsing.specs.declared.stmt.Repeated.{Repeated}
 use Rattle.parsing.specs.declared.stmt.Repeated.TheVariants.{Stmts as Statements, Nested, Branches, Cases as CaseItems, Requires, Ensures, Invariants, Whens}
 use Rattle.parsing.proofs.Laws.{after-ok, after-none, after-refused}
-use Rattle.parsing.proofs.Places.{Place, said, begin, itemed, again, later-next}
+use Rattle.parsing.proofs.Places.{Place, said, begin_with, itemed, again, later-next}
 use Rattle.parsing.proofs.StatementPlaces.{stayed, left-after}
 
 -- the words of no items, and of an item before others
@@ -58,7 +58,7 @@ pub record Gathered (k : Repeated) (depth : ℕ) (p q : Parser) (list : ℕ) : T
   pub place : Place (whole k depth p) 1 p q q.at 0 1 (mapped join (rep (repeated k) (suc left) (repeated_rule k depth p.text.now) q.at)) ((list, run) ∷ [])
 
 -- none yet
-pub gathered-none : (k : Repeated) (depth : ℕ) {p : Parser} → Ready p 1 → Gathered k depth p p 0
+pub gathered-none : (k : Repeated) (depth : ℕ) {p : Parser} → Spare p 1 → Gathered k depth p p 0
 gathered-none k depth {p} r =
     record {
       run = λ r. r;
@@ -67,15 +67,14 @@ gathered-none k depth {p} r =
       left = length p.text.now;
       enough = omega arith;
       place =
-          let l : Place (whole k depth p) 1 p p p.at 0 1 (whole k depth p) [] = begin r in
+          let l : Place (whole k depth p) 1 p p p.at 0 1 (whole k depth p) [] = begin_with r in
           record {
             says = sym (mapped-same (whole k depth p));
             here = l.here;
             later = l.later;
             forward = l.forward;
             within = l.within;
-            ready = l.ready;
-            stands = (record { holds = Holds.empty r.based.empty-run; below = omega (arith, r.above) }, tt);
+            stands = (record { holds = Holds.empty p.empty_run; below = omega (arith, p.above) }, tt);
           };
     }
 
@@ -119,7 +118,7 @@ module _ (k : Repeated) (depth : ℕ) {p q : Parser} {list : ℕ} (g : Gathered 
       next = itemed m (left-after _ r g.place (turn-ok says)) refl
 
       by-left : (l : ℕ) → g.left ≡ l → Gathered k depth p t n
-      by-left zero e = absurd (omega (arith, g.enough, r.read.went.onward, r.read.went.ready.inside, ap length r.read.went.later.text_same, ap length g.place.later.text_same))
+      by-left zero e = absurd (omega (arith, g.enough, r.read.went.onward, s.inside, ap length r.read.went.later.text_same, ap length g.place.later.text_same))
       by-left (suc l) e =
           record {
             run = λ x. g.run (more ∷ repeated_words k a x);
@@ -146,7 +145,6 @@ module _ (k : Repeated) (depth : ℕ) {p q : Parser} {list : ℕ} (g : Gathered 
           later = later-next l.later m.later;
           onward = omega (arith, l.forward, l.here, m.at_same);
           paid = omega (arith, l.within, l.here, m.at_same, m.grows);
-          ready = m.ready;
         };
       }
 

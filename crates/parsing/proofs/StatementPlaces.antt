@@ -9,41 +9,26 @@ use Rattle.lexing.specs.declared.refusal.Refusal.{Refusal}
 use Rattle.grammar.specs.Steps.{after, need, mapped, parse_name}
 use Rattle.grammar.specs.StepLaws.{mapped-same}
 use Rattle.parsing.specs.Arena.{Run, Holds}
-use Rattle.parsing.specs.Contract.{Rule, needed, Read, Reads, Later, Ready, Named, Took}
+use Rattle.parsing.specs.Contract.{Rule, needed, Read, Reads, Later, Spare, Named, Took}
 use Rattle.parsing.specs.Statements.{Stayed, Nothing, Spared, Spares, Spares_if, Stops}
 use Rattle.parsing.specs.declared.parser.Name.{Name}
 use Rattle.parsing.specs.declared.parser.Parser.{Parser}
 use Rattle.parsing.proofs.Laws.{need-ok, after-ok, after-none, after-refused}
-use Rattle.parsing.proofs.Places.{Place, said, read_if, refused_last, turned, without, stand-on, later-next, later-same}
+use Rattle.parsing.proofs.Places.{Place, said, read_if, refused_last, turned, without, stand-on, later-next, later-same, later-back}
 
 -- ---- rules that keep nothing
 
 -- the parser is where it was, as it never moved or as it went back
-pub stay : {p q : Parser} → Ready p 0 → q ≡ p → Stayed p q
-stay r e = rw e (record { later = later-same; at_same = refl; top_same = refl; ready = r })
+pub stay : {p q : Parser} → q ≡ p → Stayed p q
+stay e = rw e (record { later = later-same; at_same = refl; top_same = refl })
 
-pub back : {p q : Parser} → Ready p 0 → Later p q → q.top ≡ p.top → Stayed p (record { text = q.text; arena = q.arena; at = p.at; top = q.top })
-back {p} {q} r l e =
+pub back : {p q s : Parser} → Later p q → q.top ≡ p.top → s.text ≡ q.text → s.arena ≡ q.arena → s.at ≡ p.at → s.top ≡ q.top → Stayed p s
+back l e t a h n =
     record {
-      later = record { text_same = l.text_same; lent_same = l.lent_same; kept = l.kept; grows = l.grows };
-      at_same = refl;
-      top_same = e;
-      ready = record {
-        short = omega (arith, r.short, ap length l.text_same);
-        small = omega (arith, r.small, l.kept.length-kept);
-        inside = omega (arith, r.inside, ap length l.text_same);
-        above = omega (arith, r.above);
-        room = omega (arith, r.room, ap length l.text_same, l.kept.length-kept);
-        based = record {
-          empty-run = l.kept.below 0 (omega (arith, r.above)) ∙ r.based.empty-run;
-          end-run = l.kept.below 1 (omega (arith, r.above)) ∙ r.based.end-run;
-        };
-      };
+      later = later-back l t a n;
+      at_same = h;
+      top_same = n ∙ e;
     }
-
--- ready without credit
-pub begin-ready : {p : Parser} {credit : ℕ} → Ready p credit → Ready p 0
-begin-ready r = record { short = r.short; small = r.small; inside = r.inside; above = r.above; room = omega (arith, r.room); based = r.based }
 
 -- what a rule says of the text as it was
 pub says-of : {A : Type 0} (rule : Rule A) {p q : Parser} {at : ℕ} {r : Answer A} → Later p q → rule q.text.now at ≡ r → rule p.text.now at ≡ r
@@ -79,7 +64,6 @@ module _ {A : Type 0} {answer : Answer A} {lent : ℕ} {p q : Parser} {at bytes 
         later = later-next l.later f.later;
         forward = omega (arith, l.forward, l.here, f.onward);
         within = omega (arith, l.within, l.here, r.left);
-        ready = f.ready;
         stands = (record { holds = r.read.holds; below = r.read.below }, stand-on f.later made l.stands);
       }
 
@@ -116,7 +100,6 @@ module _ {A : Type 0} {answer : Answer A} {lent : ℕ} {p q : Parser} {at bytes 
         later = later-next l.later r.later;
         forward = l.forward;
         within = omega (arith, l.within, r.top_same);
-        ready = r.ready;
         stands = stand-on r.later made l.stands;
       }
 
@@ -129,10 +112,10 @@ module _ {A : Type 0} {answer : Answer A} {lent : ℕ} {p q : Parser} {at bytes 
       stayed r.stayed (said (after-none (rule p.text.now at) stop go h) l)
 
 -- a name was passed of `least` bytes at least
-pub word-passed : {A : Type 0} {answer : Answer A} {lent : ℕ} {p q : Parser} {n : Name} (least : ℕ) (rest : Answer A) → Named parse_name p q n → Ready p lent
+pub word-passed : {A : Type 0} {answer : Answer A} {lent : ℕ} {p q : Parser} {n : Name} (least : ℕ) (rest : Answer A) → Named parse_name p q n → Spare p lent
     → p.at + least ≤ q.at → answer ≡ rest → Place answer lent p q q.at least (lent + 2 * least) rest []
 word-passed least rest n r l e =
-    record { says = e; here = refl; later = n.went.later; forward = l; within = omega (arith, l, n.top_same); ready = n.went.ready; stands = tt }
+    record { says = e; here = refl; later = n.went.later; forward = l; within = omega (arith, l, n.top_same); stands = tt }
 
 -- without the second node
 pub without-next : {A : Type 0} {answer : Answer A} {lent : ℕ} {p q : Parser} {at bytes spare : ℕ} {rest : Answer A} {n m : ℕ} {f g : Run} {made : List (ℕ × Run)}
@@ -140,19 +123,11 @@ pub without-next : {A : Type 0} {answer : Answer A} {lent : ℕ} {p q : Parser} 
 without-next l = without (turned l)
 
 -- room at a place
-pub room : {A : Type 0} {answer : Answer A} {lent : ℕ} {p q : Parser} {at bytes spare : ℕ} {rest : Answer A} {made : List (ℕ × Run)} (credit : ℕ) → Ready p lent
-    → Place answer lent p q at bytes spare rest made → leb credit spare ≡ true → Ready q credit
+pub room : {A : Type 0} {answer : Answer A} {lent : ℕ} {p q : Parser} {at bytes spare : ℕ} {rest : Answer A} {made : List (ℕ × Run)} (credit : ℕ) → Spare p lent
+    → Place answer lent p q at bytes spare rest made → leb credit spare ≡ true → Spare q credit
 room credit r l c =
     let k = leb-true _ _ c in
-    let d = l.ready in
-    record {
-      short = d.short;
-      small = d.small;
-      inside = d.inside;
-      above = d.above;
-      room = omega (arith, r.room, l.within, l.here, l.later.kept.length-kept, ap length l.later.text_same);
-      based = d.based;
-    }
+    record { room = omega (arith, r.room, l.within, l.here, l.later.kept.length-kept, ap length l.later.text_same) }
 
 -- a token of fewer bytes than it has
 pub took-least : {rule : Rule ℕ} {k : ℕ} {p q : Parser} (least : ℕ) → least ≤ k → Took rule k p q → Took rule least p q
@@ -160,7 +135,7 @@ took-least least h t =
     record {
       value = t.value;
       says = t.says;
-      went = record { later = t.went.later; onward = omega (arith, t.went.onward); paid = t.went.paid; ready = t.went.ready };
+      went = record { later = t.went.later; onward = omega (arith, t.went.onward); paid = t.went.paid };
       top_same = t.top_same;
     }
 
@@ -191,7 +166,6 @@ ends rule {v = v} l b w =
           later = l.later;
           onward = omega (arith, l.forward, l.here);
           paid = omega (arith, l.within, l.here);
-          ready = l.ready;
         };
       };
       left = omega (arith, l.within, l.here);
@@ -214,7 +188,6 @@ module _ {A B : Type 0} {words : A → Run} {words₁ : B → Run} (rule : Rule 
           later = later-next l.later r.went.later;
           onward = omega (arith, l.forward, l.here, r.went.onward);
           paid = omega (arith, l.within, l.here, r.went.paid);
-          ready = r.went.ready;
         };
       }
 

@@ -13,7 +13,7 @@ use Rattle.lexing.specs.declared.refusal.Refusal.{Refusal}
 use Rattle.tree.specs.Limits.{most_text}
 use Rattle.tree.specs.Clash.{impossible}
 use Rattle.grammar.specs.Steps.{after, spanned, parse_name, parse_literal_text, parse_nat}
-use Rattle.parsing.specs.Contract.{Rule, Ready, Went, Takes_if, Lies, Passing, Refusing, Not_here, Stands, Passed, Named, Missing, Spelt, Passing_word, word}
+use Rattle.parsing.specs.Contract.{Rule, Went, Takes_if, Lies, Passing, Refusing, Not_here, Stands, Passed, Named, Missing, Spelt, Passing_word, word}
 use Rattle.parsing.specs.Signs.{Operates}
 use Rattle.parsing.specs.declared.parser.Parser.{Parser}
 
@@ -32,13 +32,13 @@ lies p k (Ok (Some t)) h w = omega (arith, length-drop p.at p.text.now)
 lies p k (Ok None) h w = tt
 lies p k (Err e) h w = omega (arith, length-drop p.at p.text.now)
 
-module _ (p : Parser) (ready : Ready p 0) (r : Result (Option Token) Refusal) (a : Answer ℕ) (k : ℕ) (e : answer_of r ≡ a)
+module _ (p : Parser) (r : Result (Option Token) Refusal) (a : Answer ℕ) (k : ℕ) (e : answer_of r ≡ a)
     (w : Within k (length (drop p.at p.text.now)) a) where
   fits : Within k (length (drop p.at p.text.now)) (answer_of r)
   fits = subst (Within k (length (drop p.at p.text.now))) (sym e) w
 
   pub answer-lies : Lies p r
-  answer-lies = lies p k r ready.inside fits
+  answer-lies = lies p k r p.inside fits
 
   module _ (q : Parser) where
     -- a token that was passed
@@ -49,7 +49,6 @@ module _ (p : Parser) (ready : Ready p 0) (r : Result (Option Token) Refusal) (a
           later = m.went.later;
           onward = omega (arith, m.place, w.0);
           paid = omega (arith, m.went.paid, m.place, m.top_same);
-          ready = m.went.ready;
         }
 
     -- a token that may stand was read, whose answer is the rule's with places from here on
@@ -61,20 +60,20 @@ module _ (p : Parser) (ready : Ready p 0) (r : Result (Option Token) Refusal) (a
     answer-takes rule says (Err d) f = says ∙ rw (← e, f.was, f.here) refl
 
 -- the same, for a reader of the rest of the text
-module _ (reader : List ℕ → Answer ℕ) (k : ℕ) (within : (s : List ℕ) → Within k (length s) (reader s)) (p : Parser) (ready : Ready p 0)
+module _ (reader : List ℕ → Answer ℕ) (k : ℕ) (within : (s : List ℕ) → Within k (length s) (reader s)) (p : Parser)
     (r : Result (Option Token) Refusal) (e : answer_of r ≡ reader (take (length p.text.now - p.at) (drop p.at p.text.now))) where
   here : answer_of r ≡ reader (drop p.at p.text.now)
   here = e ∙ ap reader (suffix p.text.now p.at)
 
   pub token-lies : Lies p r
-  token-lies = answer-lies p ready r _ k here (within (drop p.at p.text.now))
+  token-lies = answer-lies p r _ k here (within (drop p.at p.text.now))
 
   pub token-takes : (rule : Rule ℕ) → ((text : List ℕ) (at : ℕ) → rule text at ≡ moved at (reader (drop at text))) → (q : Parser) (b : Result Bool Refusal)
       → Stands r p q b → Takes_if rule k p q b
-  token-takes rule says q b f = answer-takes p ready r _ k here (within (drop p.at p.text.now)) q rule (says _ _) b f
+  token-takes rule says q b f = answer-takes p r _ k here (within (drop p.at p.text.now)) q rule (says _ _) b f
 
 -- ---- the word of `len` bytes, and the blanks after it
-module _ (p : Parser) (ready : Ready p 0) (len : ℕ) (s : Spelt p len) (r : Result (Option Token) Refusal)
+module _ (p : Parser) (len : ℕ) (s : Spelt p len) (r : Result (Option Token) Refusal)
     (e : answer_of r ≡ lexeme 0 len (take (length p.text.now - p.at) (drop p.at p.text.now))) where
   blanks-here : answer_of r ≡ lexeme 0 len (drop p.at p.text.now)
   blanks-here = e ∙ ap (lexeme 0 len) (suffix p.text.now p.at)
@@ -83,7 +82,7 @@ module _ (p : Parser) (ready : Ready p 0) (len : ℕ) (s : Spelt p len) (r : Res
   blanks-within k h = lexeme-within 0 k len (drop p.at p.text.now) h (omega (arith, s.inside, length-drop p.at p.text.now))
 
   pub word-lies : Lies p r
-  word-lies = answer-lies p ready r _ len blanks-here (blanks-within len (le_refl _))
+  word-lies = answer-lies p r _ len blanks-here (blanks-within len (le_refl _))
 
   module _ (q : Parser) where
     -- `T` of the word's bytes
@@ -93,7 +92,7 @@ module _ (p : Parser) (ready : Ready p 0) (len : ℕ) (s : Spelt p len) (r : Res
     keyword-takes w h b f =
         let m : same_bytes (take (identifier_length (drop p.at p.text.now)) (drop p.at p.text.now)) w ≡ true = rw s.measured h in
         let l : length w ≤ len = omega (arith, (keyword-is w (drop p.at p.text.now) m).1, s.measured) in
-        answer-takes p ready r _ (length w) blanks-here (blanks-within (length w) l) q (word w) (rw (m, s.measured) refl) b f
+        answer-takes p r _ (length w) blanks-here (blanks-within (length w) l) q (word w) (rw (m, s.measured) refl) b f
 
   -- the word as a name
   module _ (filled : 1 ≤ len) where
@@ -112,7 +111,7 @@ module _ (p : Parser) (ready : Ready p 0) (len : ℕ) (s : Spelt p len) (r : Res
           record {
             named = record {
               says = name-closed ∙ rw (w, m.place, ← h) refl;
-              went = went p ready r _ 1 blanks-here (blanks-within 1 filled) q f.value m;
+              went = went p r _ 1 blanks-here (blanks-within 1 filled) q f.value m;
               top_same = m.top_same;
               start_is = refl;
               low = omega (arith, m.place);
@@ -152,7 +151,7 @@ unfolding after parse_id
 no-name p q s e = record { says = rw s.measured refl; same = e }
 
 -- ---- the text of a custom literal
-module _ (p : Parser) (ready : Ready p 0) (r : Result (Option Token) Refusal)
+module _ (p : Parser) (r : Result (Option Token) Refusal)
     (e : answer_of r ≡ parse_custom_literal (take (length p.text.now - p.at) (drop p.at p.text.now))) where
   text-here : answer_of r ≡ parse_custom_literal (drop p.at p.text.now)
   text-here = e ∙ ap parse_custom_literal (suffix p.text.now p.at)
@@ -177,7 +176,7 @@ module _ (p : Parser) (ready : Ready p 0) (r : Result (Option Token) Refusal)
         let l : v ≡ m.size = whole v m.size h in
         record {
           says = rw (h, m.place) refl;
-          went = went p ready r _ 1 text-here text-within q v m;
+          went = went p r _ 1 text-here text-within q v m;
           top_same = m.top_same;
           start_is = refl;
           low = omega (arith, m.place);
@@ -185,7 +184,7 @@ module _ (p : Parser) (ready : Ready p 0) (r : Result (Option Token) Refusal)
 
     -- its length is that of a text at most
     pub text-short : (v : ℕ) → Passing r p q v → v ≤ most_text
-    text-short v m = let n = text-read v m in omega (arith, n.low, n.went.ready.inside, n.went.ready.short)
+    text-short v m = let n = text-read v m in omega (arith, n.low, q.inside, q.short)
 
     pub text-missing : Not_here r p q → Missing parse_literal_text p q
     unfolding after
@@ -196,7 +195,7 @@ module _ (p : Parser) (ready : Ready p 0) (r : Result (Option Token) Refusal)
     text-refused d f = rw (← text-here, f.was, f.here) refl
 
 -- ---- a natural
-module _ (p : Parser) (ready : Ready p 0) (r : Result (Option Token) Refusal)
+module _ (p : Parser) (r : Result (Option Token) Refusal)
     (e : answer_of r ≡ natural (take (length p.text.now - p.at) (drop p.at p.text.now))) (q : Parser) where
   natural-here : answer_of r ≡ natural (drop p.at p.text.now)
   natural-here = e ∙ ap natural (suffix p.text.now p.at)
@@ -205,7 +204,7 @@ module _ (p : Parser) (ready : Ready p 0) (r : Result (Option Token) Refusal)
   natural-operates (Ok (Some v)) m =
       record {
         says = rw (← natural-here, m.was, m.place) refl;
-        went = went p ready r _ 1 natural-here (natural-within (drop p.at p.text.now)) q v m;
+        went = went p r _ 1 natural-here (natural-within (drop p.at p.text.now)) q v m;
         top_same = m.top_same;
       }
   natural-operates (Ok None) f = record { says = rw (← natural-here, f.was) refl; same = f.same }

@@ -37,8 +37,3 @@ pub data Holds (arena : List Node) : ℕ → Run → Type 0 where
 pub record Kept (arena later : List Node) (top : ℕ) : Type 0 where
   pub length-kept : length later ≡ length arena
   pub below : (i : ℕ) → i < top → get_or later i outside ≡ get_or arena i outside
-
--- the first nodes: the empty run at 0, and the word 0 at 1, which is an empty sequence
-pub record Based (arena : List Node) : Type 0 where
-  pub empty-run : get_or arena 0 outside ≡ Empty
-  pub end-run : get_or arena 1 outside ≡ One no_more

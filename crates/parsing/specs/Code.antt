@@ -9,7 +9,7 @@ use Rattle.grammar.specs.Rules.{left_tail, operator_of, parse_unary_expr, parse_
 use Rattle.grammar.specs.Statements.{Gallery, gallery}
 use Rattle.grammar.specs.Reading.{tree_words}
 use Rattle.parsing.specs.Arena.{Run, Holds, outside}
-use Rattle.parsing.specs.Contract.{Rule, Ready, Later, Standing, Made, same}
+use Rattle.parsing.specs.Contract.{Rule, Spare, Later, Standing, Made, same}
 use Rattle.parsing.specs.Signs.{build_of}
 use Rattle.parsing.specs.declared.arena.Node.{Node}
 use Rattle.parsing.specs.declared.arena.Node.TheVariants.{Unary, Binary}
@@ -128,7 +128,7 @@ pub record Foldable (link node : ℕ) (p : Parser) : Type 0 where
   pub links : Links p.arena.now link layers
   pub standing : Standing p node (tree_words tree)
   pub link_below : link < p.top
-  pub ready : Ready p (length layers)
+  pub spare : Spare p (length layers)
 
 pub record Layered (ls : List Layer) (e : Expr Span) (p q : Parser) (n : ℕ) : Type 0 where
   pub holds : Holds q.arena.now n (tree_words (fold_layers ls e))
@@ -137,6 +137,5 @@ pub record Layered (ls : List Layer) (e : Expr Span) (p q : Parser) (n : ℕ) : 
 pub record Folded (link node : ℕ) (p q : Parser) (n : ℕ) : Type 0 where
   pub later : Later p q
   pub at_same : q.at ≡ p.at
-  pub ready : Ready q 0
   pub below : n < q.top
   pub layered : (ls : List Layer) (e : Expr Span) → Links p.arena.now link ls → Standing p node (tree_words e) → Layered ls e p q n

@@ -7,10 +7,9 @@ use Rattle.lexing.specs.Answer.{moved}
 use Rattle.lexing.specs.declared.token.Token.{Token}
 use Rattle.lexing.specs.declared.refusal.Refusal.{Refusal}
 use Rattle.tree.specs.Ast.{Span}
-use Rattle.tree.specs.Limits.{most_text}
 use Rattle.tree.specs.Tags.{more, no_more, operator_expr_tag}
 use Rattle.grammar.specs.Steps.{Reader, must, keyword_at, sign_at, parse_name}
-use Rattle.parsing.specs.Arena.{Run, Holds, Kept, Based, outside, most_arena}
+use Rattle.parsing.specs.Arena.{Run, Holds, Kept, outside}
 use Rattle.parsing.specs.declared.arena.Node.{Node}
 use Rattle.parsing.specs.declared.parser.Parser.{Parser}
 use Rattle.parsing.specs.declared.parser.Name.{Name}
@@ -38,14 +37,9 @@ sign_but w longer text at = moved at (sign_not_prefix w longer (drop at text))
 
 -- ---- the parser
 
--- what a rule needs: room for two nodes for each byte that is left, and `credit` more
-pub record Ready (p : Parser) (credit : ℕ) : Type 0 where
-  pub short : length p.text.now ≤ most_text
-  pub small : length p.arena.now ≤ most_arena
-  pub inside : p.at ≤ length p.text.now
-  pub above : 2 ≤ p.top
+-- room for `credit` nodes beside two for each byte that is left
+pub record Spare (p : Parser) (credit : ℕ) : Type 0 where
   pub room : p.top + credit + 2 * length p.text.now ≤ length p.arena.now + 2 * p.at
-  pub based : Based p.arena.now
 
 -- the text and what was made before are the same
 pub record Later (p q : Parser) : Type 0 where
@@ -59,7 +53,6 @@ pub record Went (least credit : ℕ) (p q : Parser) : Type 0 where
   pub later : Later p q
   pub onward : p.at + least ≤ q.at
   pub paid : q.top + 2 * p.at ≤ p.top + 2 * q.at + credit
-  pub ready : Ready q 0
 
 -- nothing was kept
 pub record Missing {A : Type 0} (rule : Rule A) (p q : Parser) : Type 0 where
@@ -188,7 +181,6 @@ pub record Made (n : ℕ) (p q : Parser) (node : ℕ) : Type 0 where
   pub last : node + 1 ≡ q.top
   pub top : q.top ≡ p.top + n
   pub at_same : q.at ≡ p.at
-  pub ready : Ready q 0
 
 pub record Pushed (node : Node) (p q : Parser) (n : ℕ) : Type 0 where
   pub made : Made 1 p q n
@@ -207,14 +199,12 @@ pub record Chosen (guard thn els : ℕ) (p q : Parser) (n : ℕ) : Type 0 where
 
 -- a sequence with its end, for which the empty sequence needs no room
 pub record Closable (list : ℕ) (p : Parser) : Type 0 where
-  pub ready : Ready p 0
-  pub room : (list ≡ 0 → ⊥) → Ready p 1
+  pub room : (list ≡ 0 → ⊥) → Spare p 1
 
 pub record Closes (list : ℕ) (p q : Parser) (n : ℕ) : Type 0 where
   pub later : Later p q
   pub at_same : q.at ≡ p.at
   pub grows : q.top ≤ p.top + 1
   pub stays : list ≡ 0 → q.top ≡ p.top
-  pub ready : Ready q 0
   pub below : n < q.top
   pub holds : {f : Run} → Standing p list f → Holds q.arena.now n (λ r. f (no_more ∷ r))

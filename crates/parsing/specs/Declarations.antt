@@ -11,7 +11,7 @@ use Rattle.tree.specs.Words.{seq_words, name_words, tagger_words, function_words
 use Rattle.grammar.specs.Steps.{T, after}
 use Rattle.grammar.specs.Declarations.{TopLevelDecl, TType, TTagger, TFunction, TAxiom, TProc, after_type, after_tagger, after_function, after_axiom, after_procedure}
 use Rattle.parsing.specs.Arena.{Run, Holds}
-use Rattle.parsing.specs.Contract.{Rule, Ready, Later, Went, Missing, Standing, same}
+use Rattle.parsing.specs.Contract.{Rule, Later, Went, Missing, Standing, same}
 use Rattle.parsing.specs.Code.{opened, opening}
 use Rattle.parsing.specs.declared.parser.Parser.{Parser}
 use Rattle.parsing.specs.declared.program.DeclKind.{DeclKind}
@@ -104,6 +104,5 @@ pub record Joined (lists : List ℕ) (p q : Parser) (n : ℕ) : Type 0 where
   pub later : Later p q
   pub at_same : q.at ≡ p.at
   pub grows : q.top ≤ p.top + 9
-  pub ready : Ready q 0
   pub below : n < q.top
   pub holds : (f : DeclKind → Run) → ((s : DeclKind) → Standing p (last_of lists s) (f s)) → Holds q.arena.now n (joined_run f)

@@ -13,7 +13,7 @@ use Rattle.grammar.specs.Rules.{parse_nonempty_comma_delimited_seq, parse_listed
 use Rattle.grammar.specs.Statements.{names, arguments, parse_call_argument}
 use Rattle.grammar.specs.Declarations.{formals, parameters, parse_function_formal, parse_proc_formal}
 use Rattle.parsing.specs.Arena.{Run}
-use Rattle.parsing.specs.Contract.{Rule, Ready, Later, Missing, same}
+use Rattle.parsing.specs.Contract.{Rule, Later, Missing, same}
 use Rattle.parsing.specs.Code.{turns, inner, opened, tighter_of}
 use Rattle.parsing.specs.declared.parser.Parser.{Parser}
 use Rattle.parsing.specs.declared.expr.seq.Kind.{Kind}
@@ -34,7 +34,6 @@ pub record Seen {A : Type 0} (rule : Rule A) (p q : Parser) : Type 0 where
   pub later : Later p q
   pub at_same : q.at ≡ p.at
   pub top_same : q.top ≡ p.top
-  pub ready : Ready q 0
 
 abbrev pub Sees : {A : Type 0} → Rule A → Parser → Parser → Result Bool Refusal → Type 0
 Sees rule p q (Ok true) = Seen rule p q

@@ -11,7 +11,7 @@ use Rattle.grammar.specs.Rules.{Sequence, exprs, parse_nonempty_comma_delimited_
 use Rattle.grammar.specs.Statements.{names, statements, cases, aexprs, the_expr, parse_optional_exit_argument, parse_a_expr, parse_a_expr_seq, parse_or, parse_case, parse_stmt, parse_else, after_assign, after_label, after_call}
 use Rattle.grammar.specs.Declarations.{parse_when_clause}
 use Rattle.parsing.specs.Arena.{Run}
-use Rattle.parsing.specs.Contract.{Rule, Later, Ready, Read, same}
+use Rattle.parsing.specs.Contract.{Rule, Later, Read, same}
 use Rattle.parsing.specs.Code.{turns, inner, opened, opening}
 use Rattle.parsing.specs.declared.lead.Simple.{Simple}
 use Rattle.parsing.specs.declared.lead.Simple.TheVariants as simple
@@ -26,7 +26,6 @@ pub record Stayed (p q : Parser) : Type 0 where
   pub later : Later p q
   pub at_same : q.at ≡ p.at
   pub top_same : q.top ≡ p.top
-  pub ready : Ready q 0
 
 pub record Nothing {A : Type 0} (rule : Rule A) (p q : Parser) : Type 0 where
   pub says : rule p.text.now p.at ≡ Answer.none

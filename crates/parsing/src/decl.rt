@@ -10,13 +10,12 @@ impl<'a> Parser<'a> {
     ghost use Rattle.tree.specs.Words.{option_words, seq_words, name_words, tagger_words, function_definition_words, function_words, axiom_words, procedure_words, stmt_words};
     ghost use Rattle.grammar.specs.Declarations.{after_type, after_tagger, parse_tag, parse_function_definition, after_function, parse_explains, after_axiom, after_procedure};
     ghost use Rattle.parsing.specs.Code.{opening};
-    ghost use Rattle.parsing.specs.Contract.{Ready, Reads, same};
+    ghost use Rattle.parsing.specs.Contract.{Spare, Reads, same};
     ghost use Rattle.parsing.specs.Declarations.{body_rule};
 
     // After `type`.
     #[tactic(auto, using(crate::proofs::Laws::failing), unfolding(grammar::specs::Declarations::after_type))]
     pub(crate) fn type_decl(&mut self) -> Result<u32, Refusal>
-        requires { Ready self.old 0 }
         ensures { Reads (name_words same) after_type 1 0 self.old self.new result }
     {
         self.need_identifier()
@@ -25,7 +24,6 @@ impl<'a> Parser<'a> {
     // After `tagger`.
     #[tactic(auto, using(crate::proofs::Laws::failing), unfolding(grammar::specs::Declarations::after_tagger))]
     pub(crate) fn tagger_decl(&mut self) -> Result<u32, Refusal>
-        requires { Ready self.old 0 }
         ensures { Reads (tagger_words same) after_tagger 1 0 self.old self.new result }
     {
         let name = self.need_identifier()?;
@@ -37,7 +35,6 @@ impl<'a> Parser<'a> {
     // The tag of a function, or none.
     #[tactic(auto, using(crate::proofs::Laws::failing), unfolding(grammar::specs::Declarations::parse_tag))]
     fn tag(&mut self) -> Result<u32, Refusal>
-        requires { Ready self.old 0 }
         ensures { Reads (option_words (name_words same)) parse_tag 0 0 self.old self.new result }
     {
         if self.keyword(b"tag")? {
@@ -49,7 +46,7 @@ impl<'a> Parser<'a> {
     // `parseFunctionDefinition`, or none: where `when` stands a body must follow.
     #[tactic(auto, using(crate::proofs::Laws::failing, crate::proofs::DeclarationRules::having_expr), unfolding(grammar::specs::Declarations::parse_function_definition))]
     fn definition(&mut self, depth: usize) -> Result<u32, Refusal>
-        requires { Ready self.old 1 }
+        requires { Spare self.old 1 }
         ensures { Reads (option_words (function_definition_words same)) (opening parse_function_definition depth) 0 1 self.old self.new result }
     {
         let guarded = self.word_is(self.word_ahead(), b"when");
@@ -70,7 +67,7 @@ impl<'a> Parser<'a> {
     // After `function`.
     #[tactic(auto, using(crate::proofs::Laws::failing), unfolding(grammar::specs::Declarations::after_function))]
     pub(crate) fn function_decl(&mut self, depth: usize) -> Result<u32, Refusal>
-        requires { Ready self.old 2 }
+        requires { Spare self.old 2 }
         ensures { Reads (function_words same) (opening after_function depth) 1 2 self.old self.new result }
     {
         let name = self.need_identifier()?;
@@ -87,7 +84,6 @@ impl<'a> Parser<'a> {
     // The names that an axiom explains, or none.
     #[tactic(auto, using(crate::proofs::Laws::failing), unfolding(grammar::specs::Declarations::parse_explains))]
     fn explains(&mut self, depth: usize) -> Result<u32, Refusal>
-        requires { Ready self.old 0 }
         ensures { Reads (seq_words (name_words same)) (opening parse_explains depth) 0 0 self.old self.new result }
     {
         if self.keyword(b"explains")? {
@@ -99,7 +95,7 @@ impl<'a> Parser<'a> {
     // After `axiom`.
     #[tactic(auto, using(crate::proofs::Laws::failing, crate::proofs::DeclarationRules::having_expr), unfolding(grammar::specs::Declarations::after_axiom))]
     pub(crate) fn axiom_decl(&mut self, depth: usize) -> Result<u32, Refusal>
-        requires { Ready self.old 1 }
+        requires { Spare self.old 1 }
         ensures { Reads (axiom_words same) (opening after_axiom depth) 1 1 self.old self.new result }
     {
         let names = self.explains(depth)?;
@@ -110,7 +106,6 @@ impl<'a> Parser<'a> {
     // The body of a procedure, or none.
     #[tactic(auto, using(crate::proofs::Laws::failing))]
     fn body(&mut self, depth: usize) -> Result<u32, Refusal>
-        requires { Ready self.old 0 }
         ensures { Reads (option_words (stmt_words same)) (body_rule depth) 0 0 self.old self.new result }
     {
         match self.block(depth)? {
@@ -122,7 +117,7 @@ impl<'a> Parser<'a> {
     // After `procedure`.
     #[tactic(auto, using(crate::proofs::Laws::failing), unfolding(grammar::specs::Declarations::after_procedure))]
     pub(crate) fn proc_decl(&mut self, depth: usize) -> Result<u32, Refusal>
-        requires { Ready self.old 5 }
+        requires { Spare self.old 5 }
         ensures { Reads (procedure_words same) (opening after_procedure depth) 1 5 self.old self.new result }
     {
         let name = self.need_identifier()?;

@@ -1,6 +1,6 @@
 // The tree of a whole text, as a node of the arena.
 ghost use Rattle.std.specs.Prelude.{◌≡◌};
-ghost use Rattle.parsing.specs.Contract.{Ready, Reads, needed};
+ghost use Rattle.parsing.specs.Contract.{Spare, Reads, needed};
 ghost use Rattle.parsing.specs.Parse.{roomy, whole_rule, ending, Parses};
 
 use crate::arena::{EMPTY, END, Node};
@@ -33,7 +33,7 @@ fn has_room(len: usize, n: usize) -> bool
 impl<'a> Parser<'a> {
     // The rule of a whole text.
     fn whole(&mut self, whole: Whole) -> Result<u32, Refusal>
-        requires { Ready self.old 9 }
+        requires { Spare self.old 9 }
         ensures { Reads (λ f. f) (needed (whole_rule whole)) 0 9 self.old self.new result }
     {
         match whole {
@@ -45,7 +45,7 @@ impl<'a> Parser<'a> {
     // It, if it reads the text to its end.
     #[tactic(auto, using(crate::proofs::Laws::failing))]
     fn to_end(&mut self, whole: Whole) -> Result<u32, Refusal>
-        requires { Ready self.old 9 }
+        requires { Spare self.old 9 }
         ensures { Reads (λ f. f) (ending (whole_rule whole)) 0 9 self.old self.new result }
     {
         let root = self.whole(whole)?;

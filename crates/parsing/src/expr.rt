@@ -13,7 +13,7 @@ use tree::word::{ExprTag, FALSE, Operator};
 impl<'a> Parser<'a> {
     ghost use Rattle.grammar.specs.Reading.{tree_words};
     ghost use Rattle.grammar.specs.Rules.{parse_imp_exp_expr, parse_logical_expr, parse_juct_expr, parse_unary_expr};
-    ghost use Rattle.parsing.specs.Contract.{Ready, Reads, Reads_if, Standing, needed};
+    ghost use Rattle.parsing.specs.Contract.{Spare, Reads, Reads_if, Standing, needed};
     ghost use Rattle.parsing.specs.Code.{inner, turning, tighter_of, left_chain};
     ghost use Rattle.parsing.specs.Expressions.{Sees, left_rest};
     ghost use Rattle.parsing.specs.Signs.{class_of, level_rule};
@@ -23,7 +23,6 @@ impl<'a> Parser<'a> {
     #[cycle(expression)]
     #[tactic(auto, using(crate::proofs::Laws::failing))]
     pub(crate) fn expr(&mut self, depth: usize) -> Result<Option<u32>, Refusal>
-        requires { Ready self.old 0 }
         ensures { Reads_if tree_words (inner depth) 1 0 self.old self.new result }
     {
         if depth == 0 {
@@ -36,7 +35,6 @@ impl<'a> Parser<'a> {
     #[inline]
     #[tactic(auto, using(crate::proofs::Laws::failing), unfolding(grammar::specs::Steps::after))]
     pub(crate) fn need_expr(&mut self, depth: usize) -> Result<u32, Refusal>
-        requires { Ready self.old 0 }
         ensures { Reads tree_words (needed (inner depth)) 1 0 self.old self.new result }
     {
         let at = self.at;
@@ -47,7 +45,6 @@ impl<'a> Parser<'a> {
     #[cycle(expression)]
     #[tactic(auto, using(crate::proofs::Laws::failing))]
     fn chain(&mut self, level: Level, depth: usize) -> Result<Option<u32>, Refusal>
-        requires { Ready self.old 0 }
         ensures { Reads_if tree_words (left_chain (class_of level) depth) 1 0 self.old self.new result }
     {
         let Some(first) = self.tight(level, depth)? else {
@@ -60,7 +57,6 @@ impl<'a> Parser<'a> {
     #[cycle(expression)]
     #[tactic(auto, using(crate::proofs::Laws::failing), unfolding(grammar::specs::Rules::parse_imp_exp_expr, grammar::specs::Rules::imp_exp_tail))]
     fn imp(&mut self, depth: usize) -> Result<Option<u32>, Refusal>
-        requires { Ready self.old 0 }
         ensures { Reads_if tree_words (turning parse_imp_exp_expr depth) 1 0 self.old self.new result }
     {
         let Some(first) = self.logic(depth)? else {
@@ -82,7 +78,6 @@ impl<'a> Parser<'a> {
     #[cycle(expression)]
     #[tactic(auto, using(crate::proofs::Laws::failing), unfolding(grammar::specs::Rules::parse_logical_expr, grammar::specs::Rules::logical_tail))]
     fn logic(&mut self, depth: usize) -> Result<Option<u32>, Refusal>
-        requires { Ready self.old 0 }
         ensures { Reads_if tree_words (turning parse_logical_expr depth) 1 0 self.old self.new result }
     {
         let Some(first) = self.juct(depth)? else {
@@ -98,7 +93,6 @@ impl<'a> Parser<'a> {
     #[cycle(expression)]
     #[tactic(auto, using(crate::proofs::Laws::failing), unfolding(grammar::specs::Rules::parse_juct_expr, grammar::specs::Rules::parse_term_expr, grammar::specs::Rules::once_tail))]
     fn juct(&mut self, depth: usize) -> Result<Option<u32>, Refusal>
-        requires { Ready self.old 0 }
         ensures { Reads_if tree_words (turning parse_juct_expr depth) 1 0 self.old self.new result }
     {
         let Some(first) = self.chain(Level::Sum, depth)? else {
@@ -116,7 +110,6 @@ impl<'a> Parser<'a> {
     #[cycle(expression)]
     #[tactic(auto, using(crate::proofs::Laws::failing))]
     fn tight(&mut self, level: Level, depth: usize) -> Result<Option<u32>, Refusal>
-        requires { Ready self.old 0 }
         ensures { Reads_if tree_words (tighter_of (class_of level) depth) 1 0 self.old self.new result }
     {
         match level {
@@ -135,7 +128,6 @@ impl<'a> Parser<'a> {
     #[inline]
     #[tactic(auto, using(crate::proofs::Laws::failing), unfolding(grammar::specs::Steps::after))]
     fn need_tight(&mut self, level: Level, depth: usize) -> Result<u32, Refusal>
-        requires { Ready self.old 0 }
         ensures { Reads tree_words (needed (tighter_of (class_of level) depth)) 1 0 self.old self.new result }
     {
         let at = self.at;
@@ -146,7 +138,6 @@ impl<'a> Parser<'a> {
     #[cycle(expression)]
     #[tactic(auto, using(crate::proofs::Laws::failing))]
     fn left(&mut self, first: u32, level: Level, depth: usize) -> Result<u32, Refusal>
-        requires { Ready self.old 0 }
         ensures { (tree : Expr Span) → Standing self.old first (tree_words tree) → Reads tree_words (left_rest (class_of level) depth tree) 0 0 self.old self.new result }
     {
         let mut e = first;
@@ -160,7 +151,6 @@ impl<'a> Parser<'a> {
     // Whether an operator of the level stands here.
     #[tactic(auto, using(crate::proofs::Laws::failing))]
     fn sees(&mut self, level: Level) -> Result<bool, Refusal>
-        requires { Ready self.old 0 }
         ensures { Sees (level_rule level) self.old self.new result }
     {
         let at = self.at;
@@ -173,7 +163,6 @@ impl<'a> Parser<'a> {
     #[cycle(expression)]
     #[tactic(auto, using(crate::proofs::Laws::failing), unfolding(grammar::specs::Rules::parse_unary_expr))]
     fn unary(&mut self, depth: usize) -> Result<Option<u32>, Refusal>
-        requires { Ready self.old 0 }
         ensures { Reads_if tree_words (turning parse_unary_expr depth) 1 0 self.old self.new result }
     {
         let mut link = EMPTY;
@@ -194,7 +183,7 @@ impl<'a> Parser<'a> {
     ghost use Rattle.std.specs.Prelude.{◌≤◌};
     ghost use Rattle.grammar.specs.Reading.{tree_words};
     ghost use Rattle.grammar.specs.Rules.{parse_primary_expr, after_if, after_val};
-    ghost use Rattle.parsing.specs.Contract.{Ready, Reads, Reads_if, Spelt, span};
+    ghost use Rattle.parsing.specs.Contract.{Spare, Reads, Reads_if, Spelt, span};
     ghost use Rattle.parsing.specs.Code.{inner, over, turning, paren_expr};
     ghost use Rattle.parsing.specs.Expressions.{name_rule};
 
@@ -202,7 +191,6 @@ impl<'a> Parser<'a> {
     #[cycle(expression)]
     #[tactic(auto, using(crate::proofs::Laws::failing))]
     fn primary(&mut self, depth: usize) -> Result<Option<u32>, Refusal>
-        requires { Ready self.old 0 }
         ensures { Reads_if tree_words (turning parse_primary_expr depth) 1 0 self.old self.new result }
     {
         let len = self.word_ahead();
@@ -219,7 +207,6 @@ impl<'a> Parser<'a> {
     #[cycle(expression)]
     #[tactic(auto, using(crate::proofs::Laws::failing), unfolding(grammar::specs::Rules::after_paren))]
     fn paren(&mut self, depth: usize) -> Result<Option<u32>, Refusal>
-        requires { Ready self.old 0 }
         ensures { Reads_if tree_words (paren_expr (inner depth)) 1 0 self.old self.new result }
     {
         if self.sym(b"(")? {
@@ -234,7 +221,6 @@ impl<'a> Parser<'a> {
     #[cycle(expression)]
     #[tactic(auto, using(crate::proofs::Laws::failing))]
     fn worded(&mut self, len: usize, depth: usize) -> Result<u32, Refusal>
-        requires ready { Ready self.old 0 }
         requires spelt { Spelt self.old len }
         requires filled { 1 ≤ len }
         ensures { Reads tree_words (turning parse_primary_expr depth) 1 0 self.old self.new result }
@@ -265,7 +251,7 @@ impl<'a> Parser<'a> {
     #[cycle(expression)]
     #[tactic(auto, using(crate::proofs::Laws::failing), unfolding(grammar::specs::Rules::after_name, grammar::specs::Rules::after_call, grammar::specs::Rules::after_label, grammar::specs::Rules::after_colon))]
     fn named(&mut self, n: Name, depth: usize) -> Result<u32, Refusal>
-        requires { Ready self.old 2 }
+        requires { Spare self.old 2 }
         ensures { Reads tree_words (name_rule (span n) depth) 0 2 self.old self.new result }
     {
         if self.sym(b"(")? {
@@ -285,7 +271,6 @@ impl<'a> Parser<'a> {
     #[cycle(expression)]
     #[tactic(auto, using(crate::proofs::Laws::failing), unfolding(grammar::specs::Rules::after_if))]
     fn cond(&mut self, depth: usize) -> Result<u32, Refusal>
-        requires { Ready self.old 0 }
         ensures { Reads tree_words (over after_if depth) 1 0 self.old self.new result }
     {
         let guard = self.need_expr(depth)?;
@@ -299,7 +284,6 @@ impl<'a> Parser<'a> {
     #[cycle(expression)]
     #[tactic(auto, using(crate::proofs::Laws::failing), unfolding(grammar::specs::Rules::after_val))]
     fn val(&mut self, depth: usize) -> Result<u32, Refusal>
-        requires { Ready self.old 0 }
         ensures { Reads tree_words (over after_val depth) 1 0 self.old self.new result }
     {
         let name = self.need_name()?;

@@ -7,7 +7,7 @@ ghost use Rattle.grammar.specs.Reading.{tree_words};
 ghost use Rattle.grammar.specs.Rules.{opens_expr, opens_at, parse_id_type, parse_optional_type, some_type, after_bar, after_old};
 ghost use Rattle.grammar.specs.Steps.{parse_name};
 ghost use Rattle.parsing.specs.Code.{inner, custom_expr, literal_expr, constant_expr, reference, reference_argument, marked_words, moded_words};
-ghost use Rattle.parsing.specs.Contract.{Ready, Reads, Reads_if, Spelt, needed, same};
+ghost use Rattle.parsing.specs.Contract.{Reads, Reads_if, Spelt, needed, same};
 
 use crate::arena::{END, Node};
 use crate::parser::{Parser, unusable};
@@ -18,7 +18,6 @@ use tree::word::{ExprTag, FALSE, MORE, Mode, TRUE};
 impl<'a> Parser<'a> {
     // A name.
     pub(crate) fn identifier(&mut self) -> Result<Option<u32>, Refusal>
-        requires { Ready self.old 0 }
         ensures { Reads_if (name_words same) parse_name 1 0 self.old self.new result }
     {
         match self.name()? {
@@ -30,7 +29,6 @@ impl<'a> Parser<'a> {
     #[inline]
     #[tactic(auto, using(crate::proofs::Laws::failing))]
     pub(crate) fn need_identifier(&mut self) -> Result<u32, Refusal>
-        requires { Ready self.old 0 }
         ensures { Reads (name_words same) (needed parse_name) 1 0 self.old self.new result }
     {
         let name = self.need_name()?;
@@ -40,7 +38,6 @@ impl<'a> Parser<'a> {
     // `parseIdType`.
     #[tactic(auto, using(crate::proofs::Laws::failing), unfolding(grammar::specs::Rules::parse_id_type))]
     pub(crate) fn id_type(&mut self) -> Result<Option<u32>, Refusal>
-        requires { Ready self.old 0 }
         ensures { Reads_if (binding_words same) parse_id_type 1 0 self.old self.new result }
     {
         let Some(name) = self.identifier()? else {
@@ -54,7 +51,6 @@ impl<'a> Parser<'a> {
     #[inline]
     #[tactic(auto, using(crate::proofs::Laws::failing), unfolding(grammar::specs::Steps::after))]
     pub(crate) fn need_id_type(&mut self) -> Result<u32, Refusal>
-        requires { Ready self.old 0 }
         ensures { Reads (binding_words same) (needed parse_id_type) 1 0 self.old self.new result }
     {
         let place = self.at;
@@ -64,7 +60,6 @@ impl<'a> Parser<'a> {
     // `parseIdType`, with a word between the name and the type.
     #[tactic(auto, using(crate::proofs::Laws::failing), unfolding(grammar::specs::Rules::parse_id_type))]
     fn marked_type(&mut self, word: u32) -> Result<Option<u32>, Refusal>
-        requires { Ready self.old 0 }
         ensures { Reads_if (marked_words word) parse_id_type 1 0 self.old self.new result }
     {
         let Some(name) = self.name()? else {
@@ -79,7 +74,6 @@ impl<'a> Parser<'a> {
     #[inline]
     #[tactic(auto, using(crate::proofs::Laws::failing), unfolding(grammar::specs::Steps::after))]
     fn need_marked_type(&mut self, word: u32) -> Result<u32, Refusal>
-        requires { Ready self.old 0 }
         ensures { Reads (marked_words word) (needed parse_id_type) 1 0 self.old self.new result }
     {
         let place = self.at;
@@ -89,7 +83,6 @@ impl<'a> Parser<'a> {
     // The type of `parseIdOptionalType`.
     #[tactic(auto, using(crate::proofs::Laws::failing), unfolding(grammar::specs::Rules::parse_optional_type))]
     pub(crate) fn optional_type(&mut self) -> Result<u32, Refusal>
-        requires { Ready self.old 0 }
         ensures { Reads (option_words (name_words same)) parse_optional_type 0 0 self.old self.new result }
     {
         if self.sym_not_prefix(b":", b":=")? {
@@ -101,7 +94,6 @@ impl<'a> Parser<'a> {
     // A type that must follow.
     #[tactic(auto, using(crate::proofs::Laws::failing))]
     pub(crate) fn typed(&mut self) -> Result<u32, Refusal>
-        requires { Ready self.old 0 }
         ensures { Reads (option_words (name_words same)) some_type 1 0 self.old self.new result }
     {
         let name = self.need_name()?;
@@ -111,7 +103,6 @@ impl<'a> Parser<'a> {
     // `parseFunctionFormal`.
     #[tactic(auto, using(crate::proofs::Laws::failing), unfolding(grammar::specs::Declarations::parse_function_formal))]
     pub(crate) fn formal(&mut self) -> Result<Option<u32>, Refusal>
-        requires { Ready self.old 0 }
         ensures { Reads_if (f_parameter_words same) parse_function_formal 1 0 self.old self.new result }
     {
         if self.keyword(b"injective")? {
@@ -123,7 +114,6 @@ impl<'a> Parser<'a> {
     // `parseParameterMode`, and the name and the type of a parameter.
     #[tactic(auto, using(crate::proofs::Laws::failing), unfolding(grammar::specs::Declarations::parse_moded))]
     pub(crate) fn moded(&mut self) -> Result<Option<u32>, Refusal>
-        requires { Ready self.old 0 }
         ensures { Reads_if moded_words parse_moded 1 0 self.old self.new result }
     {
         if self.keyword(b"inout")? {
@@ -138,7 +128,6 @@ impl<'a> Parser<'a> {
     // `out` or `inout` and a name.
     #[tactic(auto, using(crate::proofs::Laws::failing))]
     pub(crate) fn by_name(&mut self) -> Result<Option<u32>, Refusal>
-        requires { Ready self.old 0 }
         ensures { Reads_if (call_argument_words same) reference_argument 1 0 self.old self.new result }
     {
         if self.keyword(b"out")? {
@@ -153,7 +142,6 @@ impl<'a> Parser<'a> {
     // The name that must follow `out` or `inout`.
     #[tactic(auto, using(crate::proofs::Laws::failing))]
     fn reference(&mut self, mode: Mode) -> Result<u32, Refusal>
-        requires { Ready self.old 0 }
         ensures { Reads (call_argument_words same) (reference (as_mode mode)) 1 0 self.old self.new result }
     {
         let name = self.need_name()?;
@@ -167,7 +155,6 @@ impl<'a> Parser<'a> {
     // A natural or a custom literal.
     #[tactic(auto, using(crate::proofs::Laws::failing))]
     pub(crate) fn literal(&mut self) -> Result<Option<u32>, Refusal>
-        requires { Ready self.old 0 }
         ensures { Reads_if tree_words literal_expr 1 0 self.old self.new result }
     {
         if let Some(value) = self.natural()? {
@@ -181,7 +168,6 @@ impl<'a> Parser<'a> {
     // A custom literal.
     #[tactic(auto, using(crate::proofs::Laws::failing))]
     fn custom(&mut self) -> Result<Option<u32>, Refusal>
-        requires { Ready self.old 0 }
         ensures { Reads_if tree_words custom_expr 1 0 self.old self.new result }
     {
         if self.sym(b"|")? {
@@ -193,7 +179,6 @@ impl<'a> Parser<'a> {
     // After `|`.
     #[tactic(auto, using(crate::proofs::Laws::failing), unfolding(grammar::specs::Rules::after_bar))]
     fn after_bar(&mut self) -> Result<u32, Refusal>
-        requires { Ready self.old 0 }
         ensures { Reads tree_words after_bar 1 0 self.old self.new result }
     {
         let text = self.need_literal_text()?;
@@ -207,8 +192,7 @@ impl<'a> Parser<'a> {
     // What begins with a word of `len` bytes and opens no expression: `false`, `true` or `old`.
     #[tactic(auto, using(crate::proofs::Laws::failing))]
     pub(crate) fn constant(&mut self, len: usize) -> Result<Option<u32>, Refusal>
-        requires ready { Ready self.old 0 }
-        requires spelt { Spelt self.old len }
+        requires { Spelt self.old len }
         ensures { Reads_if tree_words constant_expr 1 0 self.old self.new result }
     {
         if self.keyword_of(len, b"false")? {
@@ -226,7 +210,6 @@ impl<'a> Parser<'a> {
     // After `old`.
     #[tactic(auto, using(crate::proofs::Laws::failing), unfolding(grammar::specs::Rules::after_old))]
     fn old(&mut self) -> Result<u32, Refusal>
-        requires { Ready self.old 0 }
         ensures { Reads tree_words after_old 1 0 self.old self.new result }
     {
         let name = self.need_name()?;
@@ -235,7 +218,6 @@ impl<'a> Parser<'a> {
 
     // `parseExpr` where no level is left: refusal 3 if an expression's first token stands here.
     pub(crate) fn too_deep_expr(&self) -> Result<Option<u32>, Refusal>
-        requires { Ready self.now 0 }
         ensures { Reads_if tree_words (inner 0) 1 0 self.now self.now result }
     {
         if self.opens_expr() {
@@ -249,7 +231,6 @@ impl<'a> Parser<'a> {
 
     // Whether an expression's first token stands here.
     fn opens_expr(&self) -> bool
-        requires { Ready self.now 0 }
         ensures { result ≡ opens_expr (drop self.now.at self.now.text.now) }
     {
         self.word_ahead() > 0 || opens_at(self.peek(0), self.peek(1))

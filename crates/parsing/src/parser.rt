@@ -1,13 +1,13 @@
 // A text that is read, and the arena that its tree is built in: tokens and nodes.
-ghost use Rattle.std.specs.Prelude.{◌≡◌, ◌+◌, ◌≤◌, ◌<◌, ◌^◌, length, take, drop, get_or};
+ghost use Rattle.std.specs.Prelude.{◌≡◌, ◌+◌, ◌*◌, ◌≤◌, ◌<◌, ◌^◌, length, take, drop, get_or};
 ghost use Rattle.lexing.specs.Bytes.{same_bytes};
+ghost use Rattle.lexing.specs.declared.refusal.Reason.TheVariants.{UnusableToken};
+ghost use Rattle.tree.specs.Limits.{most_text};
+ghost use Rattle.tree.specs.Tags.{no_more};
 ghost use Rattle.grammar.specs.Steps.{parse_name, parse_literal_text, parse_nat};
 ghost use Rattle.grammar.specs.Statements.{mark as mark_rule};
-ghost use Rattle.parsing.specs.Contract.{Ready, Pushed, Four, Chosen, Closable, Closes, needed, word, sign, sign_but, Lies, Passed, Stands, Takes, Takes_if, Names, Names_if, Spelt, Passes_word};
-ghost use Rattle.parsing.specs.Code.{Combined, Foldable, Folded};
-ghost use Rattle.parsing.specs.Signs.{Operates};
-ghost use Rattle.lexing.specs.declared.refusal.Reason.TheVariants.{UnusableToken};
-ghost use Rattle.parsing.specs.declared.arena.Node.TheVariants.{Pair};
+ghost use Rattle.parsing.specs.Arena.{most_arena, outside};
+ghost use Rattle.parsing.specs.declared.arena.Node.TheVariants.{Empty, One, Pair};
 
 use crate::arena::{END, Node};
 use crate::sign::Sign;
@@ -15,13 +15,21 @@ use lexing::Lexed;
 use lexing::refusal::{Reason, Refusal};
 use tree::word::{ExprTag, Operator};
 
-// The text and the place that was come to, the arena and the number of its nodes.
+// The text and the place that was come to, the arena and the number of its nodes. There is room for two nodes for each byte that is left, and the
+// first two nodes stand.
 #[derive(Drop)]
 pub(crate) struct Parser<'a> {
     pub(crate) text: &'a [u8],
     pub(crate) arena: &'a mut [Node],
     pub(crate) at: usize,
     pub(crate) top: usize,
+    ghost short: { length text.now ≤ most_text },
+    ghost small: { length arena.now ≤ most_arena },
+    ghost inside: { at ≤ length text.now },
+    ghost above: { 2 ≤ top },
+    ghost room: { top + 2 * length text.now ≤ length arena.now + 2 * at },
+    ghost empty_run: { get_or arena.now 0 outside ≡ Empty },
+    ghost end_run: { get_or arena.now 1 outside ≡ One no_more },
 }
 
 // Where a name stands in the text, and its length.
@@ -33,9 +41,12 @@ pub(crate) struct Name {
 
 // Nodes.
 impl<'a> Parser<'a> {
+    ghost use Rattle.parsing.specs.Contract.{Spare, Pushed, Four, Chosen, Closable, Closes};
+    ghost use Rattle.parsing.specs.Code.{Combined, Foldable, Folded};
+
     #[inline(always)]
     pub(crate) fn push(&mut self, node: Node) -> u32
-        requires { Ready self.old 1 }
+        requires { Spare self.old 1 }
         ensures { Pushed node self.old self.new result }
     {
         let n = self.top;
@@ -46,7 +57,7 @@ impl<'a> Parser<'a> {
 
     // Two runs, one after the other.
     pub(crate) fn pair(&mut self, a: u32, b: u32) -> u32
-        requires { Ready self.old 1 }
+        requires { Spare self.old 1 }
         ensures { Pushed (Pair a b) self.old self.new result }
     {
         self.push(Node::Pair(a, b))
@@ -54,7 +65,7 @@ impl<'a> Parser<'a> {
 
     // Four.
     pub(crate) fn four(&mut self, a: u32, b: u32, c: u32, d: u32) -> u32
-        requires { Ready self.old 3 }
+        requires { Spare self.old 3 }
         ensures { Four a b c d self.old self.new result }
     {
         let first = self.pair(a, b);
@@ -64,7 +75,7 @@ impl<'a> Parser<'a> {
 
     // IfThenElse over three operands.
     pub(crate) fn choice(&mut self, guard: u32, thn: u32, els: u32) -> u32
-        requires { Ready self.old 5 }
+        requires { Spare self.old 5 }
         ensures { Chosen guard thn els self.old self.new result }
     {
         let head = self.push(Node::Two(ExprTag::OperatorExpr as u32, Operator::IfThenElse as u32));
@@ -87,7 +98,7 @@ impl<'a> Parser<'a> {
 
     // An operator over two operands, which may swap.
     pub(crate) fn combine(&mut self, sign: Sign, a: u32, b: u32) -> u32
-        requires { Ready self.old 1 }
+        requires { Spare self.old 1 }
         ensures { Combined sign a b self.old self.new result }
     {
         match sign {
@@ -122,10 +133,12 @@ impl<'a> Parser<'a> {
 
 // Tokens, with the blanks after them.
 impl<'a> Parser<'a> {
+    ghost use Rattle.parsing.specs.Contract.{word, sign, sign_but, Lies, Passed, Stands, Takes_if, Names_if, Spelt, Passes_word};
+    ghost use Rattle.parsing.specs.Signs.{Operates};
+
     // Passes a token that was read here.
     fn pass(&mut self, lexed: Lexed) -> Result<Option<u64>, Refusal>
-        requires ready { Ready self.old 0 }
-        requires inside { Lies self.old lexed }
+        requires { Lies self.old lexed }
         ensures { Passed lexed self.old self.new result }
     {
         match lexed {
@@ -143,8 +156,7 @@ impl<'a> Parser<'a> {
 
     // Passes a token whose value does not matter; whether it stands here.
     fn stands(&mut self, lexed: Lexed) -> Result<bool, Refusal>
-        requires ready { Ready self.old 0 }
-        requires inside { Lies self.old lexed }
+        requires { Lies self.old lexed }
         ensures { Stands lexed self.old self.new result }
     {
         Ok(self.pass(lexed)?.is_some())
@@ -181,7 +193,6 @@ impl<'a> Parser<'a> {
 
     // Passes the word or name of `len` bytes that stands here.
     pub(crate) fn pass_word(&mut self, len: usize) -> Result<Name, Refusal>
-        requires ready { Ready self.old 0 }
         requires spelt { Spelt self.old len }
         requires filled { 1 ≤ len }
         ensures { Passes_word len self.old self.new result }
@@ -197,8 +208,7 @@ impl<'a> Parser<'a> {
 
     // `T(bytes)`, where the word that stands here has `len` bytes.
     pub(crate) fn keyword_of(&mut self, len: usize, bytes: &[u8]) -> Result<bool, Refusal>
-        requires ready { Ready self.old 0 }
-        requires spelt { Spelt self.old len }
+        requires { Spelt self.old len }
         ensures { Takes_if (word bytes.now) (length bytes.now) self.old self.new result }
     {
         if !self.word_is(len, bytes) {
@@ -210,7 +220,6 @@ impl<'a> Parser<'a> {
 
     // `T(bytes)`.
     pub(crate) fn keyword(&mut self, bytes: &[u8]) -> Result<bool, Refusal>
-        requires { Ready self.old 0 }
         ensures { Takes_if (word bytes.now) (length bytes.now) self.old self.new result }
     {
         let len = self.word_ahead();
@@ -219,7 +228,6 @@ impl<'a> Parser<'a> {
 
     // `Sym(bytes)`.
     pub(crate) fn sym(&mut self, bytes: &[u8]) -> Result<bool, Refusal>
-        requires { Ready self.old 0 }
         ensures { Takes_if (sign bytes.now) (length bytes.now) self.old self.new result }
     {
         let lexed = lexing::sym(&self.text[self.at..], bytes);
@@ -228,7 +236,6 @@ impl<'a> Parser<'a> {
 
     // `SymNotPrefix(bytes, [longer])`.
     pub(crate) fn sym_not_prefix(&mut self, bytes: &[u8], longer: &[u8]) -> Result<bool, Refusal>
-        requires { Ready self.old 0 }
         ensures { Takes_if (sign_but bytes.now longer.now) (length bytes.now) self.old self.new result }
     {
         let lexed = lexing::sym_not_prefix(&self.text[self.at..], bytes, longer);
@@ -238,7 +245,6 @@ impl<'a> Parser<'a> {
     // `:=`, `:` or `(`.
     #[tactic(auto, using(crate::proofs::Laws::failing), unfolding(grammar::specs::Statements::mark))]
     pub(crate) fn mark(&mut self) -> Result<bool, Refusal>
-        requires { Ready self.old 0 }
         ensures { Takes_if mark_rule 1 self.old self.new result }
     {
         if self.sym(b":=")? {
@@ -251,7 +257,6 @@ impl<'a> Parser<'a> {
     }
 
     pub(crate) fn name(&mut self) -> Result<Option<Name>, Refusal>
-        requires { Ready self.old 0 }
         ensures { Names_if parse_name self.old self.new result }
     {
         let len = self.word_ahead();
@@ -263,7 +268,6 @@ impl<'a> Parser<'a> {
 
     // The text of a custom literal.
     pub(crate) fn literal_text(&mut self) -> Result<Option<Name>, Refusal>
-        requires { Ready self.old 0 }
         ensures { Names_if parse_literal_text self.old self.new result }
     {
         let start = self.at as u32;
@@ -279,7 +283,6 @@ impl<'a> Parser<'a> {
 
     // A natural.
     pub(crate) fn natural(&mut self) -> Result<Option<u64>, Refusal>
-        requires { Ready self.old 0 }
         ensures { Operates (λ v. v) parse_nat self.old self.new result }
     {
         let lexed = lexing::natural(&self.text[self.at..]);
@@ -289,10 +292,11 @@ impl<'a> Parser<'a> {
 
 // Tokens that must follow: refusal 2 where they don't.
 impl<'a> Parser<'a> {
+    ghost use Rattle.parsing.specs.Contract.{Takes, Names, needed, word, sign};
+
     #[inline]
     #[tactic(auto, using(crate::proofs::Laws::failing), unfolding(grammar::specs::Steps::after))]
     pub(crate) fn need_keyword(&mut self, bytes: &[u8]) -> Result<(), Refusal>
-        requires { Ready self.old 0 }
         ensures { Takes (needed (word bytes.now)) (length bytes.now) self.old self.new result }
     {
         let place = self.at;
@@ -305,7 +309,6 @@ impl<'a> Parser<'a> {
     #[inline(always)]
     #[tactic(auto, using(crate::proofs::Laws::failing), unfolding(grammar::specs::Steps::after))]
     pub(crate) fn need_sym(&mut self, bytes: &[u8]) -> Result<(), Refusal>
-        requires { Ready self.old 0 }
         ensures { Takes (needed (sign bytes.now)) (length bytes.now) self.old self.new result }
     {
         let place = self.at;
@@ -318,7 +321,6 @@ impl<'a> Parser<'a> {
     #[inline]
     #[tactic(auto, using(crate::proofs::Laws::failing), unfolding(grammar::specs::Steps::after))]
     pub(crate) fn need_name(&mut self) -> Result<Name, Refusal>
-        requires { Ready self.old 0 }
         ensures { Names (needed parse_name) self.old self.new result }
     {
         let place = self.at;
@@ -328,7 +330,6 @@ impl<'a> Parser<'a> {
     #[inline]
     #[tactic(auto, using(crate::proofs::Laws::failing), unfolding(grammar::specs::Steps::after))]
     pub(crate) fn need_literal_text(&mut self) -> Result<Name, Refusal>
-        requires { Ready self.old 0 }
         ensures { Names (needed parse_literal_text) self.old self.new result }
     {
         let place = self.at;

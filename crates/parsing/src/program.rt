@@ -26,12 +26,11 @@ impl<'a> Parser<'a> {
     ghost use Rattle.tree.specs.Words.{program_words};
     ghost use Rattle.grammar.specs.Declarations.{TopLevel};
     ghost use Rattle.parsing.specs.Code.{opening};
-    ghost use Rattle.parsing.specs.Contract.{Ready, Reads, same};
+    ghost use Rattle.parsing.specs.Contract.{Spare, Reads, same};
     ghost use Rattle.parsing.specs.Declarations.{Begins, Joined, kind_rule, decl_words, decl_rule};
 
     // The kind of the declaration that begins here, after its word.
     fn begin(&mut self) -> Result<Option<DeclKind>, Refusal>
-        requires { Ready self.old 0 }
         ensures { Begins kind_rule self.old self.new result }
     {
         let len = self.word_ahead();
@@ -45,7 +44,7 @@ impl<'a> Parser<'a> {
 
     // A declaration of a kind, after its word.
     fn decl(&mut self, kind: DeclKind, depth: usize) -> Result<u32, Refusal>
-        requires { Ready self.old 5 }
+        requires { Spare self.old 5 }
         ensures { Reads (decl_words kind) (decl_rule kind depth) 1 5 self.old self.new result }
     {
         match kind {
@@ -59,7 +58,7 @@ impl<'a> Parser<'a> {
 
     // The five sequences, by the last node of each, with their ends and one after another.
     fn joined(&mut self, lists: [u32; 5]) -> u32
-        requires { Ready self.old 9 }
+        requires { Spare self.old 9 }
         ensures { Joined lists self.old self.new result }
     {
         let [types, taggers, functions, axioms, procedures] = lists;
@@ -74,7 +73,7 @@ impl<'a> Parser<'a> {
 
     // `TopLevel` after the blanks at the text's start.
     pub(crate) fn program(&mut self, depth: usize) -> Result<u32, Refusal>
-        requires { Ready self.old 9 }
+        requires { Spare self.old 9 }
         ensures { Reads (program_words same) (opening TopLevel depth) 0 9 self.old self.new result }
     {
         // The last node of each sequence.

@@ -2,7 +2,7 @@
 ghost use Rattle.std.specs.Prelude.{◌≡◌};
 ghost use Rattle.tree.specs.Codes.{as_operator};
 ghost use Rattle.grammar.specs.Rules.{unary_operator};
-ghost use Rattle.parsing.specs.Contract.{Ready, Takes_if};
+ghost use Rattle.parsing.specs.Contract.{Takes_if};
 ghost use Rattle.parsing.specs.Signs.{build_of, Operates, level_rule, begins_operator, spelt, size, table_rule, Filled};
 
 use crate::parser::Parser;
@@ -101,7 +101,6 @@ impl<'a> Parser<'a> {
     // Whether a spelling stands here, which is passed.
     #[inline(always)]
     fn spelt(&mut self, spelling: Spelling) -> Result<bool, Refusal>
-        requires { Ready self.old 0 }
         ensures { Takes_if (spelt spelling.entry) (size spelling.entry) self.old self.new result }
     {
         match spelling {
@@ -115,8 +114,7 @@ impl<'a> Parser<'a> {
     #[inline(always)]
     #[tactic(auto, using(crate::proofs::Laws::failing))]
     fn first_of<T: Copy>(&mut self, table: &[(Spelling, T)]) -> Result<Option<T>, Refusal>
-        requires ready { Ready self.old 0 }
-        requires filled { Filled table.now }
+        requires { Filled table.now }
         ensures { Operates (λ v. v) (table_rule table.now) self.old self.new result }
     {
         for &(spelling, value) in table {
@@ -129,7 +127,6 @@ impl<'a> Parser<'a> {
 
     // The operator of a level. After an operand that is the last, one look at the next byte tells that there is none.
     pub(crate) fn operator(&mut self, level: Level) -> Result<Option<Sign>, Refusal>
-        requires { Ready self.old 0 }
         ensures { Operates build_of (level_rule level) self.old self.new result }
     {
         if !begins_operator(self.peek(0)) {
@@ -149,7 +146,6 @@ impl<'a> Parser<'a> {
 
     // The operator before an operand.
     pub(crate) fn unary_operator(&mut self) -> Result<Option<Operator>, Refusal>
-        requires { Ready self.old 0 }
         ensures { Operates as_operator unary_operator self.old self.new result }
     {
         self.first_of(&UNARIES)

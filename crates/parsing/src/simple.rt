@@ -6,7 +6,7 @@ ghost use Rattle.tree.specs.Words.{option_words, stmt_words};
 ghost use Rattle.grammar.specs.Reading.{tree_words};
 ghost use Rattle.grammar.specs.Statements.{parse_init, after_assign, after_call};
 ghost use Rattle.grammar.specs.Declarations.{parse_when_clause};
-ghost use Rattle.parsing.specs.Contract.{Ready, Reads, same, needed, span};
+ghost use Rattle.parsing.specs.Contract.{Spare, Reads, same, needed, span};
 ghost use Rattle.parsing.specs.Code.{inner, turns, opened, opening};
 ghost use Rattle.parsing.specs.Statements.{Spares_if, Stops, headed, stmt_rule, simple_rule, reinit_stmt, exit_stmt};
 
@@ -20,7 +20,7 @@ use tree::word::{MORE, NO_MORE, StmtTag};
 impl<'a> Parser<'a> {
     // The word `tag` and an expression, which must follow.
     pub(crate) fn stated(&mut self, tag: u32, depth: usize) -> Result<u32, Refusal>
-        requires { Ready self.old 1 }
+        requires { Spare self.old 1 }
         ensures { Reads (headed tag tree_words) (needed (inner depth)) 1 1 self.old self.new result }
     {
         let e = self.need_expr(depth)?;
@@ -29,7 +29,6 @@ impl<'a> Parser<'a> {
 
     // `parseInit`.
     pub(crate) fn init(&mut self, depth: usize) -> Result<u32, Refusal>
-        requires { Ready self.old 0 }
         ensures { Reads (option_words tree_words) (opening parse_init depth) 0 0 self.old self.new result }
     {
         if self.sym(b":=")? {
@@ -40,7 +39,6 @@ impl<'a> Parser<'a> {
 
     // `parseWhenClause`.
     pub(crate) fn when(&mut self, depth: usize) -> Result<Option<u32>, Refusal>
-        requires { Ready self.old 0 }
         ensures { Spares_if tree_words (opening parse_when_clause depth) self.old self.new result }
     {
         if !self.keyword(b"when")? {
@@ -51,7 +49,7 @@ impl<'a> Parser<'a> {
 
     // After the word that begins a statement that holds no statement.
     pub(crate) fn simple(&mut self, kind: Simple, depth: usize) -> Result<u32, Refusal>
-        requires { Ready self.old 4 }
+        requires { Spare self.old 4 }
         ensures { Reads (stmt_words same) (simple_rule depth kind) 0 4 self.old self.new result }
     {
         match kind {
@@ -68,7 +66,7 @@ impl<'a> Parser<'a> {
 
     // After `reinit`.
     fn reinit(&mut self, depth: usize) -> Result<u32, Refusal>
-        requires { Ready self.old 4 }
+        requires { Spare self.old 4 }
         ensures { Reads (stmt_words same) reinit_stmt 1 4 self.old self.new result }
     {
         let names = self.need_items(Kind::Names, depth)?;
@@ -77,7 +75,7 @@ impl<'a> Parser<'a> {
 
     // After `exit`: the label, if a name stands here that no mark follows.
     fn exit(&mut self) -> Result<u32, Refusal>
-        requires { Ready self.old 1 }
+        requires { Spare self.old 1 }
         ensures { Reads (stmt_words same) exit_stmt 0 1 self.old self.new result }
     {
         let start = self.at;
@@ -93,7 +91,7 @@ impl<'a> Parser<'a> {
 
     // After the name and `:=`.
     pub(crate) fn assign_stmt(&mut self, name: Name, depth: usize) -> Result<u32, Refusal>
-        requires { Ready self.old 2 }
+        requires { Spare self.old 2 }
         ensures { Reads (stmt_words same) (λ text. after_assign text (turns text) (opened depth text) (span name)) 1 2 self.old self.new result }
     {
         let head = self.push(Node::Three(StmtTag::Assign as u32, name.start, name.len));
@@ -103,7 +101,7 @@ impl<'a> Parser<'a> {
 
     // After the name and `(`.
     pub(crate) fn call_stmt(&mut self, name: Name, depth: usize) -> Result<u32, Refusal>
-        requires { Ready self.old 4 }
+        requires { Spare self.old 4 }
         ensures { Reads (stmt_words same) (λ text. after_call text (turns text) (opened depth text) (span name)) 1 3 self.old self.new result }
     {
         let head = self.push(Node::Three(StmtTag::Call as u32, name.start, name.len));
@@ -113,7 +111,6 @@ impl<'a> Parser<'a> {
 
     // "stmt" of `stmtGallery` where no level is left: refusal 3 if a statement's first token stands here.
     pub(crate) fn too_deep_stmt(&mut self) -> Result<(), Refusal>
-        requires { Ready self.old 0 }
         ensures { Stops (stmt_rule 0) self.old self.new result }
     {
         let start = self.at;

@@ -7,7 +7,7 @@ pub(crate) mod alt;
 ghost use Rattle.std.specs.Prelude.{◌≤◌, length};
 ghost use Rattle.tree.specs.Words.{stmt_words, a_expr_words};
 ghost use Rattle.grammar.specs.Statements.{rep, parse_stmt, parse_variable_declaration, after_forall, after_label};
-ghost use Rattle.parsing.specs.Contract.{Ready, Reads, Reads_if, same, needed, span};
+ghost use Rattle.parsing.specs.Contract.{Spare, Reads, Reads_if, same, needed, span};
 ghost use Rattle.parsing.specs.Code.{turns, opened, opening};
 ghost use Rattle.parsing.specs.Statements.{Spares, Spares_if, aexpr_rule, block_rule, stmt_rule, loop_body, named_stmt, scope_stmt, repeated, repeated_words, repetition_words, repeated_rule};
 
@@ -33,7 +33,6 @@ pub(crate) enum Repeated {
 impl<'a> Parser<'a> {
     #[cycle(statement)]
     fn repeated(&mut self, kind: Repeated, depth: usize) -> Result<Option<u32>, Refusal>
-        requires { Ready self.old 0 }
         ensures { Spares_if (repeated_words kind) (repeated_rule kind depth) self.old self.new result }
     {
         match kind {
@@ -51,7 +50,7 @@ impl<'a> Parser<'a> {
     // `.Rep()`.
     #[cycle(statement)]
     pub(crate) fn many(&mut self, kind: Repeated, depth: usize) -> Result<u32, Refusal>
-        requires { Ready self.old 1 }
+        requires { Spare self.old 1 }
         ensures { Reads (repetition_words kind) (λ text. rep (repeated kind) (turns text) (repeated_rule kind depth text)) 0 1 self.old self.new result }
     {
         let mut list = EMPTY;
@@ -64,7 +63,6 @@ impl<'a> Parser<'a> {
     // "block" of `stmtGallery`.
     #[cycle(statement)]
     pub(crate) fn block(&mut self, depth: usize) -> Result<Option<u32>, Refusal>
-        requires { Ready self.old 0 }
         ensures { Spares_if (stmt_words same) (block_rule depth) self.old self.new result }
     {
         let at = self.at;
@@ -84,7 +82,6 @@ impl<'a> Parser<'a> {
 
     #[cycle(statement)]
     fn need_block(&mut self, depth: usize) -> Result<u32, Refusal>
-        requires { Ready self.old 0 }
         ensures { Spares (stmt_words same) (needed (block_rule depth)) self.old self.new result }
     {
         let at = self.at;
@@ -94,7 +91,7 @@ impl<'a> Parser<'a> {
     // After `loop`, which stands at `start`: its invariants and its body.
     #[cycle(statement)]
     fn looped(&mut self, start: usize, depth: usize) -> Result<u32, Refusal>
-        requires { Ready self.old 3 }
+        requires { Spare self.old 3 }
         ensures { Reads (stmt_words same) (loop_body depth start) 1 3 self.old self.new result }
     {
         if depth == 0 {
@@ -112,7 +109,6 @@ impl<'a> Parser<'a> {
     // "stmt" of `stmtGallery`.
     #[cycle(statement)]
     fn nested(&mut self, depth: usize) -> Result<Option<u32>, Refusal>
-        requires { Ready self.old 0 }
         ensures { Spares_if (stmt_words same) (stmt_rule depth) self.old self.new result }
     {
         if depth == 0 {
@@ -125,7 +121,6 @@ impl<'a> Parser<'a> {
     // `parseStmt`: by the word that stands here. Where a name stands that no mark follows, nothing is kept.
     #[cycle(statement)]
     fn stmt(&mut self, depth: usize) -> Result<Option<u32>, Refusal>
-        requires { Ready self.old 0 }
         ensures { Spares_if (stmt_words same) (opening parse_stmt depth) self.old self.new result }
     {
         let start = self.at;
@@ -156,7 +151,7 @@ impl<'a> Parser<'a> {
     // After a name: its mark, and what follows it.
     #[cycle(statement)]
     fn named_stmt(&mut self, name: Name, depth: usize) -> Result<Option<u32>, Refusal>
-        requires { Ready self.old 2 }
+        requires { Spare self.old 2 }
         ensures { Reads_if (stmt_words same) (named_stmt depth (span name)) 1 1 self.old self.new result }
     {
         if self.sym(b":=")? {
@@ -174,7 +169,7 @@ impl<'a> Parser<'a> {
     // After the name and `:`.
     #[cycle(statement)]
     fn labeled_stmt(&mut self, name: Name, depth: usize) -> Result<u32, Refusal>
-        requires { Ready self.old 2 }
+        requires { Spare self.old 2 }
         ensures { Reads (stmt_words same) (λ text. after_label text (turns text) (opened depth text) (span name)) 1 2 self.old self.new result }
     {
         let head = self.push(Node::Three(StmtTag::LabeledStmt as u32, name.start, name.len));
@@ -185,7 +180,6 @@ impl<'a> Parser<'a> {
     // A block or a loop, which must follow.
     #[cycle(statement)]
     fn need_scope(&mut self, depth: usize) -> Result<u32, Refusal>
-        requires { Ready self.old 0 }
         ensures { Spares (stmt_words same) (needed (scope_stmt depth)) self.old self.new result }
     {
         let start = self.at;
@@ -202,7 +196,7 @@ impl<'a> Parser<'a> {
     // Kept: `mutable` is VarDecl's own field, a Bool in RawAst, and chooses no step.
     #[cycle(statement)]
     fn var_decl(&mut self, mutable: bool, depth: usize) -> Result<u32, Refusal>
-        requires { Ready self.old 6 }
+        requires { Spare self.old 6 }
         ensures { Reads (stmt_words same) (λ text. parse_variable_declaration text (turns text) (opened depth text) mutable) 1 6 self.old self.new result }
     {
         let name = self.need_name()?;
@@ -220,7 +214,7 @@ impl<'a> Parser<'a> {
     // After `forall`.
     #[cycle(statement)]
     fn forall_stmt(&mut self, depth: usize) -> Result<u32, Refusal>
-        requires { Ready self.old 2 }
+        requires { Spare self.old 2 }
         ensures { Reads (stmt_words same) (opening after_forall depth) 1 2 self.old self.new result }
     {
         let binding = self.need_id_type()?;
@@ -232,8 +226,7 @@ impl<'a> Parser<'a> {
     // `parseAExpr`.
     #[cycle(statement)]
     fn aexpr(&mut self, bytes: &[u8], depth: usize) -> Result<Option<u32>, Refusal>
-        requires ready { Ready self.old 0 }
-        requires in_bounds { 7 ≤ length bytes.now }
+        requires { 7 ≤ length bytes.now }
         ensures { Spares_if (a_expr_words same) (aexpr_rule bytes.now depth) self.old self.new result }
     {
         if !self.keyword(bytes)? {

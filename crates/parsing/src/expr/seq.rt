@@ -20,14 +20,14 @@ pub(crate) enum Kind {
 // Sequences.
 impl<'a> Parser<'a> {
     ghost use Rattle.std.specs.Prelude.{◌≤◌, length};
-    ghost use Rattle.parsing.specs.Contract.{Ready, Reads, Reads_if, needed, same};
+    ghost use Rattle.parsing.specs.Contract.{Spare, Reads, Reads_if, needed, same};
     ghost use Rattle.parsing.specs.Expressions.{item_words, list_words, item_rule, items_rule, list_rule, marked_rule};
     ghost use Rattle.tree.specs.Words.{patterns_words};
 
     #[cycle(expression)]
     #[tactic(auto, using(crate::proofs::Laws::failing))]
     fn item(&mut self, kind: Kind, depth: usize) -> Result<Option<u32>, Refusal>
-        requires { Ready self.old 1 }
+        requires { Spare self.old 1 }
         ensures { Reads_if (item_words kind) (item_rule kind depth) 1 1 self.old self.new result }
     {
         match kind {
@@ -46,7 +46,7 @@ impl<'a> Parser<'a> {
     #[cycle(expression)]
     #[tactic(auto, using(crate::proofs::Laws::failing), unfolding(grammar::specs::Rules::parse_nonempty_comma_delimited_seq))]
     pub(crate) fn items(&mut self, kind: Kind, depth: usize) -> Result<Option<u32>, Refusal>
-        requires { Ready self.old 3 }
+        requires { Spare self.old 3 }
         ensures { Reads_if (list_words kind) (items_rule kind depth) 1 3 self.old self.new result }
     {
         let Some(first) = self.item(kind, depth)? else {
@@ -65,7 +65,7 @@ impl<'a> Parser<'a> {
     #[inline]
     #[tactic(auto, using(crate::proofs::Laws::failing), unfolding(grammar::specs::Steps::after))]
     pub(crate) fn need_items(&mut self, kind: Kind, depth: usize) -> Result<u32, Refusal>
-        requires { Ready self.old 3 }
+        requires { Spare self.old 3 }
         ensures { Reads (list_words kind) (needed (items_rule kind depth)) 1 3 self.old self.new result }
     {
         let at = self.at;
@@ -76,7 +76,7 @@ impl<'a> Parser<'a> {
     #[cycle(expression)]
     #[tactic(auto, using(crate::proofs::Laws::failing), unfolding(grammar::specs::Rules::parse_listed, grammar::specs::Rules::parse_comma_delimited_seq))]
     pub(crate) fn list(&mut self, kind: Kind, close: &[u8], depth: usize) -> Result<u32, Refusal>
-        requires room { Ready self.old 3 }
+        requires room { Spare self.old 3 }
         requires in_bounds { 1 ≤ length close.now }
         ensures { Reads (list_words kind) (list_rule kind close.now depth) 1 1 self.old self.new result }
     {
@@ -89,8 +89,7 @@ impl<'a> Parser<'a> {
     #[cycle(expression)]
     #[tactic(auto, using(crate::proofs::Laws::failing), unfolding(grammar::specs::Rules::parse_marked))]
     fn marks(&mut self, bytes: &[u8], depth: usize) -> Result<u32, Refusal>
-        requires room { Ready self.old 0 }
-        requires in_bounds { 3 ≤ length bytes.now }
+        requires { 3 ≤ length bytes.now }
         ensures { Reads (patterns_words same) (marked_rule bytes.now depth) 0 0 self.old self.new result }
     {
         let mut list = EMPTY;
@@ -106,7 +105,7 @@ impl<'a> Parser<'a> {
 impl<'a> Parser<'a> {
     ghost use Rattle.grammar.specs.Reading.{tree_words};
     ghost use Rattle.grammar.specs.Rules.{after_lift, parse_parameters};
-    ghost use Rattle.parsing.specs.Contract.{Ready, Reads, Reads_if, same};
+    ghost use Rattle.parsing.specs.Contract.{Spare, Reads, Reads_if, same};
     ghost use Rattle.grammar.specs.Statements.{parse_optional_auto_invariant};
     ghost use Rattle.parsing.specs.Code.{turns, turning, opening};
     ghost use Rattle.parsing.specs.Expressions.{quantifier_rule, closure_words, property_words, item_rule};
@@ -118,7 +117,7 @@ impl<'a> Parser<'a> {
     #[cycle(expression)]
     #[tactic(auto, using(crate::proofs::Laws::failing), unfolding(grammar::specs::Rules::after_quantifier))]
     pub(crate) fn quant(&mut self, universal: bool, depth: usize) -> Result<u32, Refusal>
-        requires { Ready self.old 7 }
+        requires { Spare self.old 7 }
         ensures { Reads tree_words (quantifier_rule universal depth) 1 7 self.old self.new result }
     {
         let head = self.push(Node::Two(ExprTag::QuantifierExpr as u32, u32::from(universal)));
@@ -132,7 +131,7 @@ impl<'a> Parser<'a> {
     #[cycle(expression)]
     #[tactic(auto, using(crate::proofs::Laws::failing), unfolding(grammar::specs::Rules::after_lift))]
     pub(crate) fn lift(&mut self, depth: usize) -> Result<u32, Refusal>
-        requires { Ready self.old 4 }
+        requires { Spare self.old 4 }
         ensures { Reads tree_words (turning after_lift depth) 1 4 self.old self.new result }
     {
         let head = self.push(Node::One(ExprTag::ClosureExpr as u32));
@@ -152,7 +151,6 @@ impl<'a> Parser<'a> {
     #[cycle(expression)]
     #[tactic(auto, using(crate::proofs::Laws::failing), unfolding(grammar::specs::Rules::parse_closure_binding))]
     fn bind(&mut self, depth: usize) -> Result<Option<u32>, Refusal>
-        requires { Ready self.old 0 }
         ensures { Reads_if closure_words (item_rule Closures depth) 1 0 self.old self.new result }
     {
         let Some(bound) = self.name()? else {
@@ -170,7 +168,7 @@ impl<'a> Parser<'a> {
     #[cycle(expression)]
     #[tactic(auto, using(crate::proofs::Laws::failing), unfolding(grammar::specs::Rules::parse_parameters))]
     fn params(&mut self, depth: usize) -> Result<u32, Refusal>
-        requires { Ready self.old 1 }
+        requires { Spare self.old 1 }
         ensures { Reads (seq_words (binding_words same)) (λ text. parse_parameters text (turns text)) 0 1 self.old self.new result }
     {
         if self.sym(b"(")? {
@@ -183,7 +181,7 @@ impl<'a> Parser<'a> {
     #[cycle(expression)]
     #[tactic(auto, using(crate::proofs::Laws::failing), unfolding(grammar::specs::Rules::parse_closure_property))]
     fn prop(&mut self, depth: usize) -> Result<Option<u32>, Refusal>
-        requires { Ready self.old 1 }
+        requires { Spare self.old 1 }
         ensures { Reads_if property_words (item_rule Properties depth) 1 1 self.old self.new result }
     {
         if self.word_is(self.word_ahead(), b"trigger") {
@@ -201,7 +199,7 @@ impl<'a> Parser<'a> {
     #[cycle(expression)]
     #[tactic(auto, using(crate::proofs::Laws::failing), unfolding(grammar::specs::Declarations::parse_proc_formal))]
     fn param(&mut self, depth: usize) -> Result<Option<u32>, Refusal>
-        requires { Ready self.old 1 }
+        requires { Spare self.old 1 }
         ensures { Reads_if (p_parameter_words same) (item_rule Parameters depth) 1 1 self.old self.new result }
     {
         let Some(moded) = self.moded()? else {
@@ -215,7 +213,6 @@ impl<'a> Parser<'a> {
     #[cycle(expression)]
     #[tactic(auto, using(crate::proofs::Laws::failing), unfolding(grammar::specs::Statements::parse_optional_auto_invariant))]
     pub(crate) fn auto_invariant(&mut self, depth: usize) -> Result<u32, Refusal>
-        requires { Ready self.old 0 }
         ensures { Reads (option_words tree_words) (opening parse_optional_auto_invariant depth) 0 0 self.old self.new result }
     {
         if self.keyword(b"autoinv")? {
@@ -229,7 +226,7 @@ impl<'a> Parser<'a> {
     #[cycle(expression)]
     #[tactic(auto, using(crate::proofs::Laws::failing), unfolding(grammar::specs::Statements::parse_call_argument))]
     fn arg(&mut self, depth: usize) -> Result<Option<u32>, Refusal>
-        requires { Ready self.old 1 }
+        requires { Spare self.old 1 }
         ensures { Reads_if (call_argument_words same) (item_rule Arguments depth) 1 1 self.old self.new result }
     {
         if let Some(named) = self.by_name()? {

@@ -4,7 +4,7 @@
 
 ghost use Rattle.tree.specs.Words.{stmt_words};
 ghost use Rattle.grammar.specs.Statements.{after_choose, parse_or, parse_if_cont, parse_else, parse_case};
-ghost use Rattle.parsing.specs.Contract.{Ready, Reads, same, needed};
+ghost use Rattle.parsing.specs.Contract.{Spare, Reads, same, needed};
 ghost use Rattle.parsing.specs.Code.{opening};
 ghost use Rattle.parsing.specs.Statements.{Spares_if, cont_rule, case_words, cond_stmt};
 
@@ -18,7 +18,7 @@ impl<'a> Parser<'a> {
     // After `choose`.
     #[cycle(statement)]
     pub(crate) fn choose(&mut self, depth: usize) -> Result<u32, Refusal>
-        requires { Ready self.old 3 }
+        requires { Spare self.old 3 }
         ensures { Reads (stmt_words same) (opening after_choose depth) 1 3 self.old self.new result }
     {
         let first = self.need_block(depth)?;
@@ -31,7 +31,6 @@ impl<'a> Parser<'a> {
     // `or` and a block.
     #[cycle(statement)]
     pub(crate) fn or_branch(&mut self, depth: usize) -> Result<Option<u32>, Refusal>
-        requires { Ready self.old 0 }
         ensures { Spares_if (stmt_words same) (opening parse_or depth) self.old self.new result }
     {
         if !self.keyword(b"or")? {
@@ -43,7 +42,7 @@ impl<'a> Parser<'a> {
     // "if-cont" of `stmtGallery`, which must follow.
     #[cycle(statement)]
     fn else_if(&mut self, depth: usize) -> Result<u32, Refusal>
-        requires { Ready self.old 3 }
+        requires { Spare self.old 3 }
         ensures { Reads (stmt_words same) (needed (cont_rule depth)) 1 3 self.old self.new result }
     {
         if depth == 0 {
@@ -57,7 +56,7 @@ impl<'a> Parser<'a> {
     // `parseIfCont`, which must follow.
     #[cycle(statement)]
     pub(crate) fn if_cont(&mut self, depth: usize) -> Result<u32, Refusal>
-        requires { Ready self.old 3 }
+        requires { Spare self.old 3 }
         ensures { Reads (stmt_words same) (needed (opening parse_if_cont depth)) 1 3 self.old self.new result }
     {
         let Some(first) = self.case(depth)? else {
@@ -72,7 +71,7 @@ impl<'a> Parser<'a> {
     // A condition, which must follow, a block and what follows them.
     #[cycle(statement)]
     fn if_cond(&mut self, depth: usize) -> Result<u32, Refusal>
-        requires { Ready self.old 3 }
+        requires { Spare self.old 3 }
         ensures { Reads (stmt_words same) (needed (cond_stmt depth)) 1 3 self.old self.new result }
     {
         let guard = self.need_expr(depth)?;
@@ -86,7 +85,7 @@ impl<'a> Parser<'a> {
     // `else` and what it leads, or the empty block.
     #[cycle(statement)]
     fn if_else(&mut self, depth: usize) -> Result<u32, Refusal>
-        requires { Ready self.old 1 }
+        requires { Spare self.old 1 }
         ensures { Reads (stmt_words same) (opening parse_else depth) 0 1 self.old self.new result }
     {
         if !self.keyword(b"else")? {
@@ -101,7 +100,6 @@ impl<'a> Parser<'a> {
     // `parseCase`.
     #[cycle(statement)]
     pub(crate) fn case(&mut self, depth: usize) -> Result<Option<u32>, Refusal>
-        requires { Ready self.old 0 }
         ensures { Spares_if case_words (opening parse_case depth) self.old self.new result }
     {
         if !self.keyword(b"case")? {

@@ -1,12 +1,28 @@
 use Rattle.std.proofs.Common.{refl, sym, ◌∙◌, length, arith}
-use Rattle.parsing.proofs.Entries.{unclosed-refused, passed-inside, read-from, start-ready, start-gives}
+use Rattle.parsing.proofs.Entries.{unclosed-refused, passed-inside, read-from, start-short, start-small, start-room, start-empty, start-end, start-gives}
 use Rattle.parsing.proofs.entry.parse.Goals as goal
+
+pub invariant_of-parser : goal.invariant_of-parser
+invariant_of-parser c =
+    let a = c.args in
+    let t = a.text.now in
+    let n = a.arena.now in
+    let room = sym c.has_room.ensures ∙ c.if-not-has_room.false in
+    record {
+      short = start-short t n room;
+      small = start-small t n room;
+      inside = passed-inside a.whole t (length n) room c.blanks.result c.blanks.ensures c.in-Ok.is;
+      above = omega arith;
+      room = omega (arith, start-room t n room c.in-Ok.at);
+      empty_run = start-empty t n room;
+      end_run = start-end t n room;
+    }
 
 pub to_end-requires : goal.to_end-requires
 to_end-requires c =
     let a = c.args in
     let room = sym c.has_room.ensures ∙ c.if-not-has_room.false in
-    start-ready _ a.arena.now room refl (passed-inside a.whole a.text.now (length a.arena.now) room c.blanks.result c.blanks.ensures c.in-Ok.is) refl
+    record { room = start-room a.text.now a.arena.now room c.in-Ok.at }
 
 pub returns-in-Err : goal.returns-in-Err
 returns-in-Err c =
@@ -18,8 +34,5 @@ pub returns-in-Ok : goal.returns-in-Ok
 returns-in-Ok c =
     let a = c.args in
     let room = sym c.has_room.ensures ∙ c.if-not-has_room.false in
-    let n = length a.arena.now in
-    let r = c.blanks.result in
-    let inside = passed-inside a.whole a.text.now n room r c.blanks.ensures c.in-Ok.is in
-    let says = read-from a.whole a.text.now n room r c.blanks.ensures c.in-Ok.is in
-    start-gives _ a.arena.now room refl a.whole c.to_end.new.self _ refl inside says (omega arith) (λ e. c.arena-1.given.1.1 e) _ c.to_end.ensures
+    let says = read-from a.whole a.text.now (length a.arena.now) room c.blanks.result c.blanks.ensures c.in-Ok.is in
+    start-gives _ a.arena.now refl a.whole c.to_end.new.self _ refl says (omega arith) (λ e. c.arena-1.given.1.1 e) _ c.to_end.ensures

@@ -7,4 +7,4 @@ pub returns : goal.returns
 unfolding after_bar
 returns c =
     done _ (paired c.pair.ensures (took _ _ c.in_ok-need_sym-2.ensures (read _ _ c.in_ok-typ.ensures (took _ _ c.in_ok-need_sym.ensures
-    (three-made c.push-value.ensures (named _ _ c.in_ok-text.ensures (begin c.requires)) refl)) refl)) refl) refl refl
+    (three-made c.push-value.ensures (named _ _ c.in_ok-text.ensures begin) refl)) refl)) refl) refl refl

@@ -15,7 +15,6 @@ returns c =
         last = f.made.last;
         top = omega arith;
         at_same = cc;
-        ready = f.made.ready;
       };
       holds = choice-holds a b d e f;
     }

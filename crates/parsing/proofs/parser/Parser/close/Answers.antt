@@ -4,15 +4,13 @@ use Rattle.parsing.proofs.parser.Parser.close.Goals as goal
 
 pub returns-then-list-eq0 : goal.returns-then-list-eq0
 returns-then-list-eq0 c =
-    let r = c.requires.ready in
     record {
       later = later-same;
       at_same = refl;
       grows = omega arith;
       stays = λ _. refl;
-      ready = r;
-      below = omega (arith, r.above);
-      holds = λ x. empty-closed r c.if-list-eq0.true x;
+      below = omega (arith, c.args.self.now.above);
+      holds = λ x. empty-closed c.if-list-eq0.true x;
     }
 
 pub returns : goal.returns
@@ -23,7 +21,6 @@ returns c =
       at_same = m.made.at_same;
       grows = omega (arith, m.made.top);
       stays = λ e. absurd (c.if-list-eq0.false e);
-      ready = m.made.ready;
       below = omega (arith, m.made.last);
       holds = λ x. closed-holds m x;
     }

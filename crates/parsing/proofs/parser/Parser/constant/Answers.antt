@@ -10,7 +10,7 @@ use Rattle.parsing.proofs.parser.Parser.constant.Goals as goal
 pub returns-then-branch : goal.returns-then-branch
 returns-then-branch c =
     let s = stood (word (bytes "false")) 5 _ _ c.in_ok-keyword_of.ensures c.if-branch.true in
-    let l = two-made c.push.ensures (taken _ _ _ s (begin c.requires.ready)) refl in
+    let l = two-made c.push.ensures (taken _ _ _ s begin) refl in
     let r = done (λ text at. mapped (λ _. BLiteral false) (T text "false" at)) {least = 1} {credit = 0} l refl refl in
     read_as _ _ _ 1 0 _ _ r (after-ok _ _ _ r.says)
 
@@ -19,6 +19,6 @@ returns-then-branch-2 c =
     let a = absent (word (bytes "false")) 5 _ _ c.in_ok-keyword_of.ensures c.if-branch.false in
     let s = stood (word (bytes "true")) 4 _ _ c.in_ok-keyword_of-2.ensures c.if-branch-2.true in
     let s = rw a.same at s in
-    let l = two-made c.push-then-branch-2.ensures (taken _ _ _ s (begin c.requires.ready)) refl in
+    let l = two-made c.push-then-branch-2.ensures (taken _ _ _ s begin) refl in
     let r = done (λ text at. mapped (λ _. BLiteral true) (T text "true" at)) {least = 1} {credit = 0} l refl refl in
     read_as _ _ _ 1 0 _ _ r (after-none _ _ _ (after-none _ _ _ a.says) ∙ after-ok _ _ _ r.says)

@@ -8,4 +8,4 @@ use Rattle.parsing.proofs.parser.Parser.custom.Goals as goal
 pub returns-then-branch : goal.returns-then-branch
 returns-then-branch c =
     let s = stood (sign (bytes "|")) 1 _ _ c.in_ok-sym.ensures c.if-branch.true in
-    done _ (read_last after_bar c.in_ok-after_bar.ensures (taken _ _ _ s (begin c.requires)) refl) refl refl
+    done _ (read_last after_bar c.in_ok-after_bar.ensures (taken _ _ _ s begin) refl) refl refl

@@ -7,4 +7,4 @@ use Rattle.parsing.proofs.parser.Parser.explains.Goals as goal
 
 pub returns : goal.returns
 unfolding parse_explains
-returns c = done _ (with_end (skipped _ _ _ (absent (word (bytes "explains")) 8 _ _ c.in_ok-keyword.ensures c.if-branch.false) (begin c.requires))) refl refl
+returns c = done _ (with_end (skipped _ _ _ (absent (word (bytes "explains")) 8 _ _ c.in_ok-keyword.ensures c.if-branch.false) begin)) refl refl

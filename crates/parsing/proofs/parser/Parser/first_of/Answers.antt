@@ -6,7 +6,7 @@ use Rattle.parsing.proofs.SignTables.{Trying, trying-next, tried, tried-refused,
 use Rattle.parsing.proofs.parser.Parser.first_of.Goals as goal
 
 pub loop-spelling-init : goal.loop-spelling-init
-loop-spelling-init g c = record { same = refl; says = refl; filled = c.requires.filled }
+loop-spelling-init g c = record { same = refl; says = refl; filled = c.requires }
 
 pub loop-spelling-preserved : goal.loop-spelling-preserved
 loop-spelling-preserved g c = trying-next _ _ c.loop-spelling-test.true c.loop-spelling.invariant c.loop-spelling-item.is (absent _ _ _ _ c.in_ok-spelt.ensures c.if-branch.false)

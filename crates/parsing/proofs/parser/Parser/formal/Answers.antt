@@ -13,7 +13,7 @@ unfolding parse_function_formal
 returns-then-branch c =
     let s = stood (word (bytes "injective")) 9 _ _ c.in_ok-keyword.ensures c.if-branch.true in
     let typ = c.in_ok-need_marked_type.ensures in
-    done _ (as_run (formal-words true typ.value) (read_mapped _ _ typ (taken _ _ _ s (begin c.requires)) refl)) refl refl
+    done _ (as_run (formal-words true typ.value) (read_mapped _ _ typ (taken _ _ _ s begin) refl)) refl refl
 
 pub returns : goal.returns
 unfolding parse_function_formal

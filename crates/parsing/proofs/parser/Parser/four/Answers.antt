@@ -13,7 +13,6 @@ returns c =
         last = d.made.last;
         top = omega arith;
         at_same = cc;
-        ready = d.made.ready;
       };
       holds = four-holds a b d;
     }

@@ -13,8 +13,8 @@ pub returns-then-branch : goal.returns-then-branch
 unfolding parse_init
 returns-then-branch c =
     tail-mapped _ _ (needed (inner c.args.depth)) some (λ e. refl) 0 0 1 1 _ _ c.stated.ensures
-    (said (expr-mapped some _ c.args.depth _) (taken _ _ _ (stood (sign (bytes ":=")) 2 _ _ c.in_ok-sym.ensures c.if-branch.true) (begin c.requires))) refl refl
+    (said (expr-mapped some _ c.args.depth _) (taken _ _ _ (stood (sign (bytes ":=")) 2 _ _ c.in_ok-sym.ensures c.if-branch.true) begin)) refl refl
 
 pub returns : goal.returns
 unfolding parse_init
-returns c = done _ (with_end (skipped _ _ _ (absent (sign (bytes ":=")) 2 _ _ c.in_ok-sym.ensures c.if-branch.false) (begin c.requires))) refl refl
+returns c = done _ (with_end (skipped _ _ _ (absent (sign (bytes ":=")) 2 _ _ c.in_ok-sym.ensures c.if-branch.false) begin)) refl refl

@@ -3,5 +3,5 @@ use Rattle.parsing.proofs.parser.Parser.joined.Goals as goal
 
 pub returns : goal.returns
 returns c =
-    all-joined c.requires c.close-types.ensures c.close-taggers.ensures c.close-functions.ensures c.close-axioms.ensures c.close-procedures.ensures c.pair-first.ensures
+    all-joined c.close-types.ensures c.close-taggers.ensures c.close-functions.ensures c.close-axioms.ensures c.close-procedures.ensures c.pair-first.ensures
     c.four.ensures

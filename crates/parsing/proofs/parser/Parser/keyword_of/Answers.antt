@@ -2,11 +2,11 @@ use Rattle.std.proofs.Common.{refl, sym, ◌∙◌}
 use Rattle.parsing.proofs.Tokens.{word-lies, keyword-takes, no-keyword}
 use Rattle.parsing.proofs.parser.Parser.keyword_of.Goals as goal
 
-pub stands-requires-clause-inside : goal.stands-requires-clause-inside
-stands-requires-clause-inside c = word-lies _ c.requires.ready _ c.requires.spelt _ c.lexeme-lexed.ensures
+pub stands-requires : goal.stands-requires
+stands-requires c = word-lies _ _ c.requires _ c.lexeme-lexed.ensures
 
 pub returns-then-not-word_is : goal.returns-then-not-word_is
-returns-then-not-word_is c = no-keyword _ _ _ _ c.requires.spelt (sym c.word_is.ensures ∙ c.if-not-word_is.true) refl
+returns-then-not-word_is c = no-keyword _ _ _ _ c.requires (sym c.word_is.ensures ∙ c.if-not-word_is.true) refl
 
 pub returns : goal.returns
-returns c = keyword-takes _ c.requires.ready _ c.requires.spelt _ c.lexeme-lexed.ensures _ _ (sym c.word_is.ensures ∙ c.if-not-word_is.false) _ c.stands.ensures
+returns c = keyword-takes _ _ c.requires _ c.lexeme-lexed.ensures _ _ (sym c.word_is.ensures ∙ c.if-not-word_is.false) _ c.stands.ensures

@@ -8,6 +8,6 @@ use Rattle.parsing.proofs.parser.Parser.literal.Goals as goal
 pub returns-in-Some : goal.returns-in-Some
 returns-in-Some c =
     let value = rw c.in-Some.is at c.in_ok-value.ensures in
-    let l = three-made c.push.ensures (operated _ _ _ value (begin c.requires)) refl in
+    let l = three-made c.push.ensures (operated _ _ _ value begin) refl in
     let r = done (λ text at. mapped ILiteral (parse_nat text at)) {least = 1} {credit = 0} l refl refl in
     read_as _ _ _ 1 0 _ _ r (after-ok _ _ _ r.says)

@@ -8,4 +8,4 @@ unfolding parse_id_type
 returns c =
     let name = rw c.in-Some.is at c.in_ok-name.ensures in
     done _ (paired c.pair.ensures (read _ _ c.in_ok-typ.ensures (three-made c.push-marked.ensures
-    (took _ _ c.in_ok-need_sym.ensures (named_if _ _ _ name (begin c.requires))) refl) refl) refl) refl refl
+    (took _ _ c.in_ok-need_sym.ensures (named_if _ _ _ name begin)) refl) refl) refl) refl refl

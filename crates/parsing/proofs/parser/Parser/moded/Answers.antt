@@ -16,14 +16,14 @@ unfolding parse_moded
 returns-in_err-need_marked_type c =
     let s = stood (word (bytes "inout")) 5 _ _ c.in_ok-keyword.ensures c.if-branch.true in
     reads_if_err _ _ _ _ _ _ _ _ c.from_residual-in_err-need_marked_type.ensures.1
-    (after-refused _ _ _ (refused_mapped parse_id_type _ (taken _ _ _ s (begin c.requires)) c.in_err-need_marked_type.ensures))
+    (after-refused _ _ _ (refused_mapped parse_id_type _ (taken _ _ _ s begin) c.in_err-need_marked_type.ensures))
 
 pub returns-then-branch : goal.returns-then-branch
 unfolding parse_moded
 returns-then-branch c =
     let s = stood (word (bytes "inout")) 5 _ _ c.in_ok-keyword.ensures c.if-branch.true in
     let typ = c.in_ok-need_marked_type.ensures in
-    let l = as_run (mode-words InOut typ.value) (read_mapped _ _ typ (taken _ _ _ s (begin c.requires)) refl) in
+    let l = as_run (mode-words InOut typ.value) (read_mapped _ _ typ (taken _ _ _ s begin) refl) in
     let r = done (λ text at. after (T text "inout" at) Answer.none (λ _ at₁. must at₁ (mapped (moded InOut) (parse_id_type text at₁)))) {least = 1} {credit = 0} l refl refl in
     read_as _ _ _ 1 0 _ _ r (after-ok _ _ _ r.says)
 
@@ -34,7 +34,7 @@ returns-then-branch-2 c =
     let s = stood (word (bytes "out")) 3 _ _ c.in_ok-keyword-2.ensures c.if-branch-2.true in
     let s = rw a.same at s in
     let typ = c.in_ok-need_marked_type-2.ensures in
-    let l = as_run (mode-words Out typ.value) (read_mapped _ _ typ (taken _ _ _ s (begin c.requires)) refl) in
+    let l = as_run (mode-words Out typ.value) (read_mapped _ _ typ (taken _ _ _ s begin) refl) in
     let r = done (λ text at. after (T text "out" at) Answer.none (λ _ at₁. must at₁ (mapped (moded Out) (parse_id_type text at₁)))) {least = 1} {credit = 0} l refl refl in
     read_as _ _ _ 1 0 _ _ r (after-none _ _ _ (after-none _ _ _ a.says) ∙ after-ok _ _ _ r.says)
 

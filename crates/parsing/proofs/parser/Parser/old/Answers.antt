@@ -5,4 +5,4 @@ use Rattle.parsing.proofs.parser.Parser.old.Goals as goal
 
 pub returns : goal.returns
 unfolding after_old
-returns c = done _ (ident-made c.push.ensures (named _ _ c.in_ok-name.ensures (begin c.requires)) refl) refl refl
+returns c = done _ (ident-made c.push.ensures (named _ _ c.in_ok-name.ensures begin) refl) refl refl

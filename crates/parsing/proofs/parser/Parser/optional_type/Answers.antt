@@ -9,10 +9,10 @@ pub returns-then-branch : goal.returns-then-branch
 unfolding parse_optional_type
 returns-then-branch c =
     let s = stood (sign_but (bytes ":") (bytes ":=")) 1 _ _ c.in_ok-sym_not_prefix.ensures c.if-branch.true in
-    tail _ _ some_type 0 0 1 0 _ _ c.typed.ensures (taken _ _ _ s (begin c.requires)) refl refl refl
+    tail _ _ some_type 0 0 1 0 _ _ c.typed.ensures (taken _ _ _ s begin) refl refl refl
 
 pub returns : goal.returns
 unfolding parse_optional_type
 returns c =
     let a = absent (sign_but (bytes ":") (bytes ":=")) 1 _ _ c.in_ok-sym_not_prefix.ensures c.if-branch.false in
-    done _ (with_end (skipped _ _ _ a (begin c.requires))) refl refl
+    done _ (with_end (skipped _ _ _ a begin)) refl refl

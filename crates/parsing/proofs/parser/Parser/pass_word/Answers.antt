@@ -2,13 +2,13 @@ use Rattle.parsing.proofs.Laws.{passes_word_err}
 use Rattle.parsing.proofs.Tokens.{word-lies, word-passes, word-refused}
 use Rattle.parsing.proofs.parser.Parser.pass_word.Goals as goal
 
-pub stands-requires-clause-inside : goal.stands-requires-clause-inside
-stands-requires-clause-inside c = word-lies _ c.requires.ready _ c.requires.spelt _ c.lexeme-lexed.ensures
+pub stands-requires : goal.stands-requires
+stands-requires c = word-lies _ _ c.requires.spelt _ c.lexeme-lexed.ensures
 
 pub returns-in_err-stands : goal.returns-in_err-stands
 returns-in_err-stands c =
     passes_word_err _ _ _ _ _ c.from_residual.ensures.1
-    (word-refused _ c.requires.ready _ c.requires.spelt _ c.lexeme-lexed.ensures c.requires.filled c.stands.new.self _ c.in_err-stands.ensures)
+    (word-refused _ _ c.requires.spelt _ c.lexeme-lexed.ensures c.requires.filled c.stands.new.self _ c.in_err-stands.ensures)
 
 pub returns : goal.returns
-returns c = word-passes _ c.requires.ready _ c.requires.spelt _ c.lexeme-lexed.ensures c.requires.filled _ _ c.in_ok-stands.ensures
+returns c = word-passes _ _ c.requires.spelt _ c.lexeme-lexed.ensures c.requires.filled _ _ c.in_ok-stands.ensures

@@ -1,11 +1,11 @@
 use Rattle.std.proofs.Common.{refl}
 use Rattle.tree.specs.Ast.{Check, Assume, Reach, Assert, Probe}
-use Rattle.parsing.proofs.Places.{begin, one-made, done}
+use Rattle.parsing.proofs.Places.{begin_with, one-made, done}
 use Rattle.parsing.proofs.SimpleStatements.{stated-as}
 use Rattle.parsing.proofs.parser.Parser.simple.Goals as goal
 
 pub returns-in-Return : goal.returns-in-Return
-returns-in-Return c = rw c.in-Return.is (done _ (one-made c.push.ensures (begin c.requires) refl) refl refl)
+returns-in-Return c = rw c.in-Return.is (done _ (one-made c.push.ensures (begin_with c.requires) refl) refl refl)
 
 pub returns-in-Check : goal.returns-in-Check
 returns-in-Check c = rw c.in-Check.is (stated-as c.args.depth Check (λ e. refl) _ c.requires _ c.stated.ensures)

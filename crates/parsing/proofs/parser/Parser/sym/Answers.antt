@@ -5,8 +5,8 @@ use Rattle.parsing.specs.Contract.{sign}
 use Rattle.parsing.proofs.Tokens.{token-lies, token-takes}
 use Rattle.parsing.proofs.parser.Parser.sym.Goals as goal
 
-pub stands-requires-clause-inside : goal.stands-requires-clause-inside
-stands-requires-clause-inside c = token-lies (reader c.args.bytes.now) _ (sign-within _) _ c.requires _ c.sym-lexed.ensures
+pub stands-requires : goal.stands-requires
+stands-requires c = token-lies (reader c.args.bytes.now) _ (sign-within _) c.args.self.now _ c.sym-lexed.ensures
 
 pub returns : goal.returns
-returns c = token-takes (reader c.args.bytes.now) _ (sign-within _) _ c.requires _ c.sym-lexed.ensures (sign c.args.bytes.now) (λ text at. refl) _ _ c.stands.ensures
+returns c = token-takes (reader c.args.bytes.now) _ (sign-within _) _ _ c.sym-lexed.ensures (sign c.args.bytes.now) (λ text at. refl) _ _ c.stands.ensures

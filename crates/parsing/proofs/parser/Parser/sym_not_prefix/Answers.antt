@@ -5,8 +5,8 @@ use Rattle.parsing.specs.Contract.{sign_but}
 use Rattle.parsing.proofs.Tokens.{token-lies, token-takes}
 use Rattle.parsing.proofs.parser.Parser.sym_not_prefix.Goals as goal
 
-pub stands-requires-clause-inside : goal.stands-requires-clause-inside
-stands-requires-clause-inside c = token-lies (reader c.args.bytes.now c.args.longer.now) _ (sign_not_prefix-within _ _) _ c.requires _ c.sym_not_prefix-lexed.ensures
+pub stands-requires : goal.stands-requires
+stands-requires c = token-lies (reader c.args.bytes.now c.args.longer.now) _ (sign_not_prefix-within _ _) c.args.self.now _ c.sym_not_prefix-lexed.ensures
 
 pub returns : goal.returns
-returns c = token-takes (reader c.args.bytes.now c.args.longer.now) _ (sign_not_prefix-within _ _) _ c.requires _ c.sym_not_prefix-lexed.ensures (sign_but c.args.bytes.now c.args.longer.now) (λ text at. refl) _ _ c.stands.ensures
+returns c = token-takes (reader c.args.bytes.now c.args.longer.now) _ (sign_not_prefix-within _ _) _ _ c.sym_not_prefix-lexed.ensures (sign_but c.args.bytes.now c.args.longer.now) (λ text at. refl) _ _ c.stands.ensures

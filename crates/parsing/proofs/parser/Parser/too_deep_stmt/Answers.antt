@@ -1,9 +1,9 @@
-use Rattle.std.proofs.Common.{◌∙◌, arith}
+use Rattle.std.proofs.Common.{refl, ◌∙◌, arith}
 use Rattle.lexing.specs.Bytes.{bytes}
 use Rattle.grammar.specs.Statements.{mark}
 use Rattle.parsing.specs.Contract.{sign}
 use Rattle.parsing.proofs.Laws.{after-ok, after-none, after-refused}
-use Rattle.parsing.proofs.Places.{stood, absent}
+use Rattle.parsing.proofs.Places.{stood, absent, later-next}
 use Rattle.parsing.proofs.StatementPlaces.{stops_err, stay, back, says-of}
 use Rattle.parsing.proofs.StatementRules.{deep-wordless, deep-lead, deep-named, deep-refused}
 use Rattle.parsing.proofs.parser.Parser.too_deep_stmt.Goals as goal
@@ -21,7 +21,7 @@ returns-else-branch c =
     let no = absent (sign (bytes "{")) 1 _ _ c.in_ok-sym.ensures c.if-branch.false in
     record {
       says = deep-wordless _ _ (c.word_ahead-len.ensures.measured ∙ c.if-len-eq0.true) ∙ after-none _ _ _ no.says;
-      stayed = stay c.requires no.same;
+      stayed = stay no.same;
     }
 
 pub returns-in_default : goal.returns-in_default
@@ -50,7 +50,8 @@ returns c =
     let w = c.in_ok-pass_word.ensures in
     let d = deep-named _ _ c.word_ahead-len.ensures.measured (omega (arith, c.if-len-eq0.false)) c.lead_at.ensures c.in-Name.is w.named.says in
     let no = absent mark 1 _ _ c.in_ok-mark.ensures c.if-branch-2.false in
+    let m = stay no.same in
     record {
       says = d ∙ after-none _ _ _ (says-of mark w.named.went.later no.says);
-      stayed = rw no.same (back c.requires w.named.went.later w.named.top_same);
+      stayed = back (later-next w.named.went.later m.later) (m.top_same ∙ w.named.top_same) refl refl refl refl;
     }

@@ -11,4 +11,4 @@ pub returns : goal.returns
 unfolding parse_when_clause
 returns c =
     ends _ (read _ _ c.in_ok-need_expr.ensures (said (expr-needed (λ e. e) _ c.args.depth _)
-    (taken _ _ _ (stood (word (bytes "when")) 4 _ _ c.in_ok-keyword.ensures c.if-not-branch.false) (begin c.requires))) refl) refl refl
+    (taken _ _ _ (stood (word (bytes "when")) 4 _ _ c.in_ok-keyword.ensures c.if-not-branch.false) begin)) refl) refl refl
