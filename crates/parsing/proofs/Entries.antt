@@ -1,5 +1,5 @@
 -- What `parse` answers: the definition's rule from the first token on, in an arena with its first nodes.
-use Rattle.std.proofs.Common.{ℕ, ◌+◌, ◌*◌, ◌≤◌, ◌<◌, ◌≡◌, ◌∙◌, refl, sym, ap, subst, Bool, true, false, List, length, get_or, leb, eqb, Result, Ok, Err, arith, slice_set}
+use Rattle.std.proofs.Common.{ℕ, ◌+◌, ◌*◌, ◌≤◌, ◌<◌, ◌≡◌, ◌∙◌, refl, sym, ap, Bool, true, false, List, length, get_or, leb, eqb, Result, Ok, Err, arith, slice_set}
 use Rattle.std.proofs.lemmas.List.{length-set, get_or-set_same, get_or-set_other}
 use borrow.Author.Tests.{leb-true, eq-eqb, ne_eqb}
 use Rattle.lexing.specs.Answer.{Answer, ok, refused, unclosed_comment, unusable_token, pick}
@@ -12,12 +12,12 @@ use Rattle.lexing.specs.declared.refusal.Refusal.{Refusal}
 use Rattle.tree.specs.Limits.{most_text}
 use Rattle.tree.specs.Words.{program_words}
 use Rattle.grammar.specs.OperatorTrees.{most_depth}
-use Rattle.grammar.specs.Steps.{Reader, after, need, must, mapped}
+use Rattle.grammar.specs.Steps.{Reader, after, need, mapped}
 use Rattle.grammar.specs.Declarations.{TopLevel}
 use Rattle.grammar.specs.Reading.{leading, to_end, whole_text, tree_words, parse_text, parse_program}
 use Rattle.parsing.specs.Arena.{Run, outside, most_arena}
 use Rattle.parsing.specs.Code.{inner, opening}
-use Rattle.parsing.specs.Contract.{Rule, Spare, Read, Reads, needed, same}
+use Rattle.parsing.specs.Contract.{Rule, Read, Reads, needed, same}
 use Rattle.parsing.specs.Parse.{arena_nodes, roomy, whole_rule, whole_run, parsed, ending, Gives, Parses}
 use Rattle.parsing.specs.declared.arena.Node.{Node}
 use Rattle.parsing.specs.declared.arena.Node.TheVariants.{Empty, One}

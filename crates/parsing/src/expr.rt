@@ -13,7 +13,7 @@ use tree::word::{ExprTag, FALSE, Operator};
 impl<'a> Parser<'a> {
     ghost use Rattle.grammar.specs.Reading.{tree_words};
     ghost use Rattle.grammar.specs.Rules.{parse_imp_exp_expr, parse_logical_expr, parse_juct_expr, parse_unary_expr};
-    ghost use Rattle.parsing.specs.Contract.{Spare, Reads, Reads_if, Standing, needed};
+    ghost use Rattle.parsing.specs.Contract.{Reads, Reads_if, Standing, needed};
     ghost use Rattle.parsing.specs.Code.{inner, turning, tighter_of, left_chain};
     ghost use Rattle.parsing.specs.Expressions.{Sees, left_rest};
     ghost use Rattle.parsing.specs.Signs.{class_of, level_rule};

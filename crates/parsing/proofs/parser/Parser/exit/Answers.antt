@@ -1,7 +1,7 @@
 use Rattle.std.proofs.Common.{refl, ◌∙◌}
 use Rattle.grammar.specs.Statements.{mark}
 use Rattle.parsing.proofs.Laws.{reads_err}
-use Rattle.parsing.proofs.Places.{begin, begin_with, said, stood, absent, later-next, three-made, two-made, headed, done}
+use Rattle.parsing.proofs.Places.{begin_with, said, stood, absent, later-next, three-made, two-made, headed, done}
 use Rattle.parsing.proofs.StatementPlaces.{stay, stayed, back, says-of, word-passed}
 use Rattle.parsing.proofs.SimpleStatements.{exit-none, exit-refused, exit-labelled, exit-marked, exit-mark-refused}
 use Rattle.parsing.proofs.parser.Parser.exit.Goals.{in-Some+in_ok-mark+else-not-branch, in_default}
