@@ -1,7 +1,7 @@
 // Why a text is not tidied.
-ghost use Rattle.std.specs.Prelude.{◌≡◌};
+ghost use Rattle.std.specs.Prelude.{◌≡◌, Some};
 ghost use Rattle.tidy.specs.declared.error.TidyError.TheVariants.{Read, Print};
-ghost use Rattle.tidy.specs.Errors.{error_number, error_place};
+ghost use Rattle.tidy.specs.Errors.{error_number, error_place, error_text};
 
 use printing::PrintError;
 use reading::Refusal;
@@ -39,6 +39,8 @@ impl TidyError {
 }
 
 impl fmt::Display for TidyError {
+    ghost output = { λ e. Some (error_text e) };
+
     fn fmt<W: fmt::Write>(&self, f: &mut fmt::Formatter<W>) -> fmt::Result {
         write!(f, "refused {} at {}", self.number(), self.place())
     }
