@@ -14,7 +14,7 @@ use Rattle.rendering.specs.declared.printer.Printer.{Printer}
 use Rattle.std.specs.Prelude.{Result, Ok, Err}
 use Rattle.tree.specs.Check.{refusal as check_refusal}
 use Rattle.tree.specs.declared.CheckError.{CheckError}
-use Rattle.tree.specs.declared.CheckError.TheVariants.{Misfit as CheckMisfit, TooLong as CheckTooLong}
+use Rattle.tree.specs.declared.CheckError.TheVariants.{Misfit as CheckMisfit, TooManyWords as CheckTooManyWords}
 use Rattle.rendering.specs.declared.PrintError.{PrintError}
 use Rattle.rendering.specs.declared.PrintError.TheVariants.{Oversized, Misfit, TooLong}
 use Rattle.rendering.specs.Errors.{of_check}
@@ -129,7 +129,7 @@ module _ (step : ℕ) (root : Root) (text words b b' : List ℕ) where
     pub refused-table : (e : CheckError) → P.refused words ≡ check_refusal (Err e) → Renders P text words b (Err (of_check e)) b'
     refused-table (CheckMisfit place) e =
         by-held (refused misfitting place) (refuses P text words t (rw (root-indent step text root) i) _ e) (record { error = Misfit place; answers = refl; numbered = refl; placed = refl })
-    refused-table CheckTooLong e =
+    refused-table CheckTooManyWords e =
         by-held (refused oversized 0) (refuses P text words t (rw (root-indent step text root) i) _ e) (record { error = Oversized; answers = refl; numbered = refl; placed = refl })
 
     -- the print of an unrefused table's tree is the answer

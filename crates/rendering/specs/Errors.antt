@@ -2,7 +2,7 @@
 use Rattle.std.specs.Prelude.{ℕ, ◌≡◌, Result, Err}
 use Rattle.tree.specs.Check.{oversized, misfitting}
 use Rattle.tree.specs.declared.CheckError.{CheckError}
-use Rattle.tree.specs.declared.CheckError.TheVariants.{Misfit as CheckMisfit, TooLong as CheckTooLong}
+use Rattle.tree.specs.declared.CheckError.TheVariants.{Misfit as CheckMisfit, TooManyWords as CheckTooManyWords}
 use Rattle.rendering.specs.declared.PrintError.{PrintError}
 use Rattle.rendering.specs.declared.PrintError.TheVariants.{Oversized, Misfit, TooLong}
 
@@ -23,7 +23,7 @@ print_error_place TooLong = 0
 -- the error of a table that the check refuses
 abbrev pub of_check : CheckError → PrintError
 of_check (CheckMisfit place) = Misfit place
-of_check CheckTooLong = Oversized
+of_check CheckTooManyWords = Oversized
 
 -- the answer is a refusal by this number at this place
 pub record Refuses (r : Result ℕ PrintError) (number place : ℕ) : Type 0 where

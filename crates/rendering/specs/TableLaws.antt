@@ -16,7 +16,7 @@ use Rattle.tree.specs.Trees.{Trees, names_in}
 use Rattle.tree.specs.Accepted.{unique}
 use Rattle.tree.specs.Refused.{expression-too-many, expression-misfit, program-too-many, program-misfit}
 use Rattle.std.specs.Prelude.{Ok, Err}
-use Rattle.tree.specs.declared.CheckError.TheVariants.{Misfit, TooLong}
+use Rattle.tree.specs.declared.CheckError.TheVariants.{Misfit, TooManyWords}
 use Rattle.layout.specs.declared.format.ExprFormatOption.{ExprFormatOption}
 use Rattle.rendering.specs.Tables.{most_indent, Printable, expressions, programs, Held, held, refused, tree_of, held_checked, held_by, Holds, HoldsProgram, Within}
 
@@ -132,7 +132,7 @@ module _ (P : Printable) (L : Lawful P) (text words : List ℕ) where
       rw (holds P text words L a.1.0 a.1.1 w) (tree w a.1.0 a.1.1)
   of-check ht hi (Err (Misfit place)) h =
       rw (refuses P text words ht hi _ h) (misfit (record { text-fits = ht; words-fit = L.misfit words place h; indent-fits = hi }) place h)
-  of-check ht hi (Err TooLong) h =
+  of-check ht hi (Err TooManyWords) h =
       let k = L.too_many words h in
       rw (refuses P text words ht hi _ h) (over (λ w. let f = w.words-fit in omega arith))
 

@@ -67,7 +67,7 @@ impl From<CheckError> for PrintError {
     fn from(error: CheckError) -> PrintError {
         match error {
             CheckError::Misfit(place) => PrintError::Misfit(place),
-            CheckError::TooLong => PrintError::Oversized,
+            CheckError::TooManyWords => PrintError::Oversized,
         }
     }
 }

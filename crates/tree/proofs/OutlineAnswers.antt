@@ -14,7 +14,7 @@ use Rattle.tree.specs.Kind.{program_fields}
 use Rattle.tree.specs.Check.{one_tree, Checked, run, within, check_program, Refusal, refusal, program_refusal}
 use Rattle.tree.specs.Outline.{kind_numbers, end_places, filled, unless_refused, program_kinds, program_ends}
 use Rattle.tree.specs.Notes.{kind_notes, end_notes}
-use Rattle.tree.specs.declared.CheckError.TheVariants.{TooLong}
+use Rattle.tree.specs.declared.CheckError.TheVariants.{TooManyWords}
 use Rattle.tree.proofs.AcceptedOutline.{kinds-found, kinds-numbered, ends_found}
 
 module _ (words : List ℕ) (len : ℕ) where
@@ -23,7 +23,7 @@ module _ (words : List ℕ) (len : ℕ) where
   unfolding check_program
   accepted e f = by-test (leb (length words) most_words) refl (sym f ∙ e)
     where
-      by-test : (b : Bool) → leb (length words) most_words ≡ b → cond b (run (within len) program_fields 0 words) (Err TooLong) ≡ one_tree
+      by-test : (b : Bool) → leb (length words) most_words ≡ b → cond b (run (within len) program_fields 0 words) (Err TooManyWords) ≡ one_tree
           → (length words ≤ most_words) × (run (within len) program_fields 0 words ≡ one_tree)
       by-test true h g = (leb-true _ _ h, g)
       by-test false h g = impossible cc

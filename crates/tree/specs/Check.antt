@@ -5,7 +5,7 @@ use Rattle.tree.specs.Limits.{most_words}
 use Rattle.tree.specs.Ast.{Span}
 use Rattle.tree.specs.Kind.{Kind, expr, program_fields, fits, misfit, turn}
 use Rattle.tree.specs.declared.CheckError.{CheckError}
-use Rattle.tree.specs.declared.CheckError.TheVariants.{Misfit, TooLong}
+use Rattle.tree.specs.declared.CheckError.TheVariants.{Misfit, TooManyWords}
 
 -- what the check of a table finds: one tree, or why it is none
 abbrev pub Checked : Type 0
@@ -35,7 +35,7 @@ pub record NameIn (len : ℕ) : Type 0 where
 
 -- the table of these kinds
 abbrev pub check : List Kind → List ℕ → ℕ → Checked
-check ks words len = cond (leb (length words) most_words) (run (within len) ks 0 words) (Err TooLong)
+check ks words len = cond (leb (length words) most_words) (run (within len) ks 0 words) (Err TooManyWords)
 
 -- the table of an expression, and of a program, over a text of that length
 unfoldable pub check_expression : List ℕ → ℕ → Checked
@@ -60,11 +60,11 @@ pub record Refusal : Type 0 where
 -- those of an error
 abbrev pub error_number : CheckError → ℕ
 error_number (Misfit at) = misfitting
-error_number TooLong = oversized
+error_number TooManyWords = oversized
 
 abbrev pub error_place : CheckError → ℕ
 error_place (Misfit at) = at
-error_place TooLong = 0
+error_place TooManyWords = 0
 
 -- the refusal of an answer, none where it is one tree's words
 abbrev pub refusal : Checked → Option Refusal

@@ -9,7 +9,7 @@ use Rattle.tree.specs.Kind.{expr}
 use Rattle.tree.specs.Check.{one_tree, run, check_expression, check_program}
 use Rattle.tree.specs.Trees.{spans, words}
 use Rattle.tree.specs.Walk.{tree-at-word}
-use Rattle.tree.specs.declared.CheckError.TheVariants.{Misfit, TooLong}
+use Rattle.tree.specs.declared.CheckError.TheVariants.{Misfit, TooManyWords}
 
 abbrev span : ℕ → ℕ → Span
 span s l = record { start = s; len = l }
@@ -105,7 +105,7 @@ no-stmt : check_program (procedure_with 2 39) 65 ≡ Err (Misfit 21)
 unfolding check_program run
 no-stmt = refl
 
-too_long : check_expression (replicate 16385 0) 0 ≡ Err TooLong
+too_long : check_expression (replicate 16385 0) 0 ≡ Err TooManyWords
 unfolding check_expression
 too_long = refl
 

@@ -16,7 +16,7 @@ use Rattle.tree.specs.Accepted.{unique}
 use Rattle.tree.specs.Tables.{to_program, from_program}
 use Rattle.tree.specs.Refused.{expression-too-many, expression-misfit, program-too-many, program-misfit}
 use Rattle.tree.specs.Held.{TableKind, expression_tables, program_tables, Held, held, refused, tree_of, held_checked, held_by, program_held, Holds, HoldsProgram, InLimits}
-use Rattle.tree.specs.declared.CheckError.TheVariants.{Misfit, TooLong}
+use Rattle.tree.specs.declared.CheckError.TheVariants.{Misfit, TooManyWords}
 
 -- ---- the two kinds of table
 
@@ -123,7 +123,7 @@ module _ (K : TableKind) (L : Lawful K) (others : Bool) (text words : List ℕ) 
       rw (holds K text words L a.1.0 a.1.1 ht a.0 ho) (tree (keeps (record { text-fits = ht; words-fit = a.0 }) ho) a.1.0 a.1.1)
   of-check ht ho (Err (Misfit place)) h =
       rw (refuses K text words ht ho _ h) (misfit (keeps (record { text-fits = ht; words-fit = L.misfit words place h }) ho) place h)
-  of-check ht ho (Err TooLong) h =
+  of-check ht ho (Err TooManyWords) h =
       let k = L.too_many words h in
       rw (refuses K text words ht ho _ h) (over (λ w. let f = (kept w).0.words-fit in omega arith))
 

@@ -10,7 +10,7 @@ use Rattle.tree.specs.Kind.{Kind, expr, program_fields, Turn, fits, misfit, turn
 use Rattle.tree.specs.Check.{one_tree, Checked, NameIn, within, run, check, check_expression, check_program}
 use Rattle.tree.specs.Trees.{Names, Trees, all_words, spans, names_in}
 use Rattle.tree.specs.Accepted.{sound, complete, unique}
-use Rattle.tree.specs.declared.CheckError.TheVariants.{Misfit, TooLong}
+use Rattle.tree.specs.declared.CheckError.TheVariants.{Misfit, TooManyWords}
 
 -- one tree of each kind in turn, and no more words than the limit
 accepted : (ks : List Kind) (words : List ℕ) (len : ℕ)
@@ -18,7 +18,7 @@ accepted : (ks : List Kind) (words : List ℕ) (len : ℕ)
 accepted ks words len = (to (leb (length words) most_words) refl, λ h. from (leb (length words) most_words) (le-leb _ _ h.0) h.1)
   where
     Answer : Bool → Checked
-    Answer b = cond b (run (within len) ks 0 words) (Err TooLong)
+    Answer b = cond b (run (within len) ks 0 words) (Err TooManyWords)
 
     to : (b : Bool) → leb (length words) most_words ≡ b → Answer b ≡ one_tree
         → (length words ≤ most_words) × ((ts : Trees (names_in len) ks) × (all_words (names_in len) ks ts [] ≡ words))
@@ -80,7 +80,7 @@ run-place inside (k ∷ ks) at (w ∷ ws) p e = by_turn (turn inside k w) e (λ 
 place : (ks : List Kind) (words : List ℕ) (len p : ℕ) → check ks words len ≡ Err (Misfit p) → (p ≤ length words) × (length words ≤ most_words)
 place ks words len p = by-test (leb (length words) most_words) refl
   where
-    by-test : (b : Bool) → leb (length words) most_words ≡ b → cond b (run (within len) ks 0 words) (Err TooLong) ≡ Err (Misfit p) → (p ≤ length words) × (length words ≤ most_words)
+    by-test : (b : Bool) → leb (length words) most_words ≡ b → cond b (run (within len) ks 0 words) (Err TooManyWords) ≡ Err (Misfit p) → (p ≤ length words) × (length words ≤ most_words)
     by-test true h e = let q = run-place (within len) ks 0 words p e in (omega arith, leb-true _ _ h)
     by-test false h e = impossible cc
 

@@ -37,7 +37,7 @@ pub enum CheckError {
     // The words aren't one tree; the place is that of refusal 7.
     Misfit(usize),
     // There are more than `MOST_WORDS` words.
-    TooLong,
+    TooManyWords,
 }
 
 impl CheckError {
@@ -47,7 +47,7 @@ impl CheckError {
     {
         match self {
             CheckError::Misfit(_) => 7,
-            CheckError::TooLong => 6,
+            CheckError::TooManyWords => 6,
         }
     }
 
@@ -57,7 +57,7 @@ impl CheckError {
     {
         match self {
             CheckError::Misfit(place) => place,
-            CheckError::TooLong => 0,
+            CheckError::TooManyWords => 0,
         }
     }
 }
@@ -141,7 +141,7 @@ fn count(
     } else if size <= MOST_WORDS {
         walk_large(table, first, counts, kinds)
     } else {
-        Err(CheckError::TooLong)
+        Err(CheckError::TooManyWords)
     }
 }
 

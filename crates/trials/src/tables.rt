@@ -42,7 +42,7 @@ pub(crate) fn print_checked(to: &mut impl Write, answer: Result<(), CheckError>)
     match answer {
         Ok(()) => print(to, b"tree"),
         Err(CheckError::Misfit(place)) => write!(to, "misfit {place}"),
-        Err(CheckError::TooLong) => print(to, b"too long"),
+        Err(CheckError::TooManyWords) => print(to, b"too long"),
     }
 }
 

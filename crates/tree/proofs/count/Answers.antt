@@ -13,7 +13,7 @@ use Rattle.tree.specs.Kind.{Kind}
 use Rattle.tree.specs.Check.{one_tree, Checked, run, within, check}
 use Rattle.tree.specs.Notes.{kind_notes}
 use Rattle.tree.specs.Tally.{marked, tally, counts}
-use Rattle.tree.specs.declared.CheckError.TheVariants.{TooLong}
+use Rattle.tree.specs.declared.CheckError.TheVariants.{TooManyWords}
 use Rattle.tree.proofs.count.Goals as goal
 
 -- a table that is walked
@@ -25,7 +25,7 @@ module _ (ks : List Kind) (words : List ℕ) (len : ℕ) (before kinds : List �
 
 -- a table that is too long
 unwalked : (ks : List Kind) (words : List ℕ) (len : ℕ) (before kinds : List ℕ) → most_words < length words
-    → (Err TooLong ≡ check ks words len) × (before ≡ counts ks words len before) × (Err TooLong ≡ one_tree → kinds ≡ kind_notes (within len) ks 0 words kinds)
+    → (Err TooManyWords ≡ check ks words len) × (before ≡ counts ks words len before) × (Err TooManyWords ≡ one_tree → kinds ≡ kind_notes (within len) ks 0 words kinds)
 unwalked ks words len before kinds h = (sym (simp (lt-leb (length words) most_words h)), sym (simp (lt-leb (length words) most_words h)), λ e. impossible cc)
 
 pub returns-then-size-lt-SMALL : goal.returns-then-size-lt-SMALL
