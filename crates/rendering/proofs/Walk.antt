@@ -31,6 +31,10 @@ text {s₀} {ws = ws} l p =
       wrote = then l.wrote p.wrote;
     }
 
+-- nothing was written
+pub unwritten : {s : Printer} → Puts (λ r. r) s s
+unwritten {s} = record { source = refl; output = refl; still = refl; wrote = none s.out.now s.pos }
+
 -- bytes that are those, by what they were made of
 pub these : {x y : List ℕ} {s s₁ : Printer} → x ≡ y → Puts (λ r. x ++ r) s s₁ → Puts (λ r. y ++ r) s s₁
 these {s = s} {s₁ = s₁} e p = subst (λ (l : List ℕ). Puts (λ r. l ++ r) s s₁) e p

@@ -2,7 +2,7 @@
 ghost use Rattle.rendering.specs.Parts.{Prints, a_name, name_head, typed_name, id_type, bindings, quantified, closure_parameters};
 ghost use Rattle.rendering.specs.Parts.{a_bool, a_natural, custom_literal, identifier};
 
-use crate::printer::{Printer, either};
+use crate::printer::Printer;
 use tree::word::{FALSE, NO_MORE};
 use tree::{name, natural};
 
@@ -110,8 +110,9 @@ impl Printer<'_> {
     pub(crate) fn identifier(&mut self)
         ensures { Prints identifier self.old self.new }
     {
-        let is_old = self.ahead(2) != FALSE;
-        self.put(either(is_old, b"old ", b""));
+        if self.ahead(2) != FALSE {
+            self.put(b"old ");
+        }
         self.name();
         self.word();
     }
