@@ -15,7 +15,8 @@ impl Printer<'_> {
         self.put(name(self.source.text, start, size));
     }
 
-    // A name, and text after it.
+    // A name, and text after it. Inlined, so that a fixed text is stored without a loop.
+    #[inline(always)]
     pub(crate) fn name_then(&mut self, suffix: &[u8])
         ensures { Prints (name_head suffix.now) self.old self.new }
     {

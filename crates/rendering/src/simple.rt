@@ -38,6 +38,7 @@ impl Printer<'_> {
     }
 
     // `ExpressionStmt`: Check, Assume, Reach, Assert, Probe.
+    #[inline]
     pub(crate) fn expression_stmt(&mut self, keyword: &[u8])
         ensures { Prints (an_expression_stmt keyword.now) self.old self.new }
     {
