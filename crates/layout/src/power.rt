@@ -27,6 +27,7 @@ pub struct BindingPower {
 }
 
 impl TieBreaker {
+    #[inline(always)]
     pub(crate) fn break_tie_in_favor_of_operator(self, context: TieBreaker) -> bool
         ensures { result ≡ BreakTieInFavorOfOperator self context }
     {
@@ -40,6 +41,7 @@ impl TieBreaker {
 
 // Whether the operator pulls more strongly than the context, or as strongly where a tie is its own.
 // Kept: `tie` is the answer of one test, which both sides share, with no value beside it; an enum of two would say no more than this `bool`.
+#[inline(always)]
 fn pulls_more(tie: bool, operator: u16, context: u16) -> bool
     ensures { result ≡ pulls tie operator context }
 {
@@ -63,6 +65,7 @@ impl BindingPower {
         tie_breaker: TieBreaker::OperatorWins,
     };
 
+    #[inline(always)]
     pub fn new(left: u16, right: u16, tie_breaker: TieBreaker) -> BindingPower
         ensures { result ≡ power left right tie_breaker }
     {
@@ -74,6 +77,7 @@ impl BindingPower {
     }
 
     // Whether an operator of this strength needs no parentheses in a context.
+    #[inline(always)]
     #[tactic(auto, unfolding(crate::specs::PrintUtil::WinsOver))]
     pub fn wins_over(self, context: BindingPower) -> bool
         ensures { result ≡ WinsOver self context }
@@ -85,6 +89,7 @@ impl BindingPower {
 
     // This context, or the one inside parentheses.
     // Kept: `wins` is the answer of `wins_over`, with no value beside it, as in `adjusted` of specs.
+    #[inline(always)]
     fn if_not_bracketed(self, wins: bool) -> BindingPower
         ensures { result ≡ adjusted wins self }
     {
@@ -92,6 +97,7 @@ impl BindingPower {
     }
 
     // The context of the operand at a side, where an operator of this strength stands in a context.
+    #[inline(always)]
     #[tactic(auto, unfolding(crate::specs::PrintUtil::SubexpressionPower))]
     pub fn subexpression_power(self, side: Side, context: BindingPower) -> BindingPower
         ensures { result ≡ SubexpressionPower self side context }

@@ -6,6 +6,7 @@ pub mod Render
 pub mod Claims
 pub mod Wrote
 pub mod OperatorWords
+pub mod Settings
 pub mod Parts
 pub mod ExprParts
 pub mod Sequences

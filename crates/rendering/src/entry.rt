@@ -7,8 +7,9 @@ ghost use Rattle.rendering.specs.Parts.{Prints};
 ghost use Rattle.rendering.specs.Render.{rooted, root_indent, root_counts, root_part, Numbered, Renders, Makes};
 
 use crate::printer::{Printer, Source};
+use crate::setting::Setting;
 use crate::{PrintError, Root};
-use layout::{BindingPower, INDENT_AMOUNT};
+use layout::INDENT_AMOUNT;
 use tree::{CheckError, MOST_TEXT, MOST_WORDS, count_expression, count_program};
 
 const MOST_INDENT: usize = 255;
@@ -109,7 +110,7 @@ impl Printer<'_> {
         ensures { Prints (root_part root) self.old self.new }
     {
         match root {
-            Root::AnExpression(format) => self.expr(BindingPower::INIT, format),
+            Root::AnExpression(format) => self.expr(Setting::outermost(format)),
             Root::AProgram => self.program(),
         }
     }

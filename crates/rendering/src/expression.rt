@@ -7,6 +7,7 @@ ghost use Rattle.rendering.specs.ExprParts.{a_form, a_listed, a_unary, a_binary,
 
 use crate::operator::{argument_count, binding_strength, breaks_line, spelling};
 use crate::printer::Printer;
+use crate::setting::Setting;
 use layout::{BindingPower, ExprFormatOption, Side};
 use tree::word::{ExprTag, Operator};
 
@@ -14,121 +15,110 @@ impl Printer<'_> {
     // An expression.
     // Kept: the arm is chosen by a word of the table, which decides at once; no step is handed down.
     #[cycle(expression)]
-    pub(crate) fn expr(&mut self, context: BindingPower, format: ExprFormatOption)
-        ensures { Prints (an_expr context format) self.old self.new }
+    pub(crate) fn expr(&mut self, setting: Setting)
+        ensures { Prints (an_expr setting.context setting.format) self.old self.new }
     {
         match ExprTag::from_word(self.word()) {
             Some(ExprTag::BLiteral) => self.bool_literal(),
             Some(ExprTag::ILiteral) => self.natural_literal(),
             Some(ExprTag::CustomLiteral) => self.custom_literal(),
             Some(ExprTag::IdExpr) => self.identifier(),
-            Some(ExprTag::OperatorExpr) => self.operator_expr(context, format),
+            Some(ExprTag::OperatorExpr) => self.operator_expr(setting),
             Some(ExprTag::FunctionCallExpr) => self.call_expr(),
-            Some(ExprTag::LabeledExpr) => self.labeled_expr(context, format),
-            Some(ExprTag::LetExpr) => self.let_expr(context, format),
-            Some(ExprTag::QuantifierExpr) => self.quantifier_expr(context, format),
+            Some(ExprTag::LabeledExpr) => self.labeled_expr(setting),
+            Some(ExprTag::LetExpr) => self.let_expr(setting),
+            Some(ExprTag::QuantifierExpr) => self.quantifier_expr(setting),
             Some(ExprTag::ClosureExpr) => self.closure_expr(),
             None => {}
         }
     }
 
     #[cycle(expression)]
-    fn operator_expr(&mut self, context: BindingPower, format: ExprFormatOption)
-        ensures { Prints (an_operator_expr context format) self.old self.new }
+    fn operator_expr(&mut self, setting: Setting)
+        ensures { Prints (an_operator_expr setting.context setting.format) self.old self.new }
     {
         if let Some(op) = Operator::from_word(self.word()) {
             let strength = binding_strength(op);
-            self.parenthesis(strength, Side::Left, context);
-            self.operands(op, context, format);
-            self.parenthesis(strength, Side::Right, context);
+            self.parenthesis(strength, Side::Left, setting.context);
+            self.operands(op, setting);
+            self.parenthesis(strength, Side::Right, setting.context);
         }
     }
 
     // The alternative of an operator by the number of its operands.
     #[cycle(expression)]
-    fn operands(&mut self, op: Operator, context: BindingPower, format: ExprFormatOption)
-        ensures { Prints (a_form op context format) self.old self.new }
+    fn operands(&mut self, op: Operator, setting: Setting)
+        ensures { Prints (a_form op setting.context setting.format) self.old self.new }
     {
         let count = self.count();
         if count != argument_count(op) {
             return self.listed(op);
         }
         match count {
-            1 => self.unary(op, context),
-            2 => self.binary(op, context, format),
-            _ => self.conditional(op, context, format),
+            1 => self.unary(op, setting),
+            2 => self.binary(op, setting),
+            _ => self.conditional(op, setting),
         }
     }
 
     #[cycle(expression)]
-    fn unary(&mut self, op: Operator, context: BindingPower)
-        ensures { Prints (a_unary op context) self.old self.new }
+    fn unary(&mut self, op: Operator, setting: Setting)
+        ensures { Prints (a_unary op setting.context) self.old self.new }
     {
         self.put(spelling(op));
         self.word();
-        let right = binding_strength(op).subexpression_power(Side::Right, context);
-        self.expr(right, ExprFormatOption::SingleLine);
+        let flat = setting.in_format(ExprFormatOption::SingleLine);
+        self.expr(flat.operand(binding_strength(op), Side::Right));
         self.word();
     }
 
     #[cycle(expression)]
-    fn binary(&mut self, op: Operator, context: BindingPower, format: ExprFormatOption)
-        ensures { Prints (a_binary op context format) self.old self.new }
+    fn binary(&mut self, op: Operator, setting: Setting)
+        ensures { Prints (a_binary op setting.context setting.format) self.old self.new }
     {
         let strength = binding_strength(op);
+        let flat = setting.in_format(ExprFormatOption::SingleLine);
         self.word();
-        let left = strength.subexpression_power(Side::Left, context);
-        self.expr(left, ExprFormatOption::SingleLine);
-        let broken = ExprFormatOption::choose(
-            breaks_line(op),
-            format,
-            ExprFormatOption::SingleLine,
-        );
+        self.expr(flat.operand(strength, Side::Left));
+        let broken = ExprFormatOption::choose(breaks_line(op), setting.format, flat.format);
         self.put(b" ");
         self.put(spelling(op));
         self.space(broken);
         self.word();
-        let right = strength.subexpression_power(Side::Right, context);
-        self.expr(right, broken);
+        self.expr(setting.in_format(broken).operand(strength, Side::Right));
         self.word();
     }
 
     // IfThenElse of three operands.
     #[cycle(expression)]
-    fn conditional(&mut self, op: Operator, context: BindingPower, format: ExprFormatOption)
-        ensures { Prints (a_conditional op context format) self.old self.new }
+    fn conditional(&mut self, op: Operator, setting: Setting)
+        ensures { Prints (a_conditional op setting.context setting.format) self.old self.new }
     {
-        let deeper = format.more(self.source.step);
+        let deeper = setting.format.more(self.source.step);
         self.put(b"if ");
         self.word();
-        self.expr(BindingPower::INIT, ExprFormatOption::SingleLine);
+        self.expr(Setting::INLINE);
         self.space(deeper);
         self.word();
-        self.expr(BindingPower::INIT, deeper);
-        self.space(format);
+        self.expr(Setting::outermost(deeper));
+        self.space(setting.format);
         self.put(b"else");
         self.word();
-        let right = binding_strength(op).subexpression_power(Side::Right, context);
-        self.else_branch(right, format, deeper);
+        self.else_branch(setting.operand(binding_strength(op), Side::Right), deeper);
         self.word();
     }
 
     // The expression after `else`: an IfThenElse stays on the line.
     #[cycle(expression)]
-    fn else_branch(
-        &mut self,
-        context: BindingPower,
-        format: ExprFormatOption,
-        deeper: ExprFormatOption,
-    )
-        ensures { Prints (an_else context format deeper) self.old self.new }
+    fn else_branch(&mut self, setting: Setting, deeper: ExprFormatOption)
+        ensures { Prints (an_else setting.context setting.format deeper) self.old self.new }
     {
         if self.is_if() {
             self.put(b" ");
-            self.expr(context, format);
+            self.expr(setting);
         } else {
             self.space(deeper);
-            self.expr(context, deeper);
+            self.expr(setting.in_format(deeper));
         }
     }
 
@@ -136,7 +126,8 @@ impl Printer<'_> {
     fn is_if(&self) -> bool
         ensures { IsIf self.now result }
     {
-        self.ahead(0) == ExprTag::OperatorExpr as u32 && self.ahead(1) == Operator::IfThenElse as u32
+        self.ahead(0) == ExprTag::OperatorExpr as u32
+            && self.ahead(1) == Operator::IfThenElse as u32
     }
 
     // `op(args)`.
@@ -160,42 +151,39 @@ impl Printer<'_> {
     }
 
     #[cycle(expression)]
-    fn labeled_expr(&mut self, context: BindingPower, format: ExprFormatOption)
-        ensures { Prints (a_label context format) self.old self.new }
+    fn labeled_expr(&mut self, setting: Setting)
+        ensures { Prints (a_label setting.context setting.format) self.old self.new }
     {
-        self.parenthesis(BindingPower::ENDLESS_OPERATOR, Side::Left, context);
+        self.parenthesis(BindingPower::ENDLESS_OPERATOR, Side::Left, setting.context);
         self.name_then(b": ");
-        let right = BindingPower::ENDLESS_OPERATOR.subexpression_power(Side::Right, context);
-        self.expr(right, format);
-        self.parenthesis(BindingPower::ENDLESS_OPERATOR, Side::Right, context);
+        self.expr(setting.operand(BindingPower::ENDLESS_OPERATOR, Side::Right));
+        self.parenthesis(BindingPower::ENDLESS_OPERATOR, Side::Right, setting.context);
     }
 
     #[cycle(expression)]
-    fn let_expr(&mut self, context: BindingPower, format: ExprFormatOption)
-        ensures { Prints (a_let context format) self.old self.new }
+    fn let_expr(&mut self, setting: Setting)
+        ensures { Prints (a_let setting.context setting.format) self.old self.new }
     {
-        self.parenthesis(BindingPower::ENDLESS_OPERATOR, Side::Left, context);
+        self.parenthesis(BindingPower::ENDLESS_OPERATOR, Side::Left, setting.context);
         self.id_type(b"val ");
         self.put(b" := ");
-        self.expr(BindingPower::INIT, ExprFormatOption::SingleLine);
-        self.space(format);
-        let right = BindingPower::ENDLESS_OPERATOR.subexpression_power(Side::Right, context);
-        self.expr(right, format);
-        self.parenthesis(BindingPower::ENDLESS_OPERATOR, Side::Right, context);
+        self.expr(Setting::INLINE);
+        self.space(setting.format);
+        self.expr(setting.operand(BindingPower::ENDLESS_OPERATOR, Side::Right));
+        self.parenthesis(BindingPower::ENDLESS_OPERATOR, Side::Right, setting.context);
     }
 
     #[cycle(expression)]
-    fn quantifier_expr(&mut self, context: BindingPower, format: ExprFormatOption)
-        ensures { Prints (a_quantifier context format) self.old self.new }
+    fn quantifier_expr(&mut self, setting: Setting)
+        ensures { Prints (a_quantifier setting.context setting.format) self.old self.new }
     {
-        let deeper = format.more(self.source.step);
-        self.parenthesis(BindingPower::ENDLESS_OPERATOR, Side::Left, context);
+        let deeper = setting.in_format(setting.format.more(self.source.step));
+        self.parenthesis(BindingPower::ENDLESS_OPERATOR, Side::Left, setting.context);
         self.quantified();
-        self.patterns(deeper);
-        self.space(deeper);
-        let right = BindingPower::ENDLESS_OPERATOR.subexpression_power(Side::Right, context);
-        self.expr(right, deeper);
-        self.parenthesis(BindingPower::ENDLESS_OPERATOR, Side::Right, context);
+        self.patterns(deeper.format);
+        self.space(deeper.format);
+        self.expr(deeper.operand(BindingPower::ENDLESS_OPERATOR, Side::Right));
+        self.parenthesis(BindingPower::ENDLESS_OPERATOR, Side::Right, setting.context);
     }
 
     #[cycle(expression)]

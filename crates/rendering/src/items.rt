@@ -6,7 +6,7 @@ ghost use Rattle.rendering.specs.Sequences.{Calls, Moves, Optionally, Repeatedly
 ghost use Rattle.rendering.specs.StmtParts.{one_line, mode_bytes, typed_apart, an_argument, a_formal, a_parameter};
 
 use crate::printer::{Printer, either};
-use layout::{BindingPower, ExprFormatOption};
+use crate::setting::Setting;
 use tree::word::{FALSE, Mode, NO_MORE};
 
 // `ParameterMode`.
@@ -58,7 +58,7 @@ impl Printer<'_> {
     pub(crate) fn inline(&mut self)
         ensures { Prints one_line self.old self.new }
     {
-        self.expr(BindingPower::INIT, ExprFormatOption::SingleLine);
+        self.expr(Setting::INLINE);
     }
 
     pub(crate) fn argument(&mut self)

@@ -9,6 +9,7 @@ mod operator;
 mod parts;
 mod printer;
 mod program;
+mod setting;
 mod simple;
 mod statement;
 

@@ -4,7 +4,8 @@ ghost use Rattle.rendering.specs.Sequences.{one};
 ghost use Rattle.rendering.specs.DeclParts.{a_program, a_type_decl, a_tagger_decl, a_function_decl, an_axiom_decl, a_procedure, broken, a_when, when_list, a_definition, a_body};
 
 use crate::printer::Printer;
-use layout::{BindingPower, ExprFormatOption};
+use crate::setting::Setting;
+use layout::ExprFormatOption;
 
 impl Printer<'_> {
     // `Program`: the declarations of each kind, an empty line before each.
@@ -78,7 +79,7 @@ impl Printer<'_> {
     {
         let step = self.source.step;
         self.indent(step);
-        self.expr(BindingPower::INIT, ExprFormatOption::MultipleLines(step));
+        self.expr(Setting::outermost(ExprFormatOption::MultipleLines(step)));
     }
 
     fn axiom_decl(&mut self)

@@ -4,7 +4,8 @@ ghost use Rattle.rendering.specs.Parts.{Prints};
 ghost use Rattle.rendering.specs.ExprParts.{expression_list, pattern_list, trigger_list, closure_list, property_list};
 
 use crate::printer::{Printer, either};
-use layout::{BindingPower, ExprFormatOption};
+use crate::setting::Setting;
+use layout::ExprFormatOption;
 use tree::word::NO_MORE;
 
 impl Printer<'_> {
@@ -17,7 +18,7 @@ impl Printer<'_> {
         while self.word() != NO_MORE {
             self.put(separator);
             separator = b", ";
-            self.expr(BindingPower::INIT, ExprFormatOption::SingleLine);
+            self.expr(Setting::INLINE);
         }
     }
 
@@ -57,7 +58,7 @@ impl Printer<'_> {
             self.name();
             self.parameters();
             self.put(b" := ");
-            self.expr(BindingPower::INIT, ExprFormatOption::SingleLine);
+            self.expr(Setting::INLINE);
         }
     }
 
@@ -73,7 +74,7 @@ impl Printer<'_> {
             let is_bare = self.is_at_end();
             self.triggers();
             self.put(either(is_bare, b"", b":: "));
-            self.expr(BindingPower::INIT, ExprFormatOption::SingleLine);
+            self.expr(Setting::INLINE);
         }
     }
 }

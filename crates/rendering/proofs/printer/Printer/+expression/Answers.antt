@@ -21,55 +21,55 @@ use Rattle.rendering.proofs.printer.Printer.+expression.Goals as goal
 -- ---- an expression by its first word
 
 pub expr-returns-in-Some-BLiteral : goal.expr-returns-in-Some-BLiteral
-expr-returns-in-Some-BLiteral t c = prints (cc) (cc) (omega arith) (is-bool c.word.ensures c.from_word.ensures c.args.context c.args.format c.in-Some-BLiteral.is c.in-Some-BLiteral.field-0-is c.bool_literal.ensures)
+expr-returns-in-Some-BLiteral t c = prints (cc) (cc) (omega arith) (is-bool c.word.ensures c.from_word.ensures c.args.setting.context c.args.setting.format c.in-Some-BLiteral.is c.in-Some-BLiteral.field-0-is c.bool_literal.ensures)
 
 pub expr-returns-in-Some-ILiteral : goal.expr-returns-in-Some-ILiteral
-expr-returns-in-Some-ILiteral t c = prints (cc) (cc) (omega arith) (is-natural c.word.ensures c.from_word.ensures c.args.context c.args.format c.in-Some-ILiteral.is c.in-Some-ILiteral.field-0-is c.natural_literal.ensures)
+expr-returns-in-Some-ILiteral t c = prints (cc) (cc) (omega arith) (is-natural c.word.ensures c.from_word.ensures c.args.setting.context c.args.setting.format c.in-Some-ILiteral.is c.in-Some-ILiteral.field-0-is c.natural_literal.ensures)
 
 pub expr-returns-in-Some-CustomLiteral : goal.expr-returns-in-Some-CustomLiteral
-expr-returns-in-Some-CustomLiteral t c = prints (cc) (cc) (omega arith) (is-custom c.word.ensures c.from_word.ensures c.args.context c.args.format c.in-Some-CustomLiteral.is c.in-Some-CustomLiteral.field-0-is c.custom_literal.ensures)
+expr-returns-in-Some-CustomLiteral t c = prints (cc) (cc) (omega arith) (is-custom c.word.ensures c.from_word.ensures c.args.setting.context c.args.setting.format c.in-Some-CustomLiteral.is c.in-Some-CustomLiteral.field-0-is c.custom_literal.ensures)
 
 pub expr-returns-in-Some-IdExpr : goal.expr-returns-in-Some-IdExpr
-expr-returns-in-Some-IdExpr t c = prints (cc) (cc) (omega arith) (is-identifier c.word.ensures c.from_word.ensures c.args.context c.args.format c.in-Some-IdExpr.is c.in-Some-IdExpr.field-0-is c.identifier.ensures)
+expr-returns-in-Some-IdExpr t c = prints (cc) (cc) (omega arith) (is-identifier c.word.ensures c.from_word.ensures c.args.setting.context c.args.setting.format c.in-Some-IdExpr.is c.in-Some-IdExpr.field-0-is c.identifier.ensures)
 
 pub expr-returns-in-Some-OperatorExpr : goal.expr-returns-in-Some-OperatorExpr
-expr-returns-in-Some-OperatorExpr t c = prints (cc) (cc) (omega arith) (is-operator c.word.ensures c.from_word.ensures c.args.context c.args.format c.in-Some-OperatorExpr.is c.in-Some-OperatorExpr.field-0-is c.operator_expr.ensures)
+expr-returns-in-Some-OperatorExpr t c = prints (cc) (cc) (omega arith) (is-operator c.word.ensures c.from_word.ensures c.args.setting.context c.args.setting.format c.in-Some-OperatorExpr.is c.in-Some-OperatorExpr.field-0-is c.operator_expr.ensures)
 
 pub expr-operator_expr-requires : goal.expr-operator_expr-requires
 expr-operator_expr-requires t c = (let p = tagged c.word.ensures c.from_word.ensures c.in-Some-OperatorExpr.is in omega arith, tt)
 
 pub expr-returns-in-Some-FunctionCallExpr : goal.expr-returns-in-Some-FunctionCallExpr
-expr-returns-in-Some-FunctionCallExpr t c = prints (cc) (cc) (omega arith) (is-call c.word.ensures c.from_word.ensures c.args.context c.args.format c.in-Some-FunctionCallExpr.is c.in-Some-FunctionCallExpr.field-0-is c.call_expr.ensures)
+expr-returns-in-Some-FunctionCallExpr t c = prints (cc) (cc) (omega arith) (is-call c.word.ensures c.from_word.ensures c.args.setting.context c.args.setting.format c.in-Some-FunctionCallExpr.is c.in-Some-FunctionCallExpr.field-0-is c.call_expr.ensures)
 
 pub expr-call_expr-requires : goal.expr-call_expr-requires
 expr-call_expr-requires t c = (let p = tagged c.word.ensures c.from_word.ensures c.in-Some-FunctionCallExpr.is in omega arith, tt)
 
 pub expr-returns-in-Some-LabeledExpr : goal.expr-returns-in-Some-LabeledExpr
-expr-returns-in-Some-LabeledExpr t c = prints (cc) (cc) (omega arith) (is-label c.word.ensures c.from_word.ensures c.args.context c.args.format c.in-Some-LabeledExpr.is c.in-Some-LabeledExpr.field-0-is c.labeled_expr.ensures)
+expr-returns-in-Some-LabeledExpr t c = prints (cc) (cc) (omega arith) (is-label c.word.ensures c.from_word.ensures c.args.setting.context c.args.setting.format c.in-Some-LabeledExpr.is c.in-Some-LabeledExpr.field-0-is c.labeled_expr.ensures)
 
 pub expr-labeled_expr-requires : goal.expr-labeled_expr-requires
 expr-labeled_expr-requires t c = (let p = tagged c.word.ensures c.from_word.ensures c.in-Some-LabeledExpr.is in omega arith, tt)
 
 pub expr-returns-in-Some-LetExpr : goal.expr-returns-in-Some-LetExpr
-expr-returns-in-Some-LetExpr t c = prints (cc) (cc) (omega arith) (is-let c.word.ensures c.from_word.ensures c.args.context c.args.format c.in-Some-LetExpr.is c.in-Some-LetExpr.field-0-is c.let_expr.ensures)
+expr-returns-in-Some-LetExpr t c = prints (cc) (cc) (omega arith) (is-let c.word.ensures c.from_word.ensures c.args.setting.context c.args.setting.format c.in-Some-LetExpr.is c.in-Some-LetExpr.field-0-is c.let_expr.ensures)
 
 pub expr-let_expr-requires : goal.expr-let_expr-requires
 expr-let_expr-requires t c = (let p = tagged c.word.ensures c.from_word.ensures c.in-Some-LetExpr.is in omega arith, tt)
 
 pub expr-returns-in-Some-QuantifierExpr : goal.expr-returns-in-Some-QuantifierExpr
-expr-returns-in-Some-QuantifierExpr t c = prints (cc) (cc) (omega arith) (is-quantifier c.word.ensures c.from_word.ensures c.args.context c.args.format c.in-Some-QuantifierExpr.is c.in-Some-QuantifierExpr.field-0-is c.quantifier_expr.ensures)
+expr-returns-in-Some-QuantifierExpr t c = prints (cc) (cc) (omega arith) (is-quantifier c.word.ensures c.from_word.ensures c.args.setting.context c.args.setting.format c.in-Some-QuantifierExpr.is c.in-Some-QuantifierExpr.field-0-is c.quantifier_expr.ensures)
 
 pub expr-quantifier_expr-requires : goal.expr-quantifier_expr-requires
 expr-quantifier_expr-requires t c = (let p = tagged c.word.ensures c.from_word.ensures c.in-Some-QuantifierExpr.is in omega arith, tt)
 
 pub expr-returns-in-Some-ClosureExpr : goal.expr-returns-in-Some-ClosureExpr
-expr-returns-in-Some-ClosureExpr t c = prints (cc) (cc) (omega arith) (is-closure c.word.ensures c.from_word.ensures c.args.context c.args.format c.in-Some-ClosureExpr.is c.in-Some-ClosureExpr.field-0-is c.closure_expr.ensures)
+expr-returns-in-Some-ClosureExpr t c = prints (cc) (cc) (omega arith) (is-closure c.word.ensures c.from_word.ensures c.args.setting.context c.args.setting.format c.in-Some-ClosureExpr.is c.in-Some-ClosureExpr.field-0-is c.closure_expr.ensures)
 
 pub expr-closure_expr-requires : goal.expr-closure_expr-requires
 expr-closure_expr-requires t c = (let p = tagged c.word.ensures c.from_word.ensures c.in-Some-ClosureExpr.is in omega arith, tt)
 
 pub expr-returns-in-None : goal.expr-returns-in-None
-expr-returns-in-None t c = prints (cc) (cc) (omega arith) (is-none c.word.ensures c.from_word.ensures c.args.context c.args.format c.in-None.is)
+expr-returns-in-None t c = prints (cc) (cc) (omega arith) (is-none c.word.ensures c.from_word.ensures c.args.setting.context c.args.setting.format c.in-None.is)
 
 -- ---- operators
 
@@ -82,7 +82,7 @@ operator_expr-returns-in-Some t c =
     let strength = c.binding_strength-strength.ensures in
     let left = text (word (begin d) c.word.ensures) (rw strength at c.parenthesis.ensures) in
     let operands = part c.operands.ensures a.1 (ready g.0 (omega arith) (omega arith), g.1) left in
-    as-print (ap (λ (o : Operator). Expression (named c.args.self.now.source) c.args.self.now.source.step (OperatorExpr o a.1) c.args.context c.args.format) e) (done (text operands (rw strength at c.parenthesis-in-Some.ensures))))
+    as-print (ap (λ (o : Operator). Expression (named c.args.self.now.source) c.args.self.now.source.step (OperatorExpr o a.1) c.args.setting.context c.args.setting.format) e) (done (text operands (rw strength at c.parenthesis-in-Some.ensures))))
 
 pub operator_expr-returns-in_default : goal.operator_expr-returns-in_default
 operator_expr-returns-in_default t c =
@@ -97,33 +97,33 @@ operands-returns-then-count-argument_count t c =
     prints (cc) (cc) (omega arith)
     (λ es rest g d.
     let n = noted-operands c.count-count.ensures es rest d g.1.0 in
-    as-print (listed-form c.args.self.now.source (as_operator c.args.op) c.args.context c.args.format es (λ e. c.if-count-argument_count.true (n ∙ e ∙ sym c.argument_count.ensures)))
+    as-print (listed-form c.args.self.now.source (as_operator c.args.op) c.args.setting.context c.args.setting.format es (λ e. c.if-count-argument_count.true (n ∙ e ∙ sym c.argument_count.ensures)))
     (done (part c.listed.ensures es (ready g.0 (omega arith) (omega arith), g.1) (begin d))))
 
-one : (t : _) (c : goal.operands-After-unary t) → Told (a_form c.args.op c.args.context c.args.format) c.args.self.now c.unary.new.self
+one : (t : _) (c : goal.operands-After-unary t) → Told (a_form c.args.op c.args.setting.context c.args.setting.format) c.args.self.now c.unary.new.self
 one _ c no_exprs rest g d = absurd (let n = noted-operands c.count-count.ensures no_exprs rest d g.1.0 in omega arith)
 one _ c (◌then◌ a no_exprs) rest g d =
-    as-print (unary-form c.args.self.now.source (as_operator c.args.op) c.args.context c.args.format a (sym c.argument_count.ensures ∙ sym c.if-count-argument_count.false ∙ c.in-1.is))
+    as-print (unary-form c.args.self.now.source (as_operator c.args.op) c.args.setting.context c.args.setting.format a (sym c.argument_count.ensures ∙ sym c.if-count-argument_count.false ∙ c.in-1.is))
     (done (part c.unary.ensures a (ready g.0 (omega arith) (omega arith), g.1) (begin d)))
 one _ c (◌then◌ a (◌then◌ b es)) rest g d = absurd (let n = noted-operands c.count-count.ensures (◌then◌ a (◌then◌ b es)) rest d g.1.0 in omega arith)
 
-two : (t : _) (c : goal.operands-After-binary t) → Told (a_form c.args.op c.args.context c.args.format) c.args.self.now c.binary.new.self
+two : (t : _) (c : goal.operands-After-binary t) → Told (a_form c.args.op c.args.setting.context c.args.setting.format) c.args.self.now c.binary.new.self
 two _ c no_exprs rest g d = absurd (let n = noted-operands c.count-count.ensures no_exprs rest d g.1.0 in omega arith)
 two _ c (◌then◌ a no_exprs) rest g d = absurd (let n = noted-operands c.count-count.ensures (◌then◌ a no_exprs) rest d g.1.0 in omega arith)
 two _ c (◌then◌ a (◌then◌ b no_exprs)) rest g d =
-    as-print (binary-form c.args.self.now.source (as_operator c.args.op) c.args.context c.args.format a b (sym c.argument_count.ensures ∙ sym c.if-count-argument_count.false ∙ c.in-2.is))
+    as-print (binary-form c.args.self.now.source (as_operator c.args.op) c.args.setting.context c.args.setting.format a b (sym c.argument_count.ensures ∙ sym c.if-count-argument_count.false ∙ c.in-2.is))
     (done (part c.binary.ensures (a, b) (ready g.0 (omega arith) (omega arith), g.1) (begin d)))
 two _ c (◌then◌ a (◌then◌ b (◌then◌ e es))) rest g d = absurd (let n = noted-operands c.count-count.ensures (◌then◌ a (◌then◌ b (◌then◌ e es))) rest d g.1.0 in omega arith)
 
 three-taken : (t : _) (c : goal.operands-After-conditional t) → ArgumentCount (as_operator c.args.op) ≡ 3
 three-taken _ c = takes-three (as_operator c.args.op) (λ e. omega (arith, e)) (λ e. omega (arith, e))
 
-three : (t : _) (c : goal.operands-After-conditional t) → Told (a_form c.args.op c.args.context c.args.format) c.args.self.now c.conditional.new.self
+three : (t : _) (c : goal.operands-After-conditional t) → Told (a_form c.args.op c.args.setting.context c.args.setting.format) c.args.self.now c.conditional.new.self
 three _ c no_exprs rest g d = absurd (let n = noted-operands c.count-count.ensures no_exprs rest d g.1.0 in let k = three-taken _ c in omega arith)
 three _ c (◌then◌ a no_exprs) rest g d = absurd (let n = noted-operands c.count-count.ensures (◌then◌ a no_exprs) rest d g.1.0 in let k = three-taken _ c in omega arith)
 three _ c (◌then◌ a (◌then◌ b no_exprs)) rest g d = absurd (let n = noted-operands c.count-count.ensures (◌then◌ a (◌then◌ b no_exprs)) rest d g.1.0 in let k = three-taken _ c in omega arith)
 three _ c (◌then◌ a (◌then◌ b (◌then◌ e no_exprs))) rest g d =
-    as-print (conditional-form c.args.self.now.source (as_operator c.args.op) c.args.context c.args.format a b e (three-taken _ c))
+    as-print (conditional-form c.args.self.now.source (as_operator c.args.op) c.args.setting.context c.args.setting.format a b e (three-taken _ c))
     (done (part c.conditional.ensures (a, b, e) (ready g.0 (omega arith) (omega arith), g.1) (begin d)))
 three _ c (◌then◌ a (◌then◌ b (◌then◌ e (◌then◌ f es)))) rest g d = absurd (let n = noted-operands c.count-count.ensures (◌then◌ a (◌then◌ b (◌then◌ e (◌then◌ f es)))) rest d g.1.0 in let k = three-taken _ c in omega arith)
 
@@ -142,7 +142,7 @@ unary-returns t c =
     prints (cc) (cc) (omega arith)
     (λ a rest g d.
     let sign = text (begin d) (these c.spelling.ensures c.put.ensures) in
-    let operand = part (rw (c.subexpression_power-right.ensures, c.binding_strength.ensures) at c.expr.ensures) a (ready g.0 (omega arith) (omega arith), g.1.1.0) (word sign c.word.ensures) in
+    let operand = part (rw (c.operand.ensures, c.in_format-flat.ensures, c.binding_strength.ensures) at c.expr.ensures) a (ready g.0 (omega arith) (omega arith), g.1.1.0) (word sign c.word.ensures) in
     done (word operand c.word-2.ensures))
 
 pub binary-returns : goal.binary-returns
@@ -151,24 +151,24 @@ binary-returns t c =
     prints (cc) (cc) (omega arith)
     (λ a rest g d.
     let strength = c.binding_strength-strength.ensures in
-    let i = right-indent (as_operator c.args.op) c.args.format in
-    let broken : c.choose-broken.result ≡ right_format (as_operator c.args.op) c.args.format = c.choose-broken.ensures ∙ ap (λ (v : Bool). pick v c.args.format SingleLine) c.breaks_line.ensures in
-    let left = part (rw (c.subexpression_power-left.ensures, strength) at c.expr.ensures) a.0 (ready g.0 (omega arith) (omega arith), g.1.1.0) (word (begin d) c.word.ensures) in
+    let i = right-indent (as_operator c.args.op) c.args.setting.format in
+    let broken : c.choose-broken.result ≡ right_format (as_operator c.args.op) c.args.setting.format = rw c.in_format-flat.ensures at c.choose-broken.ensures ∙ ap (λ (v : Bool). pick v c.args.setting.format SingleLine) c.breaks_line.ensures in
+    let left = part (rw (c.operand.ensures, c.in_format-flat.ensures, strength) at c.expr.ensures) a.0 (ready g.0 (omega arith) (omega arith), g.1.1.0) (word (begin d) c.word.ensures) in
     let sign = text (text (text left c.put.ensures) (these c.spelling.ensures c.put-2.ensures)) (rw broken at c.space.ensures) in
-    let right = part (rw (c.subexpression_power-right.ensures, strength, broken) at c.expr-2.ensures) a.1 (ready g.0 (omega arith) (omega arith), g.1.1.1.0) (word sign c.word-2.ensures) in
-    as-print (binary-print c.args.self.now.source (as_operator c.args.op) c.args.context c.args.format a.0 a.1) (done (word right c.word-3.ensures)))
+    let right = part (rw (c.operand-2.ensures, c.in_format.ensures, strength, broken) at c.expr-2.ensures) a.1 (ready g.0 (omega arith) (omega arith), g.1.1.1.0) (word sign c.word-2.ensures) in
+    as-print (binary-print c.args.self.now.source (as_operator c.args.op) c.args.setting.context c.args.setting.format a.0 a.1) (done (word right c.word-3.ensures)))
 
 pub conditional-returns : goal.conditional-returns
 conditional-returns t c =
     prints (cc) (cc) (omega arith)
     (λ a rest g d.
-    let e = c.more-deeper.ensures ∙ deeper-is c.args.format g.0 (inside (begin {s = c.args.self.now} d)) in
-    let i = more-indent c.args.self.now.source.step c.args.format in
+    let e = c.more-deeper.ensures ∙ deeper-is c.args.setting.format g.0 (inside (begin {s = c.args.self.now} d)) in
+    let i = more-indent c.args.self.now.source.step c.args.setting.format in
     let test = part c.expr.ensures a.0 (ready g.0 (omega arith) (omega arith), g.1.1.0) (word (text (begin d) c.put.ensures) c.word.ensures) in
-    let first = part (rw e at c.expr-2.ensures) a.1 (ready g.0 (omega arith) (omega arith), g.1.1.1.0) (word (text test (rw e at c.space.ensures)) c.word-2.ensures) in
+    let first = part (rw (c.outermost.ensures, e) at c.expr-2.ensures) a.1 (ready g.0 (omega arith) (omega arith), g.1.1.1.0) (word (text test (rw e at c.space.ensures)) c.word-2.ensures) in
     let other = word (text (text first c.space-2.ensures) c.put-2.ensures) c.word-3.ensures in
-    let second = part (rw (c.subexpression_power-right.ensures, c.binding_strength.ensures, e) at c.else_branch.ensures) a.2
-    (ready g.0 (omega arith) (omega arith), (more-least c.args.self.now.source.step c.args.format, g.1.1.1.1.0)) other in
+    let second = part (rw (c.operand.ensures, c.binding_strength.ensures, e) at c.else_branch.ensures) a.2
+    (ready g.0 (omega arith) (omega arith), (more-least c.args.self.now.source.step c.args.setting.format, g.1.1.1.1.0)) other in
     done (word second c.word-4.ensures))
 
 pub else_branch-returns-then-is_if : goal.else_branch-returns-then-is_if
@@ -176,15 +176,15 @@ else_branch-returns-then-is_if t c =
     prints (cc) (cc) (omega arith)
     (λ e rest g d.
     let h = g.1.0 in
-    as-print (ap (λ (v : Bool). else_branch v (operand c.args.self.now.source e) c.args.context c.args.format c.args.deeper) (c.if-is_if.ensures.tells e rest d))
+    as-print (ap (λ (v : Bool). else_branch v (operand c.args.self.now.source e) c.args.setting.context c.args.setting.format c.args.deeper) (c.if-is_if.ensures.tells e rest d))
     (done (part c.expr.ensures e (ready g.0 (omega arith) (omega arith), g.1.1) (text (begin d) c.put.ensures))))
 
 pub else_branch-returns-else-is_if : goal.else_branch-returns-else-is_if
 else_branch-returns-else-is_if t c =
     prints (cc) (cc) (omega arith)
     (λ e rest g d.
-    as-print (ap (λ (v : Bool). else_branch v (operand c.args.self.now.source e) c.args.context c.args.format c.args.deeper) (c.if-is_if.ensures.tells e rest d))
-    (done (part c.expr-else-is_if.ensures e (ready g.0 (omega arith) (omega arith), g.1.1) (text (begin d) c.space.ensures))))
+    as-print (ap (λ (v : Bool). else_branch v (operand c.args.self.now.source e) c.args.setting.context c.args.setting.format c.args.deeper) (c.if-is_if.ensures.tells e rest d))
+    (done (part (rw c.in_format.ensures at c.expr-else-is_if.ensures) e (ready g.0 (omega arith) (omega arith), g.1.1) (text (begin d) c.space.ensures))))
 
 pub listed-returns : goal.listed-returns
 listed-returns t c =
@@ -207,7 +207,7 @@ labeled_expr-returns t c =
     prints (cc) (cc) (omega arith)
     (λ a rest g d.
     let name = part c.name_then.ensures a.0 tt (text (begin d) c.parenthesis.ensures) in
-    let body = part (rw c.subexpression_power-right.ensures at c.expr.ensures) a.1 (ready g.0 (omega arith) (omega arith), g.1) name in
+    let body = part (rw c.operand.ensures at c.expr.ensures) a.1 (ready g.0 (omega arith) (omega arith), g.1) name in
     done (text body c.parenthesis-2.ensures))
 
 pub let_expr-returns : goal.let_expr-returns
@@ -217,7 +217,7 @@ let_expr-returns t c =
     (λ a rest g d.
     let name = part c.id_type.ensures (a.0, a.1) tt (text (begin d) c.parenthesis.ensures) in
     let value = part c.expr.ensures a.2 (ready g.0 (omega arith) (omega arith), g.1.0) (text name c.put.ensures) in
-    let body = part (rw c.subexpression_power-right.ensures at c.expr-2.ensures) a.3 (ready g.0 (omega arith) (omega arith), g.1.1) (text value c.space.ensures) in
+    let body = part (rw c.operand.ensures at c.expr-2.ensures) a.3 (ready g.0 (omega arith) (omega arith), g.1.1) (text value c.space.ensures) in
     done (text body c.parenthesis-2.ensures))
 
 pub closure_expr-returns : goal.closure_expr-returns
@@ -235,11 +235,12 @@ unfolding Expression
 quantifier_expr-returns t c =
     prints (cc) (cc) (omega arith)
     (λ a rest g d.
-    let e = c.more-deeper.ensures ∙ deeper-is c.args.format g.0 (inside (begin {s = c.args.self.now} d)) in
-    let i = more-indent c.args.self.now.source.step c.args.format in
+    let e = c.more.ensures ∙ deeper-is c.args.setting.format g.0 (inside (begin {s = c.args.self.now} d)) in
+    let deeper = rw e at c.in_format-deeper.ensures in
+    let i = more-indent c.args.self.now.source.step c.args.setting.format in
     let bindings = part c.quantified.ensures (a.0, a.1) tt (text (begin d) c.parenthesis.ensures) in
-    let patterns = part (rw e at c.patterns.ensures) a.2 (ready g.0 (omega arith) (omega arith), g.1.2) bindings in
-    let body = part (rw (c.subexpression_power-right.ensures, e) at c.expr.ensures) a.3 (ready g.0 (omega arith) (omega arith), g.1.3) (text patterns (rw e at c.space.ensures)) in
+    let patterns = part (rw deeper at c.patterns.ensures) a.2 (ready g.0 (omega arith) (omega arith), g.1.2) bindings in
+    let body = part (rw (c.operand.ensures, deeper) at c.expr.ensures) a.3 (ready g.0 (omega arith) (omega arith), g.1.3) (text patterns (rw deeper at c.space.ensures)) in
     done (text body c.parenthesis-2.ensures))
 
 -- ---- sequences

@@ -4,4 +4,4 @@ use Rattle.rendering.proofs.Walk.{prints, ready, begin, text, part, done}
 use Rattle.rendering.proofs.printer.Printer.broken_lines.Goals as goal
 
 pub returns : goal.returns
-returns c = prints (cc) (cc) (omega arith) (λ e rest g d. done (part c.expr.ensures e (ready g.0 (omega arith) (omega arith), g.1) (text (begin d) c.indent.ensures)))
+returns c = prints (cc) (cc) (omega arith) (λ e rest g d. done (part (rw c.outermost.ensures at c.expr.ensures) e (ready g.0 (omega arith) (omega arith), g.1) (text (begin d) c.indent.ensures)))
