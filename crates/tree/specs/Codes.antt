@@ -1,6 +1,6 @@
 -- The words of the code's enums (src/word.rt): of an operator and a mode those of the datatype's constructor, of a tag that which begins its
 -- constructor's words.
-use Rattle.std.specs.Prelude.{ℕ, ◌≡◌, ◌↔◌, Option, Some}
+use Rattle.std.specs.Prelude.{ℕ, ◌≡◌, ◌↔◌, Option, Some, Result, Ok}
 use Rattle.tree.specs.Ast.{Operator, ParameterMode}
 use Rattle.tree.specs.Ast as ast
 use Rattle.tree.specs.Words.{operator_word, mode_word}
@@ -87,3 +87,7 @@ aexpr_code aexpr.AAssertion = a_assertion_tag
 -- what is found for a word: exactly the one that has it, and none where none has
 abbrev pub Decodes : {E : Type 0} → (E → ℕ) → ℕ → Option E → Type 0
 Decodes {E} code word r = (e : E) → (r ≡ Some e) ↔ (code e ≡ word)
+
+-- the same as a conversion answers it
+abbrev pub Converts : {E X : Type 0} → (E → ℕ) → ℕ → Result E X → Type 0
+Converts {E} code word r = (e : E) → (r ≡ Ok e) ↔ (code e ≡ word)

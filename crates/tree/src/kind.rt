@@ -2,7 +2,9 @@
 ghost use Rattle.std.specs.Prelude.{◌≡◌};
 ghost use Rattle.tree.specs.Tally.{sequence};
 ghost use Rattle.tree.specs.KindCodes.{as_kind, kind_code};
-ghost use Rattle.tree.specs.Codes.{Decodes};
+ghost use Rattle.tree.specs.Codes.{Decodes, Converts};
+
+use crate::word::Unknown;
 
 // The number of a name's and a natural's second word, which has no kind.
 pub const SECOND_WORD: u16 = 0;
@@ -45,49 +47,67 @@ pub enum Kind {
     Natural = 28,
 }
 
+impl From<Kind> for u16 {
+    ghost from_gives = { λ kind number. number ≡ kind_code kind };
+
+    fn from(kind: Kind) -> u16 {
+        kind as u16
+    }
+}
+
+impl TryFrom<u16> for Kind {
+    type Error = Unknown;
+
+    ghost try_from_gives = { λ number kind. Converts kind_code number kind };
+
+    fn try_from(number: u16) -> Result<Kind, Unknown> {
+        match number {
+            1 => Ok(Kind::Bool),
+            2 => Ok(Kind::Operator),
+            3 => Ok(Kind::Mode),
+            4 => Ok(Kind::Expr),
+            5 => Ok(Kind::Stmt),
+            6 => Ok(Kind::AExpr),
+            7 => Ok(Kind::OptionName),
+            8 => Ok(Kind::OptionExpr),
+            9 => Ok(Kind::OptionStmt),
+            10 => Ok(Kind::OptionDefinition),
+            11 => Ok(Kind::Names),
+            12 => Ok(Kind::Exprs),
+            13 => Ok(Kind::Bindings),
+            14 => Ok(Kind::Patterns),
+            15 => Ok(Kind::ClosureBindings),
+            16 => Ok(Kind::ClosureProperties),
+            17 => Ok(Kind::Stmts),
+            18 => Ok(Kind::CallArguments),
+            19 => Ok(Kind::Cases),
+            20 => Ok(Kind::AExprs),
+            21 => Ok(Kind::Taggers),
+            22 => Ok(Kind::FParameters),
+            23 => Ok(Kind::Functions),
+            24 => Ok(Kind::Axioms),
+            25 => Ok(Kind::PParameters),
+            26 => Ok(Kind::Procedures),
+            27 => Ok(Kind::Name),
+            28 => Ok(Kind::Natural),
+            _ => Err(Unknown),
+        }
+    }
+}
+
 impl Kind {
     // Its number in an outline.
     pub fn number(self) -> u16
         ensures { result ≡ kind_code self }
     {
-        self as u16
+        u16::from(self)
     }
 
     // The kind with that number, where there is one.
     pub fn from_number(number: u16) -> Option<Kind>
         ensures { Decodes kind_code number result }
     {
-        match number {
-            1 => Some(Kind::Bool),
-            2 => Some(Kind::Operator),
-            3 => Some(Kind::Mode),
-            4 => Some(Kind::Expr),
-            5 => Some(Kind::Stmt),
-            6 => Some(Kind::AExpr),
-            7 => Some(Kind::OptionName),
-            8 => Some(Kind::OptionExpr),
-            9 => Some(Kind::OptionStmt),
-            10 => Some(Kind::OptionDefinition),
-            11 => Some(Kind::Names),
-            12 => Some(Kind::Exprs),
-            13 => Some(Kind::Bindings),
-            14 => Some(Kind::Patterns),
-            15 => Some(Kind::ClosureBindings),
-            16 => Some(Kind::ClosureProperties),
-            17 => Some(Kind::Stmts),
-            18 => Some(Kind::CallArguments),
-            19 => Some(Kind::Cases),
-            20 => Some(Kind::AExprs),
-            21 => Some(Kind::Taggers),
-            22 => Some(Kind::FParameters),
-            23 => Some(Kind::Functions),
-            24 => Some(Kind::Axioms),
-            25 => Some(Kind::PParameters),
-            26 => Some(Kind::Procedures),
-            27 => Some(Kind::Name),
-            28 => Some(Kind::Natural),
-            _ => None,
-        }
+        Kind::try_from(number).ok()
     }
 
     // Whether it is a sequence.

@@ -1,6 +1,6 @@
 // The words of a table that are fixed (REFERENCE, "The tree words"), by RawAst.dfy's names.
 ghost use Rattle.std.specs.Prelude.{◌≡◌};
-ghost use Rattle.tree.specs.Codes.{mode_code, operator_code, expr_code, stmt_code, aexpr_code, Decodes};
+ghost use Rattle.tree.specs.Codes.{mode_code, operator_code, expr_code, stmt_code, aexpr_code, Decodes, Converts};
 
 // Before the content of an option and each item of a sequence stands MORE; in the place of a content, and after the last item, NO_MORE.
 pub const NO_MORE: u32 = 0;
@@ -87,6 +87,13 @@ pub const A_ASSERTION: u32 = 2;
 
 // ---- the same words as enums
 
+// The error of a word or number that none has.
+#[derive(Clone, Copy, PartialEq, Eq, Debug)]
+pub struct Unknown;
+
+// Kept: `word` and `from_word` beside the conversions, five times. They are the names that parsing, reading and rendering call, and an Option
+// says it all: that a word is none's is no error where they call. A trait for both would be one more import for each caller.
+
 // ParameterMode.
 #[derive(Clone, Copy, PartialEq, Eq, Debug)]
 pub enum Mode {
@@ -95,24 +102,42 @@ pub enum Mode {
     Out = 3,
 }
 
+impl From<Mode> for u32 {
+    ghost from_gives = { λ mode word. word ≡ mode_code mode };
+
+    fn from(mode: Mode) -> u32 {
+        mode as u32
+    }
+}
+
+impl TryFrom<u32> for Mode {
+    type Error = Unknown;
+
+    ghost try_from_gives = { λ word mode. Converts mode_code word mode };
+
+    fn try_from(word: u32) -> Result<Mode, Unknown> {
+        match word {
+            1 => Ok(Mode::In),
+            2 => Ok(Mode::InOut),
+            3 => Ok(Mode::Out),
+            _ => Err(Unknown),
+        }
+    }
+}
+
 impl Mode {
     // Its word in a table.
     pub fn word(self) -> u32
         ensures { result ≡ mode_code self }
     {
-        self as u32
+        u32::from(self)
     }
 
     // The one with that word, where there is one.
     pub fn from_word(word: u32) -> Option<Mode>
         ensures { Decodes mode_code word result }
     {
-        match word {
-            1 => Some(Mode::In),
-            2 => Some(Mode::InOut),
-            3 => Some(Mode::Out),
-            _ => None,
-        }
+        Mode::try_from(word).ok()
     }
 }
 
@@ -137,37 +162,55 @@ pub enum Operator {
     UnaryMinus = 16,
 }
 
+impl From<Operator> for u32 {
+    ghost from_gives = { λ operator word. word ≡ operator_code operator };
+
+    fn from(operator: Operator) -> u32 {
+        operator as u32
+    }
+}
+
+impl TryFrom<u32> for Operator {
+    type Error = Unknown;
+
+    ghost try_from_gives = { λ word operator. Converts operator_code word operator };
+
+    fn try_from(word: u32) -> Result<Operator, Unknown> {
+        match word {
+            1 => Ok(Operator::IfThenElse),
+            2 => Ok(Operator::Equiv),
+            3 => Ok(Operator::LogicalImp),
+            4 => Ok(Operator::LogicalAnd),
+            5 => Ok(Operator::LogicalOr),
+            6 => Ok(Operator::Eq),
+            7 => Ok(Operator::Neq),
+            8 => Ok(Operator::Less),
+            9 => Ok(Operator::AtMost),
+            10 => Ok(Operator::Plus),
+            11 => Ok(Operator::Minus),
+            12 => Ok(Operator::Times),
+            13 => Ok(Operator::Div),
+            14 => Ok(Operator::Mod),
+            15 => Ok(Operator::LogicalNot),
+            16 => Ok(Operator::UnaryMinus),
+            _ => Err(Unknown),
+        }
+    }
+}
+
 impl Operator {
     // Its word in a table.
     pub fn word(self) -> u32
         ensures { result ≡ operator_code self }
     {
-        self as u32
+        u32::from(self)
     }
 
     // The one with that word, where there is one.
     pub fn from_word(word: u32) -> Option<Operator>
         ensures { Decodes operator_code word result }
     {
-        match word {
-            1 => Some(Operator::IfThenElse),
-            2 => Some(Operator::Equiv),
-            3 => Some(Operator::LogicalImp),
-            4 => Some(Operator::LogicalAnd),
-            5 => Some(Operator::LogicalOr),
-            6 => Some(Operator::Eq),
-            7 => Some(Operator::Neq),
-            8 => Some(Operator::Less),
-            9 => Some(Operator::AtMost),
-            10 => Some(Operator::Plus),
-            11 => Some(Operator::Minus),
-            12 => Some(Operator::Times),
-            13 => Some(Operator::Div),
-            14 => Some(Operator::Mod),
-            15 => Some(Operator::LogicalNot),
-            16 => Some(Operator::UnaryMinus),
-            _ => None,
-        }
+        Operator::try_from(word).ok()
     }
 }
 
@@ -186,31 +229,49 @@ pub enum ExprTag {
     ClosureExpr = 10,
 }
 
+impl From<ExprTag> for u32 {
+    ghost from_gives = { λ tag word. word ≡ expr_code tag };
+
+    fn from(tag: ExprTag) -> u32 {
+        tag as u32
+    }
+}
+
+impl TryFrom<u32> for ExprTag {
+    type Error = Unknown;
+
+    ghost try_from_gives = { λ word tag. Converts expr_code word tag };
+
+    fn try_from(word: u32) -> Result<ExprTag, Unknown> {
+        match word {
+            1 => Ok(ExprTag::BLiteral),
+            2 => Ok(ExprTag::ILiteral),
+            3 => Ok(ExprTag::CustomLiteral),
+            4 => Ok(ExprTag::IdExpr),
+            5 => Ok(ExprTag::OperatorExpr),
+            6 => Ok(ExprTag::FunctionCallExpr),
+            7 => Ok(ExprTag::LabeledExpr),
+            8 => Ok(ExprTag::LetExpr),
+            9 => Ok(ExprTag::QuantifierExpr),
+            10 => Ok(ExprTag::ClosureExpr),
+            _ => Err(Unknown),
+        }
+    }
+}
+
 impl ExprTag {
     // Its word in a table.
     pub fn word(self) -> u32
         ensures { result ≡ expr_code self }
     {
-        self as u32
+        u32::from(self)
     }
 
     // The one with that word, where there is one.
     pub fn from_word(word: u32) -> Option<ExprTag>
         ensures { Decodes expr_code word result }
     {
-        match word {
-            1 => Some(ExprTag::BLiteral),
-            2 => Some(ExprTag::ILiteral),
-            3 => Some(ExprTag::CustomLiteral),
-            4 => Some(ExprTag::IdExpr),
-            5 => Some(ExprTag::OperatorExpr),
-            6 => Some(ExprTag::FunctionCallExpr),
-            7 => Some(ExprTag::LabeledExpr),
-            8 => Some(ExprTag::LetExpr),
-            9 => Some(ExprTag::QuantifierExpr),
-            10 => Some(ExprTag::ClosureExpr),
-            _ => None,
-        }
+        ExprTag::try_from(word).ok()
     }
 }
 
@@ -237,39 +298,57 @@ pub enum StmtTag {
     Probe = 38,
 }
 
+impl From<StmtTag> for u32 {
+    ghost from_gives = { λ tag word. word ≡ stmt_code tag };
+
+    fn from(tag: StmtTag) -> u32 {
+        tag as u32
+    }
+}
+
+impl TryFrom<u32> for StmtTag {
+    type Error = Unknown;
+
+    ghost try_from_gives = { λ word tag. Converts stmt_code word tag };
+
+    fn try_from(word: u32) -> Result<StmtTag, Unknown> {
+        match word {
+            21 => Ok(StmtTag::VarDecl),
+            22 => Ok(StmtTag::Assign),
+            23 => Ok(StmtTag::Reinit),
+            24 => Ok(StmtTag::Block),
+            25 => Ok(StmtTag::Call),
+            26 => Ok(StmtTag::Check),
+            27 => Ok(StmtTag::Assume),
+            28 => Ok(StmtTag::Reach),
+            29 => Ok(StmtTag::Assert),
+            30 => Ok(StmtTag::AForall),
+            31 => Ok(StmtTag::Choose),
+            32 => Ok(StmtTag::If),
+            33 => Ok(StmtTag::IfCase),
+            34 => Ok(StmtTag::Loop),
+            35 => Ok(StmtTag::LabeledStmt),
+            36 => Ok(StmtTag::Exit),
+            37 => Ok(StmtTag::Return),
+            38 => Ok(StmtTag::Probe),
+            _ => Err(Unknown),
+        }
+    }
+}
+
 impl StmtTag {
     // Its word in a table.
     pub fn word(self) -> u32
         ensures { result ≡ stmt_code self }
     {
-        self as u32
+        u32::from(self)
     }
 
     // The one with that word, where there is one.
     pub fn from_word(word: u32) -> Option<StmtTag>
         ensures { Decodes stmt_code word result }
     {
-        match word {
-            21 => Some(StmtTag::VarDecl),
-            22 => Some(StmtTag::Assign),
-            23 => Some(StmtTag::Reinit),
-            24 => Some(StmtTag::Block),
-            25 => Some(StmtTag::Call),
-            26 => Some(StmtTag::Check),
-            27 => Some(StmtTag::Assume),
-            28 => Some(StmtTag::Reach),
-            29 => Some(StmtTag::Assert),
-            30 => Some(StmtTag::AForall),
-            31 => Some(StmtTag::Choose),
-            32 => Some(StmtTag::If),
-            33 => Some(StmtTag::IfCase),
-            34 => Some(StmtTag::Loop),
-            35 => Some(StmtTag::LabeledStmt),
-            36 => Some(StmtTag::Exit),
-            37 => Some(StmtTag::Return),
-            38 => Some(StmtTag::Probe),
-            _ => None,
-        }
+        StmtTag::try_from(word).ok()
     }
 }
 
@@ -280,22 +359,40 @@ pub enum AExprTag {
     AAssertion = 2,
 }
 
+impl From<AExprTag> for u32 {
+    ghost from_gives = { λ tag word. word ≡ aexpr_code tag };
+
+    fn from(tag: AExprTag) -> u32 {
+        tag as u32
+    }
+}
+
+impl TryFrom<u32> for AExprTag {
+    type Error = Unknown;
+
+    ghost try_from_gives = { λ word tag. Converts aexpr_code word tag };
+
+    fn try_from(word: u32) -> Result<AExprTag, Unknown> {
+        match word {
+            1 => Ok(AExprTag::AExpr),
+            2 => Ok(AExprTag::AAssertion),
+            _ => Err(Unknown),
+        }
+    }
+}
+
 impl AExprTag {
     // Its word in a table.
     pub fn word(self) -> u32
         ensures { result ≡ aexpr_code self }
     {
-        self as u32
+        u32::from(self)
     }
 
     // The one with that word, where there is one.
     pub fn from_word(word: u32) -> Option<AExprTag>
         ensures { Decodes aexpr_code word result }
     {
-        match word {
-            1 => Some(AExprTag::AExpr),
-            2 => Some(AExprTag::AAssertion),
-            _ => None,
-        }
+        AExprTag::try_from(word).ok()
     }
 }
