@@ -1,7 +1,9 @@
 -- Lists written from the front.
-use Rattle.std.specs.Prelude.{ℕ, ◌+◌, ◌-◌, ◌<◌, ◌≤◌, ◌≡◌, refl, List, ◌++◌, length, get_or, take, drop, set}
-use Rattle.std.proofs.Common.{arith, ap, ◌∙◌, ⊎_elim, length-append, length-drop, length-set, length-take-le, get_or-take, get_or-drop, get_or-set_same, get_or-set_other}
-use Rattle.std.proofs.lemmas.List.{get_or_append_left, get_or-append_right}
+use Rattle.std.specs.Prelude.{ℕ, ◌+◌, ◌-◌, ◌<◌, ◌≤◌, min, ◌≡◌, refl, List, ◌++◌, length, get_or, take, drop, set}
+use Rattle.std.proofs.Common.{arith, sym, ap, ◌∙◌, ⊎_elim, length-append, length-drop, length-set, length-take-le, get_or-take, get_or-drop, get_or-set_same, get_or-set_other}
+use Rattle.std.proofs.lemmas.List.{get_or_append_left, get_or-append_right, get_or_past}
+use Rattle.tree.specs.Outline.{filled}
+use Rattle.tree.specs.OutlineLaws.{filled-length, filled_at, filled-later}
 use Rattle.names.specs.NumberLaws.{lt-or-le}
 use Rattle.names.specs.Spans.{Written}
 
@@ -31,4 +33,15 @@ written_front from before front n f b e =
       kept = λ i h.
           let d : n + (i - n) ≡ i = omega arith in
           get_or-append_right front (drop n before) n i 0 long h ∙ get_or-drop n before (i - n) 0 ∙ ap (λ (k : ℕ). get_or before k 0) d;
+    }
+
+-- a list filled from the front, as far as it goes
+pub written_filled : (from before : List ℕ) → Written (λ i. get_or from i 0) (min (length from) (length before)) before (filled from before)
+written_filled from before =
+    record {
+      same_length = filled-length from before;
+      written = λ i h. filled_at from before i (omega arith) (omega arith);
+      kept = λ i h.
+          ⊎_elim (λ l. get_or_past (filled from before) i 0 (omega (arith, filled-length from before)) ∙ sym (get_or_past before i 0 (omega arith)))
+          (λ l. filled-later from before i l) (lt-or-le i (length from));
     }

@@ -50,7 +50,6 @@ fn number_in<const N: usize>(spans: &Spans<N>, numbers: &mut [u16]) -> usize
     spans.first_equal(&mut keys);
     let ranks = &mut keys[..spans.count];
     let count = rank(ranks);
-    let end = spans.count.min(numbers.len());
-    numbers[..end].copy_from_slice(&ranks[..end]);
+    tree::fill(ranks, numbers);
     count
 }

@@ -23,7 +23,8 @@ ghost use Rattle.tree.specs.Tally.{counts as counts_of, expression_counts, progr
 
 use frames::Frame;
 use kind::Kind;
-use outline::{blank, fill, find_ends};
+pub use outline::fill;
+use outline::{blank, find_ends};
 use walk::Table;
 
 // The limits of a table's words and of a text's bytes.

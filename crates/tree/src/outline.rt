@@ -80,7 +80,7 @@ pub(crate) fn find_ends(words: &[u32], kinds: &[u16], ends: &mut [u16])
 }
 
 // Copies numbers, as far as there is a place for them.
-pub(crate) fn fill(from: &[u16], to: &mut [u16])
+pub fn fill(from: &[u16], to: &mut [u16])
     ensures { to.new ≡ filled from.now to.old }
 {
     let n = from.len().min(to.len());
