@@ -7,7 +7,7 @@ use Rattle.lexing.specs.Bytes.{is_digit, can_start_identifier_char, run, starts_
 use Rattle.lexing.specs.Blanks.{Blanks, passed, unclosed, W}
 use Rattle.lexing.specs.Tokens.{closed, lexeme, identifier_length, keyword, sign, parse_id, natural}
 use Rattle.lexing.specs.TokenLaws.{starts_with-true}
-use Rattle.tree.specs.Ast.{Span, Binding, binding, Expr, BLiteral, ILiteral, IdExpr, ClosureExpr, CallArgument, PParameter, Exprs, Patterns, no_patterns, pattern}
+use Rattle.tree.specs.Ast.{Span, Expr, BLiteral, ILiteral, IdExpr, Exprs, Patterns, no_patterns, pattern}
 use Rattle.tree.specs.Ast as ast
 use Rattle.tree.specs.Words.{bool_word}
 use mir.Val.{bool_byte}

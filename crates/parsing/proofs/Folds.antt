@@ -10,7 +10,7 @@ use Rattle.parsing.specs.Code.{Layer, unary_layer, binary_layer, layered, fold_l
 use Rattle.parsing.specs.declared.arena.Node.{Node}
 use Rattle.parsing.specs.declared.arena.Node.TheVariants.{Empty, Unary, Binary}
 use Rattle.parsing.specs.declared.parser.Parser.{Parser}
-use Rattle.parsing.proofs.Places.{later-same, later-next, standing-on, made-standing, unary-holds, binary-holds}
+use Rattle.parsing.proofs.Places.{later-next, standing-on, made-standing, unary-holds, binary-holds}
 
 -- the layers that are left, over the operand e, give the whole tree of ls and t
 pub record Rest (p s : Parser) (link e : ℕ) (ls : List Layer) (t : Expr Span) : Type 0 where
@@ -39,15 +39,6 @@ pub linking : {arena : List Node} {link : ℕ} {ls : List Layer} → Links arena
 linking Links.ends = none refl refl
 linking (Links.unary_link e l r) = unary _ _ _ e l r refl
 linking (Links.binary_link e l m h r) = binary _ _ _ _ _ e l m h r refl
-
-pub folding-start : {p : Parser} {first last : ℕ} → Foldable first last p → Folding p first last p first last
-folding-start f =
-    record {
-      later = later-same;
-      at_same = refl;
-      link_below = f.link_below;
-      rest = λ ls t k s. record { layers = ls; tree = t; links = k; standing = s; whole = refl; count = refl };
-    }
 
 -- a turn reads a link that falls, and there is room for its node
 pub record Turn (s : Parser) (link before : ℕ) : Type 0 where

@@ -14,12 +14,6 @@ use Rattle.parsing.specs.declared.parser.Name.{Name}
 use Rattle.parsing.specs.declared.parser.Parser.{Parser}
 
 -- a step that must follow stands, or is refused
-pub must-ok : {A : Type 0} (at : ℕ) (r : Answer A) {v : A} {n : ℕ} → must at r ≡ ok v n → r ≡ ok v n
-unfolding after
-must-ok at (ok w m) e = e
-must-ok at Answer.none e = cc
-must-ok at (refused a b) e = cc
-
 pub need-ok : {A B : Type 0} (at : ℕ) (r : Answer A) (go : A → ℕ → Answer B) {v : A} {n : ℕ} → must at r ≡ ok v n → need at r go ≡ go v n
 unfolding after
 need-ok at (ok w m) go e = cc

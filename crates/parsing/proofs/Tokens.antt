@@ -21,16 +21,16 @@ use Rattle.parsing.specs.declared.parser.Parser.{Parser}
 pub suffix : (s : List ℕ) (at : ℕ) → take (length s - at) (drop at s) ≡ drop at s
 suffix s at = take_all (length s - at) (drop at s) (le_of_eq (length-drop at s))
 
-pub word-spelt : (p : Parser) {n : ℕ} → p.at ≤ length p.text.now → n ≡ identifier_length (take (length p.text.now - p.at) (drop p.at p.text.now)) → Spelt p n
-word-spelt p {n} h e =
+pub word-spelt : (p : Parser) {n : ℕ} → n ≡ identifier_length (take (length p.text.now - p.at) (drop p.at p.text.now)) → Spelt p n
+word-spelt p {n} e =
     let m : identifier_length (drop p.at p.text.now) ≡ n = sym (e ∙ ap identifier_length (suffix p.text.now p.at)) in
-    record { measured = m; inside = omega (arith, identifier-inside (drop p.at p.text.now), length-drop p.at p.text.now) }
+    record { measured = m; inside = omega (arith, p.inside, identifier-inside (drop p.at p.text.now), length-drop p.at p.text.now) }
 
 -- a token is inside the text where its answer is
-lies : (p : Parser) (k : ℕ) (r : Result (Option Token) Refusal) → p.at ≤ length p.text.now → Within k (length (drop p.at p.text.now)) (answer_of r) → Lies p r
-lies p k (Ok (Some t)) h w = omega (arith, length-drop p.at p.text.now)
-lies p k (Ok None) h w = tt
-lies p k (Err e) h w = omega (arith, length-drop p.at p.text.now)
+lies : (p : Parser) (k : ℕ) (r : Result (Option Token) Refusal) → Within k (length (drop p.at p.text.now)) (answer_of r) → Lies p r
+lies p k (Ok (Some t)) w = omega (arith, p.inside, length-drop p.at p.text.now)
+lies p k (Ok None) w = tt
+lies p k (Err e) w = omega (arith, p.inside, length-drop p.at p.text.now)
 
 module _ (p : Parser) (r : Result (Option Token) Refusal) (a : Answer ℕ) (k : ℕ) (e : answer_of r ≡ a)
     (w : Within k (length (drop p.at p.text.now)) a) where
@@ -38,7 +38,7 @@ module _ (p : Parser) (r : Result (Option Token) Refusal) (a : Answer ℕ) (k : 
   fits = subst (Within k (length (drop p.at p.text.now))) (sym e) w
 
   pub answer-lies : Lies p r
-  answer-lies = lies p k r p.inside fits
+  answer-lies = lies p k r fits
 
   module _ (q : Parser) where
     -- a token that was passed

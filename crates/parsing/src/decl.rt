@@ -1,4 +1,7 @@
 // The reading rules of declarations, each after its word. `depth` is how many levels may be opened.
+
+#![tactic(auto, using(crate::proofs::Laws::failing, crate::proofs::DeclarationRules::having_expr), unfolding(grammar::specs::Declarations::after_type, grammar::specs::Declarations::after_tagger, grammar::specs::Declarations::parse_tag, grammar::specs::Declarations::parse_function_definition, grammar::specs::Declarations::after_function, grammar::specs::Declarations::parse_explains, grammar::specs::Declarations::after_axiom, grammar::specs::Declarations::after_procedure))]
+
 use crate::arena::{END, Node};
 use crate::expr::seq::Kind;
 use crate::parser::{Parser, unusable};
@@ -14,7 +17,6 @@ impl<'a> Parser<'a> {
     ghost use Rattle.parsing.specs.Declarations.{body_rule};
 
     // After `type`.
-    #[tactic(auto, using(crate::proofs::Laws::failing), unfolding(grammar::specs::Declarations::after_type))]
     pub(crate) fn type_decl(&mut self) -> Result<u32, Refusal>
         ensures { Reads (name_words same) after_type 1 0 self.old self.new result }
     {
@@ -22,7 +24,6 @@ impl<'a> Parser<'a> {
     }
 
     // After `tagger`.
-    #[tactic(auto, using(crate::proofs::Laws::failing), unfolding(grammar::specs::Declarations::after_tagger))]
     pub(crate) fn tagger_decl(&mut self) -> Result<u32, Refusal>
         ensures { Reads (tagger_words same) after_tagger 1 0 self.old self.new result }
     {
@@ -33,7 +34,6 @@ impl<'a> Parser<'a> {
     }
 
     // The tag of a function, or none.
-    #[tactic(auto, using(crate::proofs::Laws::failing), unfolding(grammar::specs::Declarations::parse_tag))]
     fn tag(&mut self) -> Result<u32, Refusal>
         ensures { Reads (option_words (name_words same)) parse_tag 0 0 self.old self.new result }
     {
@@ -44,7 +44,6 @@ impl<'a> Parser<'a> {
     }
 
     // `parseFunctionDefinition`, or none: where `when` stands a body must follow.
-    #[tactic(auto, using(crate::proofs::Laws::failing, crate::proofs::DeclarationRules::having_expr), unfolding(grammar::specs::Declarations::parse_function_definition))]
     fn definition(&mut self, depth: usize) -> Result<u32, Refusal>
         requires { Spare self.old 1 }
         ensures { Reads (option_words (function_definition_words same)) (opening parse_function_definition depth) 0 1 self.old self.new result }
@@ -65,7 +64,6 @@ impl<'a> Parser<'a> {
     }
 
     // After `function`.
-    #[tactic(auto, using(crate::proofs::Laws::failing), unfolding(grammar::specs::Declarations::after_function))]
     pub(crate) fn function_decl(&mut self, depth: usize) -> Result<u32, Refusal>
         requires { Spare self.old 2 }
         ensures { Reads (function_words same) (opening after_function depth) 1 2 self.old self.new result }
@@ -82,7 +80,6 @@ impl<'a> Parser<'a> {
     }
 
     // The names that an axiom explains, or none.
-    #[tactic(auto, using(crate::proofs::Laws::failing), unfolding(grammar::specs::Declarations::parse_explains))]
     fn explains(&mut self, depth: usize) -> Result<u32, Refusal>
         ensures { Reads (seq_words (name_words same)) (opening parse_explains depth) 0 0 self.old self.new result }
     {
@@ -93,7 +90,6 @@ impl<'a> Parser<'a> {
     }
 
     // After `axiom`.
-    #[tactic(auto, using(crate::proofs::Laws::failing, crate::proofs::DeclarationRules::having_expr), unfolding(grammar::specs::Declarations::after_axiom))]
     pub(crate) fn axiom_decl(&mut self, depth: usize) -> Result<u32, Refusal>
         requires { Spare self.old 1 }
         ensures { Reads (axiom_words same) (opening after_axiom depth) 1 1 self.old self.new result }
@@ -104,7 +100,6 @@ impl<'a> Parser<'a> {
     }
 
     // The body of a procedure, or none.
-    #[tactic(auto, using(crate::proofs::Laws::failing))]
     fn body(&mut self, depth: usize) -> Result<u32, Refusal>
         ensures { Reads (option_words (stmt_words same)) (body_rule depth) 0 0 self.old self.new result }
     {
@@ -115,7 +110,6 @@ impl<'a> Parser<'a> {
     }
 
     // After `procedure`.
-    #[tactic(auto, using(crate::proofs::Laws::failing), unfolding(grammar::specs::Declarations::after_procedure))]
     pub(crate) fn proc_decl(&mut self, depth: usize) -> Result<u32, Refusal>
         requires { Spare self.old 5 }
         ensures { Reads (procedure_words same) (opening after_procedure depth) 1 5 self.old self.new result }

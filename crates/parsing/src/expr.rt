@@ -1,5 +1,8 @@
 // The reading rules of expressions, in one cycle of calls: the levels of operators, and the operands. `depth` is how many levels may still be
 // opened.
+
+#![tactic(auto, using(crate::proofs::Laws::failing), unfolding(grammar::specs::Steps::after, grammar::specs::Rules::parse_imp_exp_expr, grammar::specs::Rules::imp_exp_tail, grammar::specs::Rules::parse_logical_expr, grammar::specs::Rules::logical_tail, grammar::specs::Rules::parse_juct_expr, grammar::specs::Rules::parse_term_expr, grammar::specs::Rules::once_tail, grammar::specs::Rules::parse_unary_expr, grammar::specs::Rules::after_paren, grammar::specs::Rules::after_name, grammar::specs::Rules::after_call, grammar::specs::Rules::after_label, grammar::specs::Rules::after_colon, grammar::specs::Rules::after_if, grammar::specs::Rules::after_val))]
+
 pub(crate) mod seq;
 
 use crate::arena::{EMPTY, Node};
@@ -21,7 +24,6 @@ impl<'a> Parser<'a> {
 
     // `parseExpr`, with `depth` levels left.
     #[cycle(expression)]
-    #[tactic(auto, using(crate::proofs::Laws::failing))]
     pub(crate) fn expr(&mut self, depth: usize) -> Result<Option<u32>, Refusal>
         ensures { Reads_if tree_words (inner depth) 1 0 self.old self.new result }
     {
@@ -33,7 +35,6 @@ impl<'a> Parser<'a> {
 
     #[cycle(expression)]
     #[inline]
-    #[tactic(auto, using(crate::proofs::Laws::failing), unfolding(grammar::specs::Steps::after))]
     pub(crate) fn need_expr(&mut self, depth: usize) -> Result<u32, Refusal>
         ensures { Reads tree_words (needed (inner depth)) 1 0 self.old self.new result }
     {
@@ -43,7 +44,6 @@ impl<'a> Parser<'a> {
 
     // `parseEquivExpr`, `parseTermExpr` and `parseFactorExpr`: a level whose operators lean left.
     #[cycle(expression)]
-    #[tactic(auto, using(crate::proofs::Laws::failing))]
     fn chain(&mut self, level: Level, depth: usize) -> Result<Option<u32>, Refusal>
         ensures { Reads_if tree_words (left_chain (class_of level) depth) 1 0 self.old self.new result }
     {
@@ -55,7 +55,6 @@ impl<'a> Parser<'a> {
 
     // `parseImpExpExpr`: all `==>`, or all `<==`.
     #[cycle(expression)]
-    #[tactic(auto, using(crate::proofs::Laws::failing), unfolding(grammar::specs::Rules::parse_imp_exp_expr, grammar::specs::Rules::imp_exp_tail))]
     fn imp(&mut self, depth: usize) -> Result<Option<u32>, Refusal>
         ensures { Reads_if tree_words (turning parse_imp_exp_expr depth) 1 0 self.old self.new result }
     {
@@ -76,7 +75,6 @@ impl<'a> Parser<'a> {
 
     // `parseLogicalExpr`: all `&&`, or all `||`.
     #[cycle(expression)]
-    #[tactic(auto, using(crate::proofs::Laws::failing), unfolding(grammar::specs::Rules::parse_logical_expr, grammar::specs::Rules::logical_tail))]
     fn logic(&mut self, depth: usize) -> Result<Option<u32>, Refusal>
         ensures { Reads_if tree_words (turning parse_logical_expr depth) 1 0 self.old self.new result }
     {
@@ -91,7 +89,6 @@ impl<'a> Parser<'a> {
 
     // `parseJuctExpr`: one comparison at most.
     #[cycle(expression)]
-    #[tactic(auto, using(crate::proofs::Laws::failing), unfolding(grammar::specs::Rules::parse_juct_expr, grammar::specs::Rules::parse_term_expr, grammar::specs::Rules::once_tail))]
     fn juct(&mut self, depth: usize) -> Result<Option<u32>, Refusal>
         ensures { Reads_if tree_words (turning parse_juct_expr depth) 1 0 self.old self.new result }
     {
@@ -108,7 +105,6 @@ impl<'a> Parser<'a> {
     // The operands of a level.
     // Kept: a level has its operands as it has its signs; as a closure they would stand beside it in each call of `chain` and of `left`.
     #[cycle(expression)]
-    #[tactic(auto, using(crate::proofs::Laws::failing))]
     fn tight(&mut self, level: Level, depth: usize) -> Result<Option<u32>, Refusal>
         ensures { Reads_if tree_words (tighter_of (class_of level) depth) 1 0 self.old self.new result }
     {
@@ -126,7 +122,6 @@ impl<'a> Parser<'a> {
 
     #[cycle(expression)]
     #[inline]
-    #[tactic(auto, using(crate::proofs::Laws::failing), unfolding(grammar::specs::Steps::after))]
     fn need_tight(&mut self, level: Level, depth: usize) -> Result<u32, Refusal>
         ensures { Reads tree_words (needed (tighter_of (class_of level) depth)) 1 0 self.old self.new result }
     {
@@ -136,7 +131,6 @@ impl<'a> Parser<'a> {
 
     // After the operand `first`: the rest of a chain that leans left.
     #[cycle(expression)]
-    #[tactic(auto, using(crate::proofs::Laws::failing))]
     fn left(&mut self, first: u32, level: Level, depth: usize) -> Result<u32, Refusal>
         ensures { (tree : Expr Span) → Standing self.old first (tree_words tree) → Reads tree_words (left_rest (class_of level) depth tree) 0 0 self.old self.new result }
     {
@@ -149,7 +143,6 @@ impl<'a> Parser<'a> {
     }
 
     // Whether an operator of the level stands here.
-    #[tactic(auto, using(crate::proofs::Laws::failing))]
     fn sees(&mut self, level: Level) -> Result<bool, Refusal>
         ensures { Sees (level_rule level) self.old self.new result }
     {
@@ -161,7 +154,6 @@ impl<'a> Parser<'a> {
 
     // `parseUnaryExpr`: operators before an operand.
     #[cycle(expression)]
-    #[tactic(auto, using(crate::proofs::Laws::failing), unfolding(grammar::specs::Rules::parse_unary_expr))]
     fn unary(&mut self, depth: usize) -> Result<Option<u32>, Refusal>
         ensures { Reads_if tree_words (turning parse_unary_expr depth) 1 0 self.old self.new result }
     {
@@ -189,7 +181,6 @@ impl<'a> Parser<'a> {
 
     // `parsePrimaryExpr`.
     #[cycle(expression)]
-    #[tactic(auto, using(crate::proofs::Laws::failing))]
     fn primary(&mut self, depth: usize) -> Result<Option<u32>, Refusal>
         ensures { Reads_if tree_words (turning parse_primary_expr depth) 1 0 self.old self.new result }
     {
@@ -205,7 +196,6 @@ impl<'a> Parser<'a> {
 
     // An expression in parentheses.
     #[cycle(expression)]
-    #[tactic(auto, using(crate::proofs::Laws::failing), unfolding(grammar::specs::Rules::after_paren))]
     fn paren(&mut self, depth: usize) -> Result<Option<u32>, Refusal>
         ensures { Reads_if tree_words (paren_expr (inner depth)) 1 0 self.old self.new result }
     {
@@ -219,7 +209,6 @@ impl<'a> Parser<'a> {
 
     // What begins with a word, which has `len` bytes.
     #[cycle(expression)]
-    #[tactic(auto, using(crate::proofs::Laws::failing))]
     fn worded(&mut self, len: usize, depth: usize) -> Result<u32, Refusal>
         requires spelt { Spelt self.old len }
         requires filled { 1 ≤ len }
@@ -249,7 +238,6 @@ impl<'a> Parser<'a> {
 
     // After the name `n`: a call, a label, or the name alone.
     #[cycle(expression)]
-    #[tactic(auto, using(crate::proofs::Laws::failing), unfolding(grammar::specs::Rules::after_name, grammar::specs::Rules::after_call, grammar::specs::Rules::after_label, grammar::specs::Rules::after_colon))]
     fn named(&mut self, n: Name, depth: usize) -> Result<u32, Refusal>
         requires { Spare self.old 2 }
         ensures { Reads tree_words (name_rule (span n) depth) 0 2 self.old self.new result }
@@ -269,7 +257,6 @@ impl<'a> Parser<'a> {
 
     // After `if`.
     #[cycle(expression)]
-    #[tactic(auto, using(crate::proofs::Laws::failing), unfolding(grammar::specs::Rules::after_if))]
     fn cond(&mut self, depth: usize) -> Result<u32, Refusal>
         ensures { Reads tree_words (over after_if depth) 1 0 self.old self.new result }
     {
@@ -282,7 +269,6 @@ impl<'a> Parser<'a> {
 
     // After `val`.
     #[cycle(expression)]
-    #[tactic(auto, using(crate::proofs::Laws::failing), unfolding(grammar::specs::Rules::after_val))]
     fn val(&mut self, depth: usize) -> Result<u32, Refusal>
         ensures { Reads tree_words (over after_val depth) 1 0 self.old self.new result }
     {

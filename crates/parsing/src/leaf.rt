@@ -1,4 +1,7 @@
 // Rules that open no expression.
+
+#![tactic(auto, using(crate::proofs::Laws::failing), unfolding(grammar::specs::Rules::parse_id_type, grammar::specs::Steps::after, grammar::specs::Rules::parse_optional_type, grammar::specs::Declarations::parse_function_formal, grammar::specs::Declarations::parse_moded, grammar::specs::Rules::after_bar, grammar::specs::Rules::after_old))]
+
 ghost use Rattle.std.specs.Prelude.{◌≡◌, drop};
 ghost use Rattle.tree.specs.Codes.{as_mode};
 ghost use Rattle.tree.specs.Words.{binding_words, option_words, name_words, f_parameter_words, call_argument_words};
@@ -27,7 +30,6 @@ impl<'a> Parser<'a> {
     }
 
     #[inline]
-    #[tactic(auto, using(crate::proofs::Laws::failing))]
     pub(crate) fn need_identifier(&mut self) -> Result<u32, Refusal>
         ensures { Reads (name_words same) (needed parse_name) 1 0 self.old self.new result }
     {
@@ -36,7 +38,6 @@ impl<'a> Parser<'a> {
     }
 
     // `parseIdType`.
-    #[tactic(auto, using(crate::proofs::Laws::failing), unfolding(grammar::specs::Rules::parse_id_type))]
     pub(crate) fn id_type(&mut self) -> Result<Option<u32>, Refusal>
         ensures { Reads_if (binding_words same) parse_id_type 1 0 self.old self.new result }
     {
@@ -49,7 +50,6 @@ impl<'a> Parser<'a> {
     }
 
     #[inline]
-    #[tactic(auto, using(crate::proofs::Laws::failing), unfolding(grammar::specs::Steps::after))]
     pub(crate) fn need_id_type(&mut self) -> Result<u32, Refusal>
         ensures { Reads (binding_words same) (needed parse_id_type) 1 0 self.old self.new result }
     {
@@ -58,7 +58,6 @@ impl<'a> Parser<'a> {
     }
 
     // `parseIdType`, with a word between the name and the type.
-    #[tactic(auto, using(crate::proofs::Laws::failing), unfolding(grammar::specs::Rules::parse_id_type))]
     fn marked_type(&mut self, word: u32) -> Result<Option<u32>, Refusal>
         ensures { Reads_if (marked_words word) parse_id_type 1 0 self.old self.new result }
     {
@@ -72,7 +71,6 @@ impl<'a> Parser<'a> {
     }
 
     #[inline]
-    #[tactic(auto, using(crate::proofs::Laws::failing), unfolding(grammar::specs::Steps::after))]
     fn need_marked_type(&mut self, word: u32) -> Result<u32, Refusal>
         ensures { Reads (marked_words word) (needed parse_id_type) 1 0 self.old self.new result }
     {
@@ -81,7 +79,6 @@ impl<'a> Parser<'a> {
     }
 
     // The type of `parseIdOptionalType`.
-    #[tactic(auto, using(crate::proofs::Laws::failing), unfolding(grammar::specs::Rules::parse_optional_type))]
     pub(crate) fn optional_type(&mut self) -> Result<u32, Refusal>
         ensures { Reads (option_words (name_words same)) parse_optional_type 0 0 self.old self.new result }
     {
@@ -92,7 +89,6 @@ impl<'a> Parser<'a> {
     }
 
     // A type that must follow.
-    #[tactic(auto, using(crate::proofs::Laws::failing))]
     pub(crate) fn typed(&mut self) -> Result<u32, Refusal>
         ensures { Reads (option_words (name_words same)) some_type 1 0 self.old self.new result }
     {
@@ -101,7 +97,6 @@ impl<'a> Parser<'a> {
     }
 
     // `parseFunctionFormal`.
-    #[tactic(auto, using(crate::proofs::Laws::failing), unfolding(grammar::specs::Declarations::parse_function_formal))]
     pub(crate) fn formal(&mut self) -> Result<Option<u32>, Refusal>
         ensures { Reads_if (f_parameter_words same) parse_function_formal 1 0 self.old self.new result }
     {
@@ -112,7 +107,6 @@ impl<'a> Parser<'a> {
     }
 
     // `parseParameterMode`, and the name and the type of a parameter.
-    #[tactic(auto, using(crate::proofs::Laws::failing), unfolding(grammar::specs::Declarations::parse_moded))]
     pub(crate) fn moded(&mut self) -> Result<Option<u32>, Refusal>
         ensures { Reads_if moded_words parse_moded 1 0 self.old self.new result }
     {
@@ -126,7 +120,6 @@ impl<'a> Parser<'a> {
     }
 
     // `out` or `inout` and a name.
-    #[tactic(auto, using(crate::proofs::Laws::failing))]
     pub(crate) fn by_name(&mut self) -> Result<Option<u32>, Refusal>
         ensures { Reads_if (call_argument_words same) reference_argument 1 0 self.old self.new result }
     {
@@ -140,7 +133,6 @@ impl<'a> Parser<'a> {
     }
 
     // The name that must follow `out` or `inout`.
-    #[tactic(auto, using(crate::proofs::Laws::failing))]
     fn reference(&mut self, mode: Mode) -> Result<u32, Refusal>
         ensures { Reads (call_argument_words same) (reference (as_mode mode)) 1 0 self.old self.new result }
     {
@@ -153,7 +145,6 @@ impl<'a> Parser<'a> {
 // Operands.
 impl<'a> Parser<'a> {
     // A natural or a custom literal.
-    #[tactic(auto, using(crate::proofs::Laws::failing))]
     pub(crate) fn literal(&mut self) -> Result<Option<u32>, Refusal>
         ensures { Reads_if tree_words literal_expr 1 0 self.old self.new result }
     {
@@ -166,7 +157,6 @@ impl<'a> Parser<'a> {
     }
 
     // A custom literal.
-    #[tactic(auto, using(crate::proofs::Laws::failing))]
     fn custom(&mut self) -> Result<Option<u32>, Refusal>
         ensures { Reads_if tree_words custom_expr 1 0 self.old self.new result }
     {
@@ -177,7 +167,6 @@ impl<'a> Parser<'a> {
     }
 
     // After `|`.
-    #[tactic(auto, using(crate::proofs::Laws::failing), unfolding(grammar::specs::Rules::after_bar))]
     fn after_bar(&mut self) -> Result<u32, Refusal>
         ensures { Reads tree_words after_bar 1 0 self.old self.new result }
     {
@@ -190,7 +179,6 @@ impl<'a> Parser<'a> {
     }
 
     // What begins with a word of `len` bytes and opens no expression: `false`, `true` or `old`.
-    #[tactic(auto, using(crate::proofs::Laws::failing))]
     pub(crate) fn constant(&mut self, len: usize) -> Result<Option<u32>, Refusal>
         requires { Spelt self.old len }
         ensures { Reads_if tree_words constant_expr 1 0 self.old self.new result }
@@ -208,7 +196,6 @@ impl<'a> Parser<'a> {
     }
 
     // After `old`.
-    #[tactic(auto, using(crate::proofs::Laws::failing), unfolding(grammar::specs::Rules::after_old))]
     fn old(&mut self) -> Result<u32, Refusal>
         ensures { Reads tree_words after_old 1 0 self.old self.new result }
     {

@@ -177,7 +177,6 @@ impl<'a> Parser<'a> {
 
     // How many bytes the word or name that stands here has, 0 where there is none.
     pub(crate) fn word_ahead(&self) -> usize
-        requires { self.now.at ≤ length self.now.text.now }
         ensures { Spelt self.now result }
     {
         lexing::identifier_length(&self.text[self.at..])

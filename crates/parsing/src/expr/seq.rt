@@ -1,4 +1,7 @@
 // Sequences that commas part, and the rules that have them.
+
+#![tactic(auto, using(crate::proofs::Laws::failing), unfolding(grammar::specs::Rules::parse_nonempty_comma_delimited_seq, grammar::specs::Steps::after, grammar::specs::Rules::parse_listed, grammar::specs::Rules::parse_comma_delimited_seq, grammar::specs::Rules::parse_marked, grammar::specs::Rules::after_quantifier, grammar::specs::Rules::after_lift, grammar::specs::Rules::parse_closure_binding, grammar::specs::Rules::parse_parameters, grammar::specs::Rules::parse_closure_property, grammar::specs::Declarations::parse_proc_formal, grammar::specs::Statements::parse_optional_auto_invariant, grammar::specs::Statements::parse_call_argument))]
+
 use crate::arena::{EMPTY, END, Node};
 use crate::parser::{Parser, unusable};
 use lexing::refusal::Refusal;
@@ -25,7 +28,6 @@ impl<'a> Parser<'a> {
     ghost use Rattle.tree.specs.Words.{patterns_words};
 
     #[cycle(expression)]
-    #[tactic(auto, using(crate::proofs::Laws::failing))]
     fn item(&mut self, kind: Kind, depth: usize) -> Result<Option<u32>, Refusal>
         requires { Spare self.old 1 }
         ensures { Reads_if (item_words kind) (item_rule kind depth) 1 1 self.old self.new result }
@@ -44,7 +46,6 @@ impl<'a> Parser<'a> {
 
     // `parseNonemptyCommaDelimitedSeq`.
     #[cycle(expression)]
-    #[tactic(auto, using(crate::proofs::Laws::failing), unfolding(grammar::specs::Rules::parse_nonempty_comma_delimited_seq))]
     pub(crate) fn items(&mut self, kind: Kind, depth: usize) -> Result<Option<u32>, Refusal>
         requires { Spare self.old 3 }
         ensures { Reads_if (list_words kind) (items_rule kind depth) 1 3 self.old self.new result }
@@ -63,7 +64,6 @@ impl<'a> Parser<'a> {
 
     #[cycle(expression)]
     #[inline]
-    #[tactic(auto, using(crate::proofs::Laws::failing), unfolding(grammar::specs::Steps::after))]
     pub(crate) fn need_items(&mut self, kind: Kind, depth: usize) -> Result<u32, Refusal>
         requires { Spare self.old 3 }
         ensures { Reads (list_words kind) (needed (items_rule kind depth)) 1 3 self.old self.new result }
@@ -74,7 +74,6 @@ impl<'a> Parser<'a> {
 
     // `parseCommaDelimitedSeq`, and the sign that closes it.
     #[cycle(expression)]
-    #[tactic(auto, using(crate::proofs::Laws::failing), unfolding(grammar::specs::Rules::parse_listed, grammar::specs::Rules::parse_comma_delimited_seq))]
     pub(crate) fn list(&mut self, kind: Kind, close: &[u8], depth: usize) -> Result<u32, Refusal>
         requires room { Spare self.old 3 }
         requires in_bounds { 1 ≤ length close.now }
@@ -87,7 +86,6 @@ impl<'a> Parser<'a> {
 
     // `pattern` or `trigger` and expressions, again and again.
     #[cycle(expression)]
-    #[tactic(auto, using(crate::proofs::Laws::failing), unfolding(grammar::specs::Rules::parse_marked))]
     fn marks(&mut self, bytes: &[u8], depth: usize) -> Result<u32, Refusal>
         requires { 3 ≤ length bytes.now }
         ensures { Reads (patterns_words same) (marked_rule bytes.now depth) 0 0 self.old self.new result }
@@ -115,7 +113,6 @@ impl<'a> Parser<'a> {
     // After `forall` or `exists`.
     // Kept: `universal` is QuantifierExpr's own field, a Bool in RawAst, and chooses no step.
     #[cycle(expression)]
-    #[tactic(auto, using(crate::proofs::Laws::failing), unfolding(grammar::specs::Rules::after_quantifier))]
     pub(crate) fn quant(&mut self, universal: bool, depth: usize) -> Result<u32, Refusal>
         requires { Spare self.old 7 }
         ensures { Reads tree_words (quantifier_rule universal depth) 1 7 self.old self.new result }
@@ -129,7 +126,6 @@ impl<'a> Parser<'a> {
 
     // After `lift`.
     #[cycle(expression)]
-    #[tactic(auto, using(crate::proofs::Laws::failing), unfolding(grammar::specs::Rules::after_lift))]
     pub(crate) fn lift(&mut self, depth: usize) -> Result<u32, Refusal>
         requires { Spare self.old 4 }
         ensures { Reads tree_words (turning after_lift depth) 1 4 self.old self.new result }
@@ -149,7 +145,6 @@ impl<'a> Parser<'a> {
 
     // `parseClosureBinding`.
     #[cycle(expression)]
-    #[tactic(auto, using(crate::proofs::Laws::failing), unfolding(grammar::specs::Rules::parse_closure_binding))]
     fn bind(&mut self, depth: usize) -> Result<Option<u32>, Refusal>
         ensures { Reads_if closure_words (item_rule Closures depth) 1 0 self.old self.new result }
     {
@@ -166,7 +161,6 @@ impl<'a> Parser<'a> {
 
     // The parameters of a closure binding, or none.
     #[cycle(expression)]
-    #[tactic(auto, using(crate::proofs::Laws::failing), unfolding(grammar::specs::Rules::parse_parameters))]
     fn params(&mut self, depth: usize) -> Result<u32, Refusal>
         requires { Spare self.old 1 }
         ensures { Reads (seq_words (binding_words same)) (λ text. parse_parameters text (turns text)) 0 1 self.old self.new result }
@@ -179,7 +173,6 @@ impl<'a> Parser<'a> {
 
     // `parseClosureProperty`.
     #[cycle(expression)]
-    #[tactic(auto, using(crate::proofs::Laws::failing), unfolding(grammar::specs::Rules::parse_closure_property))]
     fn prop(&mut self, depth: usize) -> Result<Option<u32>, Refusal>
         requires { Spare self.old 1 }
         ensures { Reads_if property_words (item_rule Properties depth) 1 1 self.old self.new result }
@@ -197,7 +190,6 @@ impl<'a> Parser<'a> {
 
     // `parseProcFormal`.
     #[cycle(expression)]
-    #[tactic(auto, using(crate::proofs::Laws::failing), unfolding(grammar::specs::Declarations::parse_proc_formal))]
     fn param(&mut self, depth: usize) -> Result<Option<u32>, Refusal>
         requires { Spare self.old 1 }
         ensures { Reads_if (p_parameter_words same) (item_rule Parameters depth) 1 1 self.old self.new result }
@@ -211,7 +203,6 @@ impl<'a> Parser<'a> {
 
     // `autoinv` and an expression, or none.
     #[cycle(expression)]
-    #[tactic(auto, using(crate::proofs::Laws::failing), unfolding(grammar::specs::Statements::parse_optional_auto_invariant))]
     pub(crate) fn auto_invariant(&mut self, depth: usize) -> Result<u32, Refusal>
         ensures { Reads (option_words tree_words) (opening parse_optional_auto_invariant depth) 0 0 self.old self.new result }
     {
@@ -224,7 +215,6 @@ impl<'a> Parser<'a> {
 
     // `parseCallArgument`.
     #[cycle(expression)]
-    #[tactic(auto, using(crate::proofs::Laws::failing), unfolding(grammar::specs::Statements::parse_call_argument))]
     fn arg(&mut self, depth: usize) -> Result<Option<u32>, Refusal>
         requires { Spare self.old 1 }
         ensures { Reads_if (call_argument_words same) (item_rule Arguments depth) 1 1 self.old self.new result }

@@ -1,4 +1,3 @@
-use Rattle.std.proofs.Common.{◌∙◌}
 use Rattle.parsing.proofs.Entries.{at-end, before-end}
 use Rattle.parsing.proofs.parser.Parser.to_end.Goals as goal
 
