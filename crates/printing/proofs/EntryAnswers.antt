@@ -4,7 +4,7 @@ use native.Mathlib.Omega.{arith}
 use mathlib.Core.Path.{◌≡◌, refl, sym, ap, ◌∙◌, subst}
 use mathlib.Core.Bool.{Bool, true, false, ◌&&◌}
 use mathlib.Core.List.{List, ◌++◌}
-use lib.ListN.{length, take, drop, length-take}
+use lib.ListN.{length, take, drop}
 use lib.Dec.{leb}
 use borrow.Author.Tests.{leb-true, leb-false, le-leb, lt-leb}
 use Rattle.tree.specs.Clash.{impossible}
@@ -21,16 +21,16 @@ use Rattle.printing.specs.Delivery.{delivered}
 
 -- ---- from a buffer to the output
 
-module _ (buffer : List ℕ) (n : ℕ) (out : List ℕ) where
-  -- where the output has room for them they are copied
-  pub copied : {first : List ℕ} → n ≤ length out → first ≡ take n buffer → written n (first ++ drop n out) ≡ delivered buffer n out
+module _ (print out : List ℕ) where
+  -- where the output has room for it it is copied
+  pub copied : {first : List ℕ} → length print ≤ length out → first ≡ print → written (length print) (first ++ drop (length print) out) ≡ delivered print out
   unfolding delivered
-  copied h e = ap (λ (l : List ℕ). written n (l ++ drop n out)) e ∙ sym (simp (le-leb n (length out) h))
+  copied h e = ap (λ (l : List ℕ). written (length print) (l ++ drop (length print) out)) e ∙ sym (simp (le-leb (length print) (length out) h))
 
   -- an output that is too short is refused
-  pub too_short : length out < n → refusal print_too_long 0 out ≡ delivered buffer n out
+  pub too_short : length out < length print → refusal print_too_long 0 out ≡ delivered print out
   unfolding delivered
-  too_short h = sym (simp (lt-leb n (length out) h))
+  too_short h = sym (simp (lt-leb (length print) (length out) h))
 
 -- ---- what a buffer holds of a table's print
 
@@ -50,26 +50,17 @@ made-length {print} {b} {n = n} m =
     (λ t e. impossible cc)
 
 module _ (P : Printable) (b b' : List ℕ) where
-  -- the bytes of a print are there
-  bytes-there : (n : ℕ) (h : Held P.Tree) → Gives P b (Ok n) b' h → n ≤ length b'
-  bytes-there n (held t) m =
-      let l : n ≡ length (P.print t) = (made-length m).0 in
-      let e : length (take n b') ≡ length (P.print t) = ap length (m.bytes n refl) in
-      let f = length-take n b' in
-      omega arith
-  bytes-there n (refused number place) e = let f = e.answers in impossible cc
-
   module _ (out : List ℕ) (h : length b ≤ most_print) (k : min (length out) most_print ≤ length b) where
     -- a print in the buffer is stored
-    print-stored : (n : ℕ) (x : Held P.Tree) → Gives P b (Ok n) b' x → delivered b' n out ≡ print_held P x out
+    print-stored : (n : ℕ) (x : Held P.Tree) → Gives P b (Ok n) b' x → delivered (take n b') out ≡ print_held P x out
     unfolding delivered stored
     print-stored n (held t) m =
+        let e : n ≡ length (P.print t) = (made-length m).0 in
         let l : n ≤ length b = (made-length m).1 in
-        let e : length (P.print t) ≡ n = sym (made-length m).0 in
-        rw (m.bytes n refl, e, le-leb n most_print (omega arith)) (by-test (leb n (length out)))
+        rw (m.bytes n refl, le-leb (length (P.print t)) most_print (omega arith)) (by-test (leb (length (P.print t)) (length out)))
       where
-        by-test : (v : Bool) → pick v (written n (P.print t ++ drop n out)) (refusal print_too_long 0 out)
-            ≡ pick (v && true) (written n (P.print t ++ drop n out)) (refusal print_too_long 0 out)
+        by-test : (v : Bool) → pick v (written (length (P.print t)) (P.print t ++ drop (length (P.print t)) out)) (refusal print_too_long 0 out)
+            ≡ pick (v && true) (written (length (P.print t)) (P.print t ++ drop (length (P.print t)) out)) (refusal print_too_long 0 out)
         by-test true = refl
         by-test false = refl
     print-stored n (refused number place) e = let f = e.answers in impossible cc
@@ -96,13 +87,9 @@ module _ {P : Printable} {text words b b' : List ℕ} {r : Result ℕ PrintError
   by_answer : {q : Result ℕ PrintError} → r ≡ q → Gives P b q b' (held_by P text words)
   by_answer e = subst (λ (q : Result ℕ PrintError). Gives P b q b' (held_by P text words)) e x.gives
 
-  -- the first n bytes of the buffer are the print
-  pub there : {n : ℕ} → r ≡ Ok n → n ≤ length b'
-  there {n} e = bytes-there P b b' n (held_by P text words) (by_answer e)
-
   module _ (out : List ℕ) (h : length b ≤ most_print) (k : min (length out) most_print ≤ length b) where
-    -- they are handed over
-    pub handed : {n : ℕ} {o : Outcome} → r ≡ Ok n → o ≡ delivered b' n out → o ≡ print_table P text words out
+    -- the first n bytes of the buffer are the print, and are handed over
+    pub handed : {n : ℕ} {o : Outcome} → r ≡ Ok n → o ≡ delivered (take n b') out → o ≡ print_table P text words out
     unfolding print_table
     handed {n} e d = d ∙ print-stored P b b' out h k n (held_by P text words) (by_answer e)
 

@@ -5,7 +5,7 @@
 use Rattle.std.specs.Prelude.{ℕ, ◌≡◌, ◌↔◌, ◌⊎◌, List, ◌++◌, length, drop}
 use Rattle.std.proofs.Math.Option.{some}
 use Rattle.tree.specs.Check.{oversized, misfitting}
-use Rattle.std.specs.Prelude.{Result, Ok, Err}
+use Rattle.std.specs.Prelude.{Result, Ok}
 use Rattle.rendering.specs.declared.PrintError.{PrintError}
 use Rattle.rendering.specs.Tables.{Printable, Within}
 use Rattle.rendering.specs.TableLaws.{Lawful}

@@ -9,7 +9,9 @@ use layout::ExprFormatOption;
 use rendering::{PrintError, Root, render};
 
 // The most bytes of a print.
-const MOST_PRINT: usize = 65536;
+pub const MOST_PRINT: usize = 65536;
+
+// Kept: the three entries are each one call of `print`, with the root that their name says.
 
 // Prints the expression that a table holds over a text on one line.
 pub fn print_expression(text: &[u8], words: &[u32], out: &mut [u8]) -> Result<usize, PrintError>
@@ -48,6 +50,7 @@ pub fn print_program(text: &[u8], words: &[u32], out: &mut [u8]) -> Result<usize
 }
 
 // A small output takes a small buffer.
+// Kept: a struct of the text and the words would be made in the three entries and taken apart again in the call of `render`.
 fn print(text: &[u8], words: &[u32], root: Root, out: &mut [u8]) -> Result<usize, PrintError>
     ensures { Answered (rooted 2 text.now root) text.now words.now out.old result out.new }
 {
@@ -69,17 +72,17 @@ fn print_through<const SIZE: usize>(
 {
     let mut buffer = [0u8; SIZE];
     let n = render(text, words, root, &mut buffer)?;
-    deliver(&buffer, n, out)
+    deliver(&buffer[..n], out)
 }
 
-// Copies the first `n` bytes of a buffer to the output; refusal 8 where that is shorter.
-fn deliver(buffer: &[u8], n: usize, out: &mut [u8]) -> Result<usize, PrintError>
-    requires { n ≤ length buffer.now }
-    ensures { outcome_of result out.new ≡ delivered buffer.now n out.old }
+// Copies a print to the front of the output; refusal 8 where that is shorter.
+fn deliver(print: &[u8], out: &mut [u8]) -> Result<usize, PrintError>
+    ensures { outcome_of result out.new ≡ delivered print.now out.old }
 {
+    let n = print.len();
     if out.len() < n {
         return Err(PrintError::TooLong);
     }
-    out[..n].copy_from_slice(&buffer[..n]);
+    out[..n].copy_from_slice(print);
     Ok(n)
 }

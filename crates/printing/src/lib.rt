@@ -4,5 +4,5 @@
 
 mod entry;
 
-pub use entry::{print_expression, print_expression_lines, print_program};
+pub use entry::{MOST_PRINT, print_expression, print_expression_lines, print_program};
 pub use rendering::PrintError;

@@ -11,14 +11,17 @@ ghost use Rattle.tidy.specs.Answers.{Tidies, TidiesIn};
 ghost use Rattle.tidy.specs.Errors.{error_number, error_place};
 
 pub use error::TidyError;
+pub use printing::MOST_PRINT;
 use printing::print_program;
 use reading::read_program;
+pub use tree::MOST_TEXT;
 use tree::MOST_WORDS;
 
 // For a text of at most 512 bytes: five words, and five for each byte.
 const FEW_WORDS: usize = 2565;
 
 // Reads the program `text` and prints it to `out`. Answers how many bytes were written, or a refusal's number times 2^32 plus its place.
+// Kept: one number is the answer that C takes; `tidied` is the form for callers here.
 pub fn tidy(text: &[u8], out: &mut [u8]) -> u64
     ensures { Tidied text.now out.old result out.new }
 {
@@ -50,6 +53,7 @@ fn tidied_in<const WORDS: usize>(text: &[u8], out: &mut [u8]) -> Result<usize, T
 }
 
 // A refusal as one number.
+// Kept: as `tidy`, for C.
 fn packed(error: TidyError) -> u64
     requires { error_place error ≤ most_text }
     ensures { result ≡ refusal_number (error_number error) (error_place error) }

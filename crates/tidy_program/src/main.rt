@@ -7,13 +7,10 @@ ghost use Rattle.std.specs.Prelude.{◌≡◌, length};
 
 use std::io;
 use std::io::Read;
-use tidy::tidied;
+use tidy::{MOST_PRINT, MOST_TEXT, tidied};
 
 // One byte more than is accepted.
-const MOST_READ: u64 = 32769;
-
-// As many bytes as a print has at most.
-const MOST_PRINT: usize = 65536;
+const MOST_READ: u64 = MOST_TEXT as u64 + 1;
 
 fn main(rt: HostRuntime) -> io::Result<()> {
     let mut input = Vec::new(rt.alloc());

@@ -3,11 +3,8 @@ use native.Mathlib.Omega.{arith}
 use Rattle.std.proofs.Common.{ℕ}
 use Rattle.std.proofs.lemmas.List.{length-replicate}
 use Rattle.std.proofs.lemmas.Result.{err_from_is_err_and}
-use Rattle.printing.proofs.EntryAnswers.{there, handed, refused-too}
+use Rattle.printing.proofs.EntryAnswers.{handed, refused-too}
 use Rattle.printing.proofs.entry.print_through.Goals as goal
-
-pub deliver-requires : goal.deliver-requires
-deliver-requires g c = there c.render.ensures c.in_ok-n.was
 
 pub returns : goal.returns
 returns g c =
