@@ -7,6 +7,7 @@ ghost use Rattle.tree.specs.Codes.{Decodes, Converts};
 use crate::word::Unknown;
 
 // The number of a name's and a natural's second word, which has no kind.
+// Kept: it stands in an outline, a slice of numbers, just where no kind does; as one more kind each match over kinds would have an arm for it.
 pub const SECOND_WORD: u16 = 0;
 
 // What may be expected at a word.

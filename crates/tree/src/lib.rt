@@ -63,6 +63,8 @@ impl CheckError {
     }
 }
 
+// Kept: four entries, each one call, and the words beside the text's length: that is what callers have, and what each of them promises.
+
 // Whether the words are one expression over a text of that length.
 pub fn check_expression(words: &[u32], text_len: usize) -> Result<(), CheckError>
     ensures { refusal result ≡ expression_refusal words.now text_len }
@@ -71,6 +73,7 @@ pub fn check_expression(words: &[u32], text_len: usize) -> Result<(), CheckError
 }
 
 // Whether the words are one program over a text of that length.
+// Kept: an entry of its own, as above.
 pub fn check_program(words: &[u32], text_len: usize) -> Result<(), CheckError>
     ensures { refusal result ≡ program_refusal words.now text_len }
 {
@@ -78,6 +81,7 @@ pub fn check_program(words: &[u32], text_len: usize) -> Result<(), CheckError>
 }
 
 // The same; and at the place where a sequence of the expression starts, `counts` gets the number of its items.
+// Kept: an entry of its own, as above.
 pub fn count_expression(
     words: &[u32],
     text_len: usize,
@@ -89,6 +93,7 @@ pub fn count_expression(
 }
 
 // The same of a program.
+// Kept: an entry of its own, as above.
 pub fn count_program(words: &[u32], text_len: usize, counts: &mut [u16]) -> Result<(), CheckError>
     ensures { (refusal result ≡ program_refusal words.now text_len) × (counts.new ≡ program_counts words.now text_len counts.old) }
 {
@@ -97,6 +102,7 @@ pub fn count_program(words: &[u32], text_len: usize, counts: &mut [u16]) -> Resu
 
 // Whether the words are one program over a text of that length; where they are, `kinds` gets for each word the number of the kind that is
 // expected there (`kind`), and `ends` the place after what stands for it. What lies past the words stays, and of a refused table all.
+// Kept: two outputs, each as long as its caller wants it.
 pub fn outline_program(
     words: &[u32],
     text_len: usize,
@@ -126,6 +132,7 @@ const PROGRAM: &'static [Kind] = &[
 ];
 
 // What the check finds where kinds are expected, with what is noted of it. A table of fewer words takes a smaller stack.
+// Kept: `counts` and `kinds` apart, here and below: one is an entry's output or empty, the other the outline's or empty.
 fn count(
     table: &Table,
     first: &'static [Kind],
@@ -147,11 +154,12 @@ fn count(
 }
 
 // The places of the stacks. Each stack is a function's own, so that a small table doesn't take a large one.
-// Kept: three functions, since in one with the size as a const parameter the borrow checker does not cover the array, whose frames hold slices.
 const SMALL: usize = 256;
 
 const MEDIUM: usize = 4096;
 
+// Kept: three functions. One with the size as a const parameter was tried: its array, whose frames hold slices, is none that the borrow checker
+// covers, and with frames without slices the check takes half as many instructions more.
 #[inline(never)]
 fn walk_small(
     table: &Table,
@@ -166,6 +174,7 @@ fn walk_small(
     table.walk(first, &mut places, counts, kinds)
 }
 
+// Kept: see `walk_small`.
 #[inline(never)]
 fn walk_medium(
     table: &Table,
@@ -180,6 +189,7 @@ fn walk_medium(
     table.walk(first, &mut places, counts, kinds)
 }
 
+// Kept: see `walk_small`.
 #[inline(never)]
 fn walk_large(
     table: &Table,
@@ -195,6 +205,7 @@ fn walk_large(
 }
 
 // The word at a place; 0 past the end.
+// Kept: the library's `get` and `unwrap_or` under the name that the contracts of callers cite.
 pub fn get(words: &[u32], at: usize) -> u32
     ensures { result ≡ get_or words.now at 0 }
 {

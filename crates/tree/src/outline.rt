@@ -80,6 +80,7 @@ pub(crate) fn find_ends(words: &[u32], kinds: &[u16], ends: &mut [u16])
 }
 
 // Copies numbers, as far as there is a place for them.
+// Kept: one call of the library, whose contract is the outline's: what lies past them stays.
 pub fn fill(from: &[u16], to: &mut [u16])
     ensures { to.new ≡ filled from.now to.old }
 {

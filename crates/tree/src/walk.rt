@@ -30,6 +30,7 @@ pub(crate) struct Step {
 impl Table<'_> {
     // What the check finds where kinds are expected at the table's start; the sequences' numbers of items are noted, and the kinds where the
     // words are one tree.
+    // Kept: `counts` and `kinds` apart, as in `count`.
     pub(crate) fn walk(
         &self,
         first: &'static [Kind],

@@ -3,89 +3,17 @@ ghost use Rattle.std.specs.Prelude.{◌≡◌};
 ghost use Rattle.tree.specs.Codes.{mode_code, operator_code, expr_code, stmt_code, aexpr_code, Decodes, Converts};
 
 // Before the content of an option and each item of a sequence stands MORE; in the place of a content, and after the last item, NO_MORE.
+// Kept: these two and the two Bools are constants. They are marks of the format, compared with a word that may be any other; as the words of an
+// enum of two they would be a bool with its conversion.
 pub const NO_MORE: u32 = 0;
 
 pub const MORE: u32 = 1;
 
 // Bool.
+// Kept: constants, as above.
 pub const FALSE: u32 = 0;
 
 pub const TRUE: u32 = 1;
-
-// ParameterMode.
-pub const IN: u32 = 1;
-
-pub const IN_OUT: u32 = 2;
-
-pub const OUT: u32 = 3;
-
-// Operator.
-pub const IF_THEN_ELSE: u32 = 1;
-
-// Expr.
-pub const B_LITERAL: u32 = 1;
-
-pub const I_LITERAL: u32 = 2;
-
-pub const CUSTOM_LITERAL: u32 = 3;
-
-pub const ID_EXPR: u32 = 4;
-
-pub const OPERATOR_EXPR: u32 = 5;
-
-pub const FUNCTION_CALL_EXPR: u32 = 6;
-
-pub const LABELED_EXPR: u32 = 7;
-
-pub const LET_EXPR: u32 = 8;
-
-pub const QUANTIFIER_EXPR: u32 = 9;
-
-pub const CLOSURE_EXPR: u32 = 10;
-
-// Stmt.
-pub const VAR_DECL: u32 = 21;
-
-pub const ASSIGN: u32 = 22;
-
-pub const REINIT: u32 = 23;
-
-pub const BLOCK: u32 = 24;
-
-pub const CALL: u32 = 25;
-
-pub const CHECK: u32 = 26;
-
-pub const ASSUME: u32 = 27;
-
-pub const REACH: u32 = 28;
-
-pub const ASSERT: u32 = 29;
-
-pub const A_FORALL: u32 = 30;
-
-pub const CHOOSE: u32 = 31;
-
-pub const IF: u32 = 32;
-
-pub const IF_CASE: u32 = 33;
-
-pub const LOOP: u32 = 34;
-
-pub const LABELED_STMT: u32 = 35;
-
-pub const EXIT: u32 = 36;
-
-pub const RETURN: u32 = 37;
-
-pub const PROBE: u32 = 38;
-
-// AExpr.
-pub const A_EXPR: u32 = 1;
-
-pub const A_ASSERTION: u32 = 2;
-
-// ---- the same words as enums
 
 // The error of a word or number that none has.
 #[derive(Clone, Copy, PartialEq, Eq, Debug)]
