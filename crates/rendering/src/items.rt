@@ -5,7 +5,7 @@ ghost use Rattle.rendering.specs.Parts.{Prints};
 ghost use Rattle.rendering.specs.Sequences.{Calls, Moves, Optionally, Repeatedly, one};
 ghost use Rattle.rendering.specs.StmtParts.{one_line, mode_bytes, typed_apart, an_argument, a_formal, a_parameter};
 
-use crate::printer::{Printer, either};
+use crate::printer::Printer;
 use crate::setting::Setting;
 use tree::word::{FALSE, Mode, NO_MORE};
 
@@ -72,8 +72,9 @@ impl Printer<'_> {
     pub(crate) fn formal(&mut self)
         ensures { Prints (one a_formal) self.old self.new }
     {
-        let is_injective = self.ahead(2) != FALSE;
-        self.put(either(is_injective, b"injective ", b""));
+        if self.ahead(2) != FALSE {
+            self.put(b"injective ");
+        }
         self.typed_apart();
     }
 

@@ -1,6 +1,5 @@
 // A printer, which reads the words of a table from a place on and writes their print into a buffer.
 ghost use Rattle.std.specs.Prelude.{IsTrue, ◌↔◌, ◌≡◌, ◌++◌, ◌+◌, ◌≤◌, length, take, drop, replicate};
-ghost use Rattle.lexing.specs.Answer.{pick};
 ghost use Rattle.layout.specs.PrintUtil.{Indent, Space, Parenthesis};
 ghost use Rattle.layout.specs.Text.{decimal};
 ghost use Rattle.rendering.specs.Wrote.{Puts};
@@ -44,14 +43,6 @@ fn store_spaces(out: &mut [u8], pos: usize, size: usize)
     ensures { out.new ≡ take pos out.old ++ replicate size 32 ++ drop (pos + size) out.old }
 {
     out[pos..pos + size].fill(b' ');
-}
-
-// One text or the other.
-// Kept: the arms of an `if` in its place would be arrays of two types.
-pub(crate) fn either<'a>(test: bool, yes: &'a [u8], other: &'a [u8]) -> &'a [u8]
-    ensures { result.now ≡ pick test yes.now other.now }
-{
-    if test { yes } else { other }
 }
 
 // ---- reading

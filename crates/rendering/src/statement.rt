@@ -4,7 +4,7 @@ mod list;
 ghost use Rattle.rendering.specs.Parts.{Prints};
 ghost use Rattle.rendering.specs.StmtParts.{Tells, a_stmt, an_inner, a_block, an_onward, a_variable, variable_head, a_braces, a_forall, a_choose, an_if, an_if_case, a_loop, invariant_list, a_labelled, an_a_expr};
 
-use crate::printer::{Printer, either};
+use crate::printer::Printer;
 use layout::deeper;
 use tree::word::{AExprTag, FALSE, NO_MORE, StmtTag};
 
@@ -62,8 +62,11 @@ impl Printer<'_> {
     fn variable(&mut self)
         ensures { Prints variable_head self.old self.new }
     {
-        let is_constant = self.ahead(2) == FALSE;
-        self.put(either(is_constant, b"val ", b"var "));
+        if self.ahead(2) == FALSE {
+            self.put(b"val ");
+        } else {
+            self.put(b"var ");
+        }
         self.name();
         self.word();
         self.optional(b": ", |p| p.name());

@@ -3,7 +3,7 @@ ghost use Rattle.std.specs.Prelude.{[]};
 ghost use Rattle.rendering.specs.Parts.{Prints};
 ghost use Rattle.rendering.specs.ExprParts.{expression_list, pattern_list, trigger_list, closure_list, property_list};
 
-use crate::printer::{Printer, either};
+use crate::printer::Printer;
 use crate::setting::Setting;
 use layout::ExprFormatOption;
 use tree::word::NO_MORE;
@@ -73,7 +73,9 @@ impl Printer<'_> {
             separator = b", ";
             let is_bare = self.is_at_end();
             self.triggers();
-            self.put(either(is_bare, b"", b":: "));
+            if !is_bare {
+                self.put(b":: ");
+            }
             self.expr(Setting::INLINE);
         }
     }

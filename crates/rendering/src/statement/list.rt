@@ -2,7 +2,7 @@
 ghost use Rattle.rendering.specs.Parts.{Prints};
 ghost use Rattle.rendering.specs.StmtParts.{statement_list, branch_list, case_sequence, a_expr_list};
 
-use crate::printer::{Printer, either};
+use crate::printer::Printer;
 use tree::word::NO_MORE;
 
 impl Printer<'_> {
@@ -28,7 +28,8 @@ impl Printer<'_> {
         while self.word() != NO_MORE {
             self.block(indent);
             let is_last = self.is_at_end();
-            self.put(either(is_last, b"\n", b" or "));
+            let end: &[u8] = if is_last { b"\n" } else { b" or " };
+            self.put(end);
         }
     }
 
@@ -43,7 +44,8 @@ impl Printer<'_> {
             self.put(b" ");
             self.block(indent);
             let is_last = self.is_at_end();
-            self.put(either(is_last, b"\n", b" "));
+            let end: &[u8] = if is_last { b"\n" } else { b" " };
+            self.put(end);
         }
     }
 

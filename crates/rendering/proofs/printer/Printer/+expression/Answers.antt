@@ -1,5 +1,5 @@
 -- The methods that print expressions, each by its steps.
-use Rattle.std.proofs.Common.{arith, ℕ, ◌≡◌, ap, sym, ◌∙◌, Bool, List, [], None, Some}
+use Rattle.std.proofs.Common.{arith, ℕ, ◌≡◌, ap, sym, ◌∙◌, Bool, List, [], ◌++◌, None, Some}
 use Rattle.lexing.specs.Answer.{pick}
 use Rattle.lexing.specs.Bytes.{bytes}
 use Rattle.tree.specs.Ast.{Span, Operator, ArgumentCount, OperatorExpr, Patterns}
@@ -11,11 +11,13 @@ use Rattle.tree.specs.Ast.{no_exprs, ◌then◌, no_patterns, pattern, no_closur
 use Rattle.layout.specs.Printer.{Expression, ExpressionList, operands, patterns, triggers, closure_bindings, properties, triggers_end, else_branch}
 use Rattle.layout.specs.declared.format.ExprFormatOption.TheVariants.{SingleLine}
 use Rattle.tree.specs.Codes.{as_operator}
+use Rattle.rendering.specs.Wrote.{Puts}
 use Rattle.rendering.specs.Parts.{Told, Prints, named}
 use Rattle.rendering.specs.ExprParts.{operand, a_form, expression_list, pattern_list, trigger_list, closure_list, property_list}
-use Rattle.rendering.proofs.Walk.{prints, ready, begin, reads, inside, word, text, these, part, done, at-end, as-print, none-yet, one-more, all-of}
+use Rattle.rendering.proofs.Walk.{prints, ready, begin, reads, inside, word, text, these, part, done, at-end, as-print, unwritten, none-yet, one-more, all-of}
 use Rattle.rendering.proofs.ExprPrints.Forms.{right_format, deeper-is, more-indent, more-least, right-indent, binary-print, unary-form, binary-form, conditional-form, listed-form, noted-operands, takes-three}
 use Rattle.rendering.proofs.ExprPrints.Tags.{operator-is, same-operator, tagged, is-bool, is-natural, is-custom, is-identifier, is-operator, is-call, is-label, is-let, is-quantifier, is-closure, is-none}
+use Rattle.rendering.proofs.printer.Printer.+expression.Goals.{properties-then-not-is_bare, properties-else-not-is_bare}
 use Rattle.rendering.proofs.printer.Printer.+expression.Goals as goal
 
 -- ---- an expression by its first word
@@ -336,15 +338,22 @@ pub closures-returns : goal.closures-returns
 closures-returns t c = all-of c.loop-separator.invariant (prints (cc) (cc) (omega arith) (closures-none t c))
 
 -- what follows a property's triggers
-colons : {N : Type 0} (span : N → Span) (ts : Patterns N) (rest : List ℕ) {r : Bool} {x : List ℕ} {s₀ s : Printer} {X : List ℕ → List ℕ} → Walk s₀ X (patterns_words span ts rest) s → Ends s r
-    → x ≡ pick r [] (bytes ":: ") → x ≡ bytes (triggers_end ts)
-colons _ no_patterns _ l e h = rw (at-end l e) at h
-colons _ (pattern es ps) _ l e h = rw (at-end l e) at h
+colons : {N : Type 0} (span : N → Span) (ts : Patterns N) (rest : List ℕ) {r : Bool} {s₀ s : Printer} {X : List ℕ → List ℕ} → Walk s₀ X (patterns_words span ts rest) s → Ends s r
+    → pick r [] (bytes ":: ") ≡ bytes (triggers_end ts)
+colons _ no_patterns _ l e = rw (at-end l e)
+colons _ (pattern es ps) _ l e = rw (at-end l e)
 
 properties-none : (t : _) (c : goal.properties-After-loop-separator t) → Told (property_list c.loop-separator.separator.now) c.loop-separator.self c.word.new.self
 unfolding properties
 properties-none _ c no_closure_properties rest g d = done (word (begin d) c.word.ensures)
 properties-none _ c (closure_property ts e ps) rest g d = let z = reads (begin d) c.word.ensures in absurd (omega (arith, z, c.loop-separator-test.false))
+
+put-colons : (t : _) (c : goal.properties-After-expr t) → Puts (λ rest. pick c.is_at_end-is_bare.result [] (bytes ":: ") ++ rest) c.triggers.new.self c.if-not-is_bare.self
+put-colons _ c =
+    elim c.if-not-is_bare.branch [
+      | properties-then-not-is_bare w ↦ rw (w.self-is, w.if-not-is_bare.true) w.put-then-not-is_bare.ensures
+      | properties-else-not-is_bare w ↦ rw (w.self-is, w.if-not-is_bare.false) unwritten
+    ]
 
 properties-some : (t : _) (c : goal.properties-After-expr t) (s' : Printer) → Prints (property_list (bytes ", ")) c.expr.new.self s' → Told (property_list c.loop-separator.separator.now) c.loop-separator.self s'
 unfolding properties
@@ -353,14 +362,15 @@ properties-some _ c s' p (closure_property ts e ps) rest g d =
     let item = word (begin d) c.word.ensures in
     let start = text item c.put.ensures in
     let triggers = part c.triggers.ensures ts (ready g.0 (omega arith) (omega arith), g.1.1) start in
-    let body = part c.expr.ensures e (ready g.0 (omega arith) (omega arith), g.1.2) (text triggers (these (colons _ ts _ start c.is_at_end-is_bare.ensures c.either.ensures) c.put-in-loop-separator.ensures)) in
+    let q = put-colons _ c in
+    let body = part c.expr.ensures e (ready g.0 (omega arith) (omega arith), g.1.2) (text triggers (these (colons _ ts _ start c.is_at_end-is_bare.ensures) q)) in
     done (part p ps (ready g.0 (omega arith) (omega arith), g.1.3) body)
 
 pub properties-loop-separator-init : goal.properties-loop-separator-init
 properties-loop-separator-init t c = none-yet
 
 pub properties-loop-separator-preserved : goal.properties-loop-separator-preserved
-properties-loop-separator-preserved t c = one-more c.loop-separator.invariant (cc) (cc) (omega arith) (properties-some t c)
+properties-loop-separator-preserved t c = let p = put-colons t c in one-more c.loop-separator.invariant (cc) (cc) (omega arith) (properties-some t c)
 
 pub properties-returns : goal.properties-returns
 properties-returns t c = all-of c.loop-separator.invariant (prints (cc) (cc) (omega arith) (properties-none t c))

@@ -1,6 +1,7 @@
 -- The methods that print statements, each by its steps.
 use Rattle.std.proofs.Common.{arith, ℕ, ◌≡◌, ap, sym, ◌∙◌, Bool, false, List, length, None, Some}
 use Rattle.lexing.specs.Answer.{pick}
+use Rattle.lexing.specs.Bytes.{bytes}
 use Rattle.tree.specs.Ast.{no_stmts, stmts, no_cases, case, a_expr, AAssertion, no_a_exprs, a_exprs, VarDecl}
 use Rattle.tree.specs.declared.word.AExprTag.TheVariants as atag
 use Rattle.layout.specs.Statements.{shown, StatementList, choices, case_list, aexpr, PrintAExprs, StmtAsBlock}
@@ -15,6 +16,7 @@ use Rattle.rendering.proofs.Words.{found}
 use Rattle.tree.specs.Kind.{of_stmt}
 use Rattle.tree.specs.Trees.{names_in}
 use Rattle.tree.specs.CountLaws.{noted-at}
+use Rattle.rendering.proofs.printer.Printer.+statement.Goals.{branches-then-is_last, branches-else-is_last, cases-then-is_last, cases-else-is_last}
 use Rattle.rendering.proofs.printer.Printer.+statement.Goals as goal
 
 -- ---- a statement by its first word
@@ -316,6 +318,13 @@ unfolding choices
 branches-none _ c no_stmts rest g d = done (word (begin d) c.word.ensures)
 branches-none _ c (stmts s ss) rest g d = let z = reads (begin d) c.word.ensures in absurd (omega (arith, z, c.loop-self-test.false))
 
+branch-text : (t : _) (c : goal.branches-After-put t) → c.if-is_last.end.now ≡ pick c.is_at_end-is_last.result (bytes "\n") (bytes " or ")
+branch-text _ c =
+    elim c.if-is_last.branch [
+      | branches-then-is_last w ↦ rw (w.end-is, w.if-is_last.true)
+      | branches-else-is_last w ↦ rw (w.end-is, w.if-is_last.false)
+    ]
+
 branches-some : (t : _) (c : goal.branches-After-put t) (s' : Printer) → Prints (branch_list c.args.indent) c.put.new.self s' → Told (branch_list c.args.indent) c.loop-self.self s'
 unfolding choices
 branches-some _ c s' p no_stmts rest g d = absurd (c.loop-self-test.true (reads (begin d) c.word.ensures))
@@ -323,7 +332,7 @@ branches-some _ c s' p (stmts s ss) rest g d =
     let h = inside (begin {s = c.loop-self.self} d) in
     let item = word (begin d) c.word.ensures in
     let block = part c.block.ensures s (deeper g.0 (omega arith) (omega arith), g.1.0) item in
-    let end = these (branch-end ss c.either.ensures (stmts-end ss rest block c.is_at_end-is_last.ensures)) c.put.ensures in
+    let end = these (branch-end ss (branch-text _ c) (stmts-end ss rest block c.is_at_end-is_last.ensures)) c.put.ensures in
     done (part p ss (ready g.0 (omega arith) (omega arith), g.1.1) (text block end))
 
 pub branches-loop-self-init : goal.branches-loop-self-init
@@ -340,6 +349,13 @@ unfolding case_list
 cases-none _ c no_cases rest g d = done (word (begin d) c.word.ensures)
 cases-none _ c (case e s cs) rest g d = let z = reads (begin d) c.word.ensures in absurd (omega (arith, z, c.loop-self-test.false))
 
+case-text : (t : _) (c : goal.cases-After-put-in-loop-self-2 t) → c.if-is_last.end.now ≡ pick c.is_at_end-is_last.result (bytes "\n") (bytes " ")
+case-text _ c =
+    elim c.if-is_last.branch [
+      | cases-then-is_last w ↦ rw (w.end-is, w.if-is_last.true)
+      | cases-else-is_last w ↦ rw (w.end-is, w.if-is_last.false)
+    ]
+
 cases-some : (t : _) (c : goal.cases-After-put-in-loop-self-2 t) (s' : Printer) → Prints (case_sequence c.args.indent) c.put-in-loop-self-2.new.self s' → Told (case_sequence c.args.indent) c.loop-self.self s'
 unfolding case_list
 cases-some _ c s' p no_cases rest g d = absurd (c.loop-self-test.true (reads (begin d) c.word.ensures))
@@ -348,7 +364,7 @@ cases-some _ c s' p (case e s cs) rest g d =
     let item = word (begin d) c.word.ensures in
     let test = text (part c.inline.ensures e (ready g.0 (omega arith) (omega arith), g.1.0) (text item c.put.ensures)) c.put-in-loop-self.ensures in
     let block = part c.block.ensures s (deeper g.0 (omega arith) (omega arith), g.1.1) test in
-    let end = these (case-end cs c.either.ensures (cases-end cs rest block c.is_at_end-is_last.ensures)) c.put-in-loop-self-2.ensures in
+    let end = these (case-end cs (case-text _ c) (cases-end cs rest block c.is_at_end-is_last.ensures)) c.put-in-loop-self-2.ensures in
     done (part p cs (ready g.0 (omega arith) (omega arith), g.1.2) (text block end))
 
 pub cases-loop-self-init : goal.cases-loop-self-init
