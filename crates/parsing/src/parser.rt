@@ -17,7 +17,7 @@ use tree::word::{ExprTag, Operator};
 
 // The text and the place that was come to, the arena and the number of its nodes. There is room for two nodes for each byte that is left, and the
 // first two nodes stand.
-// Kept: `depth`, the levels that may be opened, is an argument of the rules: as a field it would have to be put back at each return, refusals too.
+// Kept: `depth`, the levels that may be opened, is an argument: as a field each level would lower it and put it back, and each contract say so.
 #[derive(Drop)]
 pub(crate) struct Parser<'a> {
     pub(crate) text: &'a [u8],
