@@ -38,18 +38,18 @@ enum Spelling<'a> {
 }
 
 // The operators of the levels, each with its spelling, and those before an operand.
-const FACTORS: [(Spelling, Sign); 3] = [
+static FACTORS: [(Spelling<'static>, Sign); 3] = [
     (Spelling::Sym(b"*"), Sign::Straight(Operator::Times)),
     (Spelling::Keyword(b"div"), Sign::Straight(Operator::Div)),
     (Spelling::Keyword(b"mod"), Sign::Straight(Operator::Mod)),
 ];
 
-const TERMS: [(Spelling, Sign); 2] = [
+static TERMS: [(Spelling<'static>, Sign); 2] = [
     (Spelling::Sym(b"+"), Sign::Straight(Operator::Plus)),
     (Spelling::Sym(b"-"), Sign::Straight(Operator::Minus)),
 ];
 
-const COMPARISONS: [(Spelling, Sign); 6] = [
+static COMPARISONS: [(Spelling<'static>, Sign); 6] = [
     (
         Spelling::SymNotPrefix(b"==", b"==>"),
         Sign::Straight(Operator::Eq),
@@ -67,32 +67,32 @@ const COMPARISONS: [(Spelling, Sign); 6] = [
     (Spelling::Sym(b">"), Sign::Swapped(Operator::Less)),
 ];
 
-const CONJUNCTIONS: [(Spelling, Sign); 1] = [(
+static CONJUNCTIONS: [(Spelling<'static>, Sign); 1] = [(
     Spelling::Sym(b"&&"),
     Sign::Straight(Operator::LogicalAnd),
 )];
 
-const DISJUNCTIONS: [(Spelling, Sign); 1] = [(
+static DISJUNCTIONS: [(Spelling<'static>, Sign); 1] = [(
     Spelling::Sym(b"||"),
     Sign::Straight(Operator::LogicalOr),
 )];
 
-const IMPLICATIONS: [(Spelling, Sign); 1] = [(
+static IMPLICATIONS: [(Spelling<'static>, Sign); 1] = [(
     Spelling::Sym(b"==>"),
     Sign::Straight(Operator::LogicalImp),
 )];
 
-const EXPLICATIONS: [(Spelling, Sign); 1] = [(
+static EXPLICATIONS: [(Spelling<'static>, Sign); 1] = [(
     Spelling::SymNotPrefix(b"<==", b"<==>"),
     Sign::Swapped(Operator::LogicalImp),
 )];
 
-const EQUIVALENCES: [(Spelling, Sign); 1] = [(
+static EQUIVALENCES: [(Spelling<'static>, Sign); 1] = [(
     Spelling::Sym(b"<==>"),
     Sign::Straight(Operator::Equiv),
 )];
 
-const UNARIES: [(Spelling, Operator); 2] = [
+static UNARIES: [(Spelling<'static>, Operator); 2] = [
     (Spelling::SymNotPrefix(b"!", b"!="), Operator::LogicalNot),
     (Spelling::Sym(b"-"), Operator::UnaryMinus),
 ];
@@ -125,13 +125,10 @@ impl<'a> Parser<'a> {
         Ok(None)
     }
 
-    // The operator of a level. After an operand that is the last, one look at the next byte tells that there is none.
-    pub(crate) fn operator(&mut self, level: Level) -> Result<Option<Sign>, Refusal>
+    // The operator of a level, by its table.
+    fn level_operator(&mut self, level: Level) -> Result<Option<Sign>, Refusal>
         ensures { Operates build_of (level_rule level) self.old self.new result }
     {
-        if !begins_operator(self.peek(0)) {
-            return Ok(None);
-        }
         match level {
             Level::Product => self.first_of(&FACTORS),
             Level::Sum => self.first_of(&TERMS),
@@ -142,6 +139,16 @@ impl<'a> Parser<'a> {
             Level::Explication => self.first_of(&EXPLICATIONS),
             Level::Equivalence => self.first_of(&EQUIVALENCES),
         }
+    }
+
+    // The operator of a level. After an operand that is the last, one look at the next byte tells that there is none.
+    pub(crate) fn operator(&mut self, level: Level) -> Result<Option<Sign>, Refusal>
+        ensures { Operates build_of (level_rule level) self.old self.new result }
+    {
+        if begins_operator(self.peek(0)) {
+            return self.level_operator(level);
+        }
+        Ok(None)
     }
 
     // The operator before an operand.
