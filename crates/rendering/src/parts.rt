@@ -45,6 +45,7 @@ impl Printer<'_> {
     }
 
     // `Bindings`.
+    // Kept: `separated` with a closure asks for the bounds of indents, as most items do; the callers of this method don't have them.
     fn bindings(&mut self, prefix: &[u8])
         ensures { Prints (bindings prefix.now) self.old self.new }
     {

@@ -10,7 +10,7 @@ use tree::word::{AExprTag, FALSE, NO_MORE, StmtTag};
 
 impl Printer<'_> {
     // A statement without its initial indent. `followed`: it is followed by a `}`.
-    // Kept: the flag is upstream's `followedByEndCurly`, and an enum of two names would be no plainer. The word read decides at once which arm is taken.
+    // Kept: the flag is upstream's `followedByEndCurly`, and an enum of two names would be no plainer. The word decides at once which arm is taken.
     #[cycle(statement)]
     pub(crate) fn stmt(&mut self, indent: usize, followed: bool)
         ensures { Prints (a_stmt indent followed) self.old self.new }

@@ -1,4 +1,5 @@
 // The sequences that hold expressions: each method prints the items from the next word on, and passes them.
+// Kept: loops of their own and not `separated`, since a closure that calls back into the cycle has to state its clauses, which is longer than a loop.
 ghost use Rattle.std.specs.Prelude.{[]};
 ghost use Rattle.rendering.specs.Parts.{Prints};
 ghost use Rattle.rendering.specs.ExprParts.{expression_list, pattern_list, trigger_list, closure_list, property_list};
