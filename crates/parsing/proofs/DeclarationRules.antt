@@ -1,17 +1,16 @@
 -- The rules of declarations step by step, as their methods read them.
-use Rattle.std.proofs.Common.{ℕ, ◌≡◌, ◌∙◌, refl, sym, ap, List, length, take, drop, true}
+use Rattle.std.proofs.Common.{ℕ, ◌≡◌, ◌∙◌, refl, sym, ap, List, length, drop, true}
 use Rattle.std.proofs.Math.Option.{none, some}
 use Rattle.lexing.specs.Answer.{Answer, ok, refused, moved, unusable_token}
-use Rattle.lexing.specs.Bytes.{same_bytes}
 use Rattle.lexing.specs.Blanks.{Blanks, passed, unclosed, W}
-use Rattle.lexing.specs.Tokens.{keyword, closed, lexeme}
+use Rattle.lexing.specs.Tokens.{keyword, closed, lexeme, identifier_length}
 use Rattle.tree.specs.Ast.{Span, Expr, Exprs, no_exprs, ◌then◌}
 use Rattle.tree.specs.Clash.{impossible}
 use Rattle.grammar.specs.Steps.{Reader, after, need, must, mapped, T, Sym}
 use Rattle.grammar.specs.Rules.{exprs}
 use Rattle.grammar.specs.Statements.{rep}
 use Rattle.grammar.specs.Declarations.{undefined, parse_when_clause, parse_function_definition}
-use Rattle.parsing.specs.Contract.{Spelt, word}
+use Rattle.parsing.specs.Contract.{word_here, word}
 use Rattle.parsing.specs.Code.{turns, inner, opened, opening}
 use Rattle.parsing.specs.declared.parser.Parser.{Parser}
 use Rattle.parsing.proofs.Laws.{after-none}
@@ -21,12 +20,11 @@ use Rattle.parsing.proofs.StatementEquations.{opened-expr, expr-needed}
 pub ruleset having_expr = (opened-expr, expr-needed)
 
 -- a word that stands is read as its keyword, or is refused
-pub keyword-stands : (p : Parser) {len : ℕ} (w : List ℕ) → Spelt p len → same_bytes (take len (drop p.at p.text.now)) w ≡ true
-    → word w p.text.now p.at ≡ Answer.none → ⊥
+pub keyword-stands : (p : Parser) (w : List ℕ) → word_here p w ≡ true → word w p.text.now p.at ≡ Answer.none → ⊥
 unfolding keyword lexeme
-keyword-stands p {len} w s h e = by-blanks (W (drop len (drop p.at p.text.now))) (rw (s.measured, h) at e)
+keyword-stands p w h e = by-blanks (W (drop (identifier_length (drop p.at p.text.now)) (drop p.at p.text.now))) (rw h at e)
   where
-    by-blanks : (b : Blanks) → moved p.at (closed 0 len b) ≡ Answer.none → ⊥
+    by-blanks : (b : Blanks) → moved p.at (closed 0 (identifier_length (drop p.at p.text.now)) b) ≡ Answer.none → ⊥
     by-blanks (passed k) e = impossible cc
     by-blanks (unclosed k) e = impossible cc
 

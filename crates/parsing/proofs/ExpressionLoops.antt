@@ -6,7 +6,7 @@ use mathlib.Core.Path.{fun_ext}
 use Rattle.std.specs.Option.{unwrap_or}
 use Rattle.lexing.specs.Answer.{Answer, ok, refused}
 use Rattle.tree.specs.Ast.{Span, Expr, Operator, LogicalImp, pattern, no_patterns}
-use Rattle.tree.specs.Words.{operator_word, exprs_words, patterns_words}
+use Rattle.tree.specs.Words.{exprs_words, patterns_words}
 use Rattle.grammar.specs.Grammar.{Build, Class, straight, single, build, implication}
 use Rattle.grammar.specs.Steps.{Reader, after, need, mapped, Sym, keyword_at}
 use Rattle.grammar.specs.StepLaws.{mapped-same, mapped-twice, mapped-need}
@@ -25,6 +25,7 @@ use Rattle.parsing.specs.Code.{turns, inner, turning, tighter_of, Layer, unary_l
 use Rattle.parsing.specs.declared.sign.Sign.{Sign}
 use Rattle.parsing.specs.declared.sign.Level.TheVariants.{Implication}
 use Rattle.tree.specs.declared.word.Operator.{Operator as OperatorCode}
+use Rattle.tree.specs.declared.word.Operator.TheVariants as code
 use Rattle.parsing.specs.declared.arena.Node.{Node}
 use Rattle.parsing.specs.declared.arena.Node.TheVariants.{Unary, Binary}
 use Rattle.parsing.proofs.Places.{Place, no_credit, begin, begin_with, again, read, read_if, took, skipped, with_end, done, operated, said, as_run, later-next, holds_kept}
@@ -267,18 +268,17 @@ waiting-again depth {p} (suc left) ls v {at} l b w h k m =
     }
 
 -- one operator more, with its first operand
-pub waiting-next : (depth : ℕ) {p q s s₁ s₂ : Parser} {e link n e₁ word : ℕ} {sign : Sign} (w : Waiting depth p q e link)
-    → Operated build_of (level_rule Implication) q s sign → word ≡ operator_word LogicalImp → Pushed (Binary word e link) s s₁ n
+pub waiting-next : (depth : ℕ) {p q s s₁ s₂ : Parser} {e link n e₁ : ℕ} {sign : Sign} (w : Waiting depth p q e link)
+    → Operated build_of (level_rule Implication) q s sign → Pushed (Binary code.LogicalImp e link) s s₁ n
     → Read tree_words (needed (tighter_of implication depth)) 1 0 s₁ s₂ e₁ → Waiting depth p s₂ e₁ n
-waiting-next depth {p} {s₂ = s₂} {e} {link} {n} {sign = sign} w o x m r =
+waiting-next depth {p} {s₂ = s₂} {e} {link} {n} {sign = sign} w o m r =
     let is-implies : build_of sign ≡ straight LogicalImp = implies-is _ _ o.says in
     let l = read (tighter_of implication depth) _ r (unused m.made (operated (level_rule Implication) _ _ o w.place) (omega arith)) (leb-zero _) in
     let on = later-next o.went.later (later-next m.made.later r.went.later) in
-    let here : get_or s₂.arena.now n outside ≡ Binary (operator_word LogicalImp) e link
-    = rw x at (r.went.later.kept.below n (omega (arith, m.made.last)) ∙ m.here) in
+    let here : get_or s₂.arena.now n outside ≡ Binary code.LogicalImp e link = r.went.later.kept.below n (omega (arith, m.made.last)) ∙ m.here in
     let below = w.place.stands.0.below in
     let links : Links s₂.arena.now n (binary_layer LogicalImp w.tree ∷ w.layers)
-    = Links.binary_link here (omega (arith, w.links-below, o.top_same, m.made.last, m.made.top)) (omega (arith, below, o.top_same, m.made.last, m.made.top))
+    = Links.binary_link {op = code.LogicalImp} here (omega (arith, w.links-below, o.top_same, m.made.last, m.made.top)) (omega (arith, below, o.top_same, m.made.last, m.made.top))
     (holds_kept on.kept below w.place.stands.0.holds) (links-kept on.kept w.links-below w.links) in
     waiting-again depth w.left (binary_layer LogicalImp w.tree ∷ w.layers) r.value (said (mapped-twice _ (fold_layers w.layers) _) (rw is-implies at l))
     (omega arith) (omega arith) (omega (arith, w.enough, o.went.onward, m.made.at_same, r.went.onward)) links (omega (arith, m.made.last, r.went.later.grows))
@@ -388,14 +388,13 @@ signed-again depth {p} (suc left) op ls {at} l w h k m =
     }
 
 -- one operator more
-pub signed-next : (depth : ℕ) {p q s s₁ : Parser} {link n word : ℕ} {op : OperatorCode} (w : Signed depth p q link)
-    → Operated as_operator unary_operator q s op → word ≡ operator_word (as_operator op) → Pushed (Unary word link) s s₁ n → Signed depth p s₁ n
-signed-next depth {p} {s₁ = s₁} {link} {n} {op = op} w o x m =
+pub signed-next : (depth : ℕ) {p q s s₁ : Parser} {link n : ℕ} {op : OperatorCode} (w : Signed depth p q link)
+    → Operated as_operator unary_operator q s op → Pushed (Unary op link) s s₁ n → Signed depth p s₁ n
+signed-next depth {p} {s₁ = s₁} {link} {n} {op = op} w o m =
     let l = unused m.made (operated unary_operator _ _ o w.place) (omega arith) in
     let on = later-next o.went.later m.made.later in
-    let here : get_or s₁.arena.now n outside ≡ Unary (operator_word (as_operator op)) link = rw x at m.here in
     let links : Links s₁.arena.now n (unary_layer (as_operator op) ∷ w.layers)
-    = Links.unary_link here (omega (arith, w.links-below, o.top_same, m.made.last, m.made.top)) (links-kept on.kept w.links-below w.links) in
+    = Links.unary_link m.here (omega (arith, w.links-below, o.top_same, m.made.last, m.made.top)) (links-kept on.kept w.links-below w.links) in
     signed-again depth w.left (as_operator op) w.layers l (omega arith) (omega (arith, w.enough, o.went.onward)) links (omega (arith, m.made.last))
 
 links-empty : {arena : List Node} {link : ℕ} {ls : List Layer} → Links arena link ls → ls ≡ [] → link ≡ 0

@@ -188,11 +188,6 @@ module _ (text : List ℕ) (m : ℕ) (c : Reader (Expr Span)) (k at : ℕ) where
 abbrev trigger_ahead : List ℕ → ℕ → Bool
 trigger_ahead text at = same_bytes (take (identifier_length (drop at text)) (drop at text)) (bytes "trigger")
 
--- by the test of the word that stands there
-pub triggers : (text : List ℕ) (at : ℕ) {len : ℕ} {t b : Bool} → identifier_length (drop at text) ≡ len → t ≡ same_bytes (take len (drop at text)) (bytes "trigger")
-    → t ≡ b → trigger_ahead text at ≡ b
-triggers text at e f g = rw e (sym f ∙ g)
-
 pub triggered-rule : (text : List ℕ) (m : ℕ) (c : Reader (Expr Span)) (at : ℕ) → trigger_ahead text at ≡ true
     → parse_closure_property text (suc m) c at
     ≡ after (parse_marked text (suc m) c (suc m) (bytes "trigger") at) Answer.none (λ ts at₁. need at₁ (c at₁) (λ body at₂. ok (ts, body) at₂))

@@ -1,8 +1,9 @@
 -- The loop of `fold`: each turn puts one layer over the operand.
 use Rattle.std.proofs.Common.{ℕ, ◌+◌, ◌<◌, ◌≡◌, ◌∙◌, refl, sym, ap, List, [], ◌∷◌, length, get_or, arith}
-use Rattle.tree.specs.Ast.{Span, Expr, Operator}
+use Rattle.tree.specs.Ast.{Span, Expr}
 use Rattle.tree.specs.Clash.{impossible}
-use Rattle.tree.specs.Words.{operator_word}
+use Rattle.tree.specs.Codes.{as_operator}
+use Rattle.tree.specs.declared.word.Operator.{Operator}
 use Rattle.grammar.specs.Reading.{tree_words}
 use Rattle.parsing.specs.Arena.{Holds, outside}
 use Rattle.parsing.specs.Contract.{Spare, Later, Standing, Pushed}
@@ -30,10 +31,10 @@ pub record Folding (p : Parser) (first last : ℕ) (s : Parser) (link e : ℕ) :
 -- a link is a node over an operator, or there is none
 pub data Linking (arena : List Node) (link : ℕ) (ls : List Layer) : Type 0 where
   none : link ≡ 0 → ls ≡ [] → Linking arena link ls
-  unary : (op : Operator) (z : ℕ) (rest : List Layer) → get_or arena link outside ≡ Unary (operator_word op) z → z < link → Links arena z rest
-      → ls ≡ unary_layer op ∷ rest → Linking arena link ls
-  binary : (op : Operator) (a : Expr Span) (y z : ℕ) (rest : List Layer) → get_or arena link outside ≡ Binary (operator_word op) y z → z < link → y < link
-      → Holds arena y (tree_words a) → Links arena z rest → ls ≡ binary_layer op a ∷ rest → Linking arena link ls
+  unary : (op : Operator) (z : ℕ) (rest : List Layer) → get_or arena link outside ≡ Unary op z → z < link → Links arena z rest
+      → ls ≡ unary_layer (as_operator op) ∷ rest → Linking arena link ls
+  binary : (op : Operator) (a : Expr Span) (y z : ℕ) (rest : List Layer) → get_or arena link outside ≡ Binary op y z → z < link → y < link
+      → Holds arena y (tree_words a) → Links arena z rest → ls ≡ binary_layer (as_operator op) a ∷ rest → Linking arena link ls
 
 pub linking : {arena : List Node} {link : ℕ} {ls : List Layer} → Links arena link ls → Linking arena link ls
 linking Links.ends = none refl refl
@@ -57,7 +58,7 @@ module _ {p s : Parser} {first last link e : ℕ} (o : Folding p first last s li
   roomy f n h =
       record { room = omega (arith, f.spare.room, ap length o.later.text_same, o.later.kept.length-kept, o.at_same) }
 
-  module _ {op before : ℕ} (h : get_or s.arena.now link outside ≡ Unary op before) where
+  module _ {op : Operator} {before : ℕ} (h : get_or s.arena.now link outside ≡ Unary op before) where
     pub unary-turn : Foldable first last p → Turn s link before
     unary-turn f = let r = o.rest f.layers f.tree f.links f.standing in by-link r.layers (linking r.links) r.count
       where
@@ -83,10 +84,10 @@ module _ {p s : Parser} {first last link e : ℕ} (o : Folding p first last s li
         by-link ls t tree layers (unary op₁ z rest k l i d) st w c =
             let g = sym k ∙ sym was ∙ h in
             let x : z ≡ before = cc in
-            let y : op ≡ operator_word op₁ = cc in
+            let y : op ≡ op₁ = cc in
             record {
               layers = rest;
-              tree = layered (unary_layer op₁) tree;
+              tree = layered (unary_layer (as_operator op₁)) tree;
               links = rw x at i;
               standing = made-standing m.made (unary-holds (rw y at m) st);
               whole = rw d at w;
@@ -94,7 +95,7 @@ module _ {p s : Parser} {first last link e : ℕ} (o : Folding p first last s li
             }
         by-link ls t tree layers (binary op₁ a y z rest k l i j v d) st w c = let g = sym k ∙ sym was ∙ h in impossible cc
 
-  module _ {op a before : ℕ} (h : get_or s.arena.now link outside ≡ Binary op a before) where
+  module _ {op : Operator} {a before : ℕ} (h : get_or s.arena.now link outside ≡ Binary op a before) where
     pub binary-turn : Foldable first last p → Turn s link before
     binary-turn f = let r = o.rest f.layers f.tree f.links f.standing in by-link r.layers (linking r.links) r.count
       where
@@ -121,12 +122,12 @@ module _ {p s : Parser} {first last link e : ℕ} (o : Folding p first last s li
         by-link ls t tree layers (binary op₁ b y z rest k l i v j d) st w c =
             let g = sym k ∙ sym was ∙ h in
             let x : z ≡ before = cc in
-            let y₁ : op ≡ operator_word op₁ = cc in
+            let y₁ : op ≡ op₁ = cc in
             let y₂ : a ≡ y = cc in
             let first : Standing p y (tree_words b) = record { holds = v; below = omega (arith, o.link_below) } in
             record {
               layers = rest;
-              tree = layered (binary_layer op₁ b) tree;
+              tree = layered (binary_layer (as_operator op₁) b) tree;
               links = rw x at j;
               standing = made-standing m.made (binary-holds (standing-on o.later first) st (rw (y₁, y₂) at m));
               whole = rw d at w;
@@ -134,8 +135,8 @@ module _ {p s : Parser} {first last link e : ℕ} (o : Folding p first last s li
             }
 
   -- a link that is no operator is none
-  pub folding-end : ((op before : ℕ) → get_or s.arena.now link outside ≡ Unary op before → ⊥)
-      → ((op a before : ℕ) → get_or s.arena.now link outside ≡ Binary op a before → ⊥) → Foldable first last p → Folded first last p s e
+  pub folding-end : ((op : Operator) (before : ℕ) → get_or s.arena.now link outside ≡ Unary op before → ⊥)
+      → ((op : Operator) (a before : ℕ) → get_or s.arena.now link outside ≡ Binary op a before → ⊥) → Foldable first last p → Folded first last p s e
   folding-end u b f =
       let r = o.rest f.layers f.tree f.links f.standing in
       record {

@@ -9,6 +9,9 @@ use Rattle.std.proofs.Math.Nat.{ℕ_set}
 use Rattle.lexing.specs.Answer.{Answer, ok, refused}
 use Rattle.tree.specs.Ast.{Span, Expr}
 use Rattle.tree.specs.Clash.{impossible}
+use Rattle.tree.specs.Codes.{operator_code}
+use Rattle.tree.specs.Words.{bool_word}
+use Rattle.tree.specs.declared.word.Operator.{Operator}
 use Rattle.tree.specs.Limits.{most_text}
 use Rattle.tree.specs.Tags.{more, no_more, operator_expr_tag, id_expr_tag}
 use Rattle.grammar.specs.Steps.{after, need, must, mapped}
@@ -326,10 +329,11 @@ module _ {q s : Parser} {n : ℕ} where
   pub three-holds : {x y z : ℕ} → Pushed (Three x y z) q s n → Holds s.arena.now n (λ r. x ∷ y ∷ z ∷ r)
   three-holds m = Holds.three m.here
 
-  pub ident-holds : {x y z : ℕ} → Pushed (Ident x y z) q s n → Holds s.arena.now n (λ r. id_expr_tag ∷ x ∷ y ∷ z ∷ r)
+  pub ident-holds : {x y : ℕ} {z : Bool} → Pushed (Ident x y z) q s n → Holds s.arena.now n (λ r. id_expr_tag ∷ x ∷ y ∷ bool_word z ∷ r)
   ident-holds m = Holds.ident m.here
 
-  pub unary-holds : {x a : ℕ} {f : Run} → Pushed (Unary x a) q s n → Standing q a f → Holds s.arena.now n (λ r. operator_expr_tag ∷ x ∷ more ∷ f (no_more ∷ r))
+  pub unary-holds : {op : Operator} {a : ℕ} {f : Run} → Pushed (Unary op a) q s n → Standing q a f
+      → Holds s.arena.now n (λ r. operator_expr_tag ∷ operator_code op ∷ more ∷ f (no_more ∷ r))
   unary-holds m x = Holds.unary m.here (omega (arith, x.below, m.made.last, m.made.top)) (holds_kept m.made.later.kept x.below x.holds)
 
   pub closed-holds : {a : ℕ} {f : Run} → Pushed (Closed a) q s n → Standing q a f → Holds s.arena.now n (λ r. f (no_more ∷ r))
@@ -351,7 +355,8 @@ module _ {q s : Parser} {n : ℕ} where
         Holds.item m.here (omega (arith, x.below, m.made.last, m.made.top)) (omega (arith, y.below, m.made.last, m.made.top)) (holds_kept l.kept x.below x.holds)
         (holds_kept l.kept y.below y.holds)
 
-    pub binary-holds : {op : ℕ} → Pushed (Binary op a b) q s n → Holds s.arena.now n (λ r. operator_expr_tag ∷ op ∷ more ∷ f (more ∷ g (no_more ∷ r)))
+    pub binary-holds : {op : Operator} → Pushed (Binary op a b) q s n
+        → Holds s.arena.now n (λ r. operator_expr_tag ∷ operator_code op ∷ more ∷ f (more ∷ g (no_more ∷ r)))
     binary-holds m =
         let l = m.made.later in
         Holds.binary m.here (omega (arith, x.below, m.made.last, m.made.top)) (omega (arith, y.below, m.made.last, m.made.top)) (holds_kept l.kept x.below x.holds)
@@ -408,8 +413,8 @@ module _ {A : Type 0} {answer : Answer A} {lent : ℕ} {p q : Parser} {at bytes 
       → Place answer lent p s at bytes (spare - 1) rest ((n, λ r. x ∷ y ∷ z ∷ r) ∷ made)
   three-made m l c = noted m.made (three-holds m) l c
 
-  pub ident-made : {x y z : ℕ} → Pushed (Ident x y z) q s n → Place answer lent p q at bytes spare rest made → leb 1 spare ≡ true
-      → Place answer lent p s at bytes (spare - 1) rest ((n, λ r. id_expr_tag ∷ x ∷ y ∷ z ∷ r) ∷ made)
+  pub ident-made : {x y : ℕ} {z : Bool} → Pushed (Ident x y z) q s n → Place answer lent p q at bytes spare rest made → leb 1 spare ≡ true
+      → Place answer lent p s at bytes (spare - 1) rest ((n, λ r. id_expr_tag ∷ x ∷ y ∷ bool_word z ∷ r) ∷ made)
   ident-made m l c = noted m.made (ident-holds m) l c
 
   -- over the last node

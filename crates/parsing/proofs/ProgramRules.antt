@@ -5,7 +5,9 @@ use Rattle.std.proofs.lemmas.List.{drop_more}
 use Rattle.std.specs.Result.{IsErrAnd}
 use Rattle.std.proofs.lemmas.Result.{err_from_is_err_and}
 use Rattle.lexing.specs.Answer.{Answer, ok, refused}
+use Rattle.lexing.specs.Bytes.{same_bytes}
 use Rattle.lexing.specs.CodeAnswers.{number}
+use Rattle.lexing.specs.Tokens.{identifier_length, keyword}
 use Rattle.lexing.specs.declared.refusal.Refusal.{Refusal}
 use Rattle.tree.specs.Ast.{Span, Program}
 use Rattle.tree.specs.Clash.{impossible}
@@ -79,6 +81,11 @@ module _ {p q : Parser} (ws : List Word) (i : ℕ) (d : Word) (h : i < length ws
 -- no word is left
 pub none-found : {p q : Parser} → Seeking p q [] → Missing kind_rule p q
 none-found s = record { says = s.says; same = s.same }
+
+-- where no word stands, none of them does
+pub no-kind : (p : Parser) → identifier_length (drop p.at p.text.now) ≡ 0 → Missing kind_rule p p
+unfolding after keyword same_bytes
+no-kind p e = record { says = rw e refl; same = refl }
 
 -- ---- a declaration by its kind
 

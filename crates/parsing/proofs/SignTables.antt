@@ -1,5 +1,5 @@
 -- Tables of operators, whose spellings are tried one after another, and the grammar's rules as tables.
-use Rattle.std.proofs.Common.{ℕ, ◌+◌, ◌<◌, ◌≡◌, ◌∙◌, refl, sym, ap, subst, List, [], ◌∷◌, length, drop, get_or, Option, Some, None, Result, Ok, Err, true, false, arith}
+use Rattle.std.proofs.Common.{ℕ, ◌+◌, ◌<◌, ◌≤◌, ◌≡◌, ◌∙◌, refl, sym, ap, subst, List, [], ◌∷◌, length, drop, get_or, Option, Some, None, Result, Ok, Err, true, false, arith}
 use Rattle.std.proofs.lemmas.List.{drop_more}
 use Rattle.std.specs.Option.{is_some}
 use Rattle.lexing.specs.Answer.{Answer, ok, refused}
@@ -24,6 +24,9 @@ module _ {T : Type 0} {table : List (Spelling × T)} {p q : Parser} (es : List (
   -- the next entry
   here : Trying table (e ∷ drop (i + 1) es) p q
   here = subst (λ rest. Trying table rest p q) (drop_more es i e h ∙ ap (λ d. d ∷ drop (i + 1) es) (sym is)) s
+
+  pub next-filled : 1 ≤ size e.0
+  next-filled = here.filled.0
 
   -- it does not stand
   pub trying-next : {r : Parser} → Missing (spelt e.0) q r → Trying table (drop (i + 1) es) p r

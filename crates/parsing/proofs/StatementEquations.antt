@@ -1,5 +1,5 @@
 -- The statement rules step by step, as their methods read them.
-use Rattle.std.proofs.Common.{ℕ, zero, suc, ◌-◌, ◌≡◌, ◌∙◌, refl, ap, Bool, true, false, List, ◌∷◌, drop, Option, Some, None, Ok, arith}
+use Rattle.std.proofs.Common.{ℕ, zero, suc, ◌≡◌, ◌∙◌, refl, ap, Bool, true, false, List, ◌∷◌, drop, Option, Some, None, Ok, arith}
 use mathlib.Core.Path.{fun_ext}
 use mir.Val.{bool_byte}
 use Rattle.lexing.specs.Answer.{Answer, ok, refused, pick}

@@ -31,20 +31,20 @@ variable-name text m c is_mutable at {s} {next} e = by_name (parse_name text at)
     by_name Answer.none h = let q : refused 2 at ≡ ok s next = sym (after-none _ _ _ h) ∙ e in impossible (cc)
     by_name (refused number place) h = let q : refused number place ≡ ok s next = sym (after-refused _ _ _ h) ∙ e in impossible (cc)
 
-module _ (depth : ℕ) {p q : Parser} {len : ℕ} {lead : Lead} {n : Name} (s : Spelt p len) (f : len ≡ 0 → ⊥)
+module _ (depth : ℕ) {p q : Parser} {len : ℕ} {lead : Lead} {n : Name} (s : Spelt p len)
     (e : lead ≡ lead_of (take len (drop p.at p.text.now))) (w : Passing_word len p q n) (k : Lead) (h : lead ≡ k) where
   -- the word has its bytes
   long : lead_least k ≤ len
   unfolding lead_of
   long =
       let m = word-long p.text.now p.at len s.inside in
-      let l : lead_least k ≤ length (take len (drop p.at p.text.now)) = classed-long lead_least leads NameLead _ refl (omega (arith, m, f)) (sym h ∙ e) in
+      let l : lead_least k ≤ length (take len (drop p.at p.text.now)) = classed-long lead_least leads NameLead _ refl (omega (arith, m, s.filled)) (sym h ∙ e) in
       omega arith
 
   -- what is left is the rule after its lead
   rest : opening parse_stmt depth p.text.now p.at ≡ lead_rule k depth (span n) p.text.now q.at
   rest =
-      word-stmt p.text.now depth p.at s.measured (omega (arith, f)) lead e w.named.start_is w.named.says
+      word-stmt p.text.now depth p.at s.measured s.filled lead e w.named.start_is w.named.says
       ∙ ap (λ k. lead_rule k depth (span n) p.text.now q.at) h
 
   pub led : Place (opening parse_stmt depth p.text.now p.at) 0 p q q.at (lead_least k) (0 + 2 * lead_least k) (lead_rule k depth (span n) p.text.now q.at) []
@@ -58,5 +58,5 @@ module _ (depth : ℕ) {p q : Parser} {len : ℕ} {lead : Lead} {n : Name} (s : 
       let b = leb-true _ _ l in
       let (m, next, d) = variable-name _ _ _ is_mutable _ d in
       let d : parse_name p.text.now q.at ≡ ok m next = says-of parse_name w.named.went.later d in
-      let g = word-apart p.text.now p.at len q.at s.measured (omega (arith, f)) (omega (arith, w.named.low, w.named.start_is, w.len_is)) d in
+      let g = word-apart p.text.now p.at len q.at s.measured s.filled (omega (arith, w.named.low, w.named.start_is, w.len_is)) d in
       word-passed 4 _ w.named no_credit (omega (arith, long, g)) rest

@@ -1,5 +1,5 @@
 -- Tokens where a parser stands, as they are read by the functions of `lexing`.
-use Rattle.std.proofs.Common.{ℕ, zero, suc, ◌+◌, ◌-◌, ◌≤◌, ◌≡◌, ◌∙◌, refl, sym, ap, subst, List, length, take, drop, arith, Bool, true, false, Option, Some, None, Result, Ok, Err, length-drop}
+use Rattle.std.proofs.Common.{ℕ, zero, suc, ◌+◌, ◌-◌, ◌≤◌, ◌≡◌, ◌∙◌, refl, sym, ap, subst, List, [], ◌∷◌, length, take, drop, arith, Bool, true, false, Option, Some, None, Result, Ok, Err, length-drop}
 use Rattle.std.proofs.lemmas.List.{take_all}
 use Rattle.std.proofs.Math.Nat.{le_of_eq, le_refl}
 use Rattle.lexing.specs.Answer.{Answer, ok, refused, moved, unclosed_comment}
@@ -13,7 +13,7 @@ use Rattle.lexing.specs.declared.refusal.Refusal.{Refusal}
 use Rattle.tree.specs.Limits.{most_text}
 use Rattle.tree.specs.Clash.{impossible}
 use Rattle.grammar.specs.Steps.{after, spanned, parse_name, parse_literal_text, parse_nat}
-use Rattle.parsing.specs.Contract.{Rule, Went, Takes_if, Lies, Passing, Refusing, Not_here, Stands, Passed, Named, Missing, Spelt, Passing_word, word}
+use Rattle.parsing.specs.Contract.{Rule, Went, Takes_if, Lies, Passing, Refusing, Not_here, Stands, Passed, Named, Missing, Spelt, word_here, Passing_word, word}
 use Rattle.parsing.specs.Signs.{Operates}
 use Rattle.parsing.specs.declared.parser.Parser.{Parser}
 
@@ -21,10 +21,30 @@ use Rattle.parsing.specs.declared.parser.Parser.{Parser}
 pub suffix : (s : List ℕ) (at : ℕ) → take (length s - at) (drop at s) ≡ drop at s
 suffix s at = take_all (length s - at) (drop at s) (le_of_eq (length-drop at s))
 
-pub word-spelt : (p : Parser) {n : ℕ} → n ≡ identifier_length (take (length p.text.now - p.at) (drop p.at p.text.now)) → Spelt p n
-word-spelt p {n} e =
-    let m : identifier_length (drop p.at p.text.now) ≡ n = sym (e ∙ ap identifier_length (suffix p.text.now p.at)) in
-    record { measured = m; inside = omega (arith, p.inside, identifier-inside (drop p.at p.text.now), length-drop p.at p.text.now) }
+-- the word that stands here, or none
+module _ (p : Parser) {n : ℕ} (e : n ≡ identifier_length (take (length p.text.now - p.at) (drop p.at p.text.now))) where
+  measures : identifier_length (drop p.at p.text.now) ≡ n
+  measures = sym (e ∙ ap identifier_length (suffix p.text.now p.at))
+
+  pub word-spelt : (n ≡ 0 → ⊥) → Spelt p n
+  word-spelt f =
+      record {
+        measured = measures;
+        inside = omega (arith, measures, p.inside, identifier-inside (drop p.at p.text.now), length-drop p.at p.text.now);
+        filled = omega (arith, f);
+      }
+
+  pub word-absent : n ≡ 0 → identifier_length (drop p.at p.text.now) ≡ 0
+  word-absent z = measures ∙ z
+
+-- whether it is given bytes
+pub here-spelt : (p : Parser) {len : ℕ} {b : Bool} (w : List ℕ) → Spelt p len → b ≡ same_bytes (take len (drop p.at p.text.now)) w → b ≡ word_here p w
+here-spelt p w s e = rw s.measured e
+
+pub here-none : (p : Parser) (w : List ℕ) → identifier_length (drop p.at p.text.now) ≡ 0 → 1 ≤ length w → false ≡ word_here p w
+unfolding same_bytes
+here-none p [] e h = absurd (omega arith)
+here-none p (x ∷ w) e h = rw e refl
 
 -- a token is inside the text where its answer is
 lies : (p : Parser) (k : ℕ) (r : Result (Option Token) Refusal) → Within k (length (drop p.at p.text.now)) (answer_of r) → Lies p r
@@ -95,10 +115,10 @@ module _ (p : Parser) (len : ℕ) (s : Spelt p len) (r : Result (Option Token) R
         answer-takes p r _ (length w) blanks-here (blanks-within (length w) l) q (word w) (rw (m, s.measured) refl) b f
 
   -- the word as a name
-  module _ (filled : 1 ≤ len) where
+  module _ where
     name-closed : parse_name p.text.now p.at ≡ spanned p.text.now p.at (moved p.at (closed len len (W (drop len (drop p.at p.text.now)))))
     unfolding after parse_id lexeme
-    name-closed = rw s.measured (ap (λ r. spanned p.text.now p.at (moved p.at r)) (sym (unless_empty-some len _ (λ z. omega arith))))
+    name-closed = rw s.measured (ap (λ r. spanned p.text.now p.at (moved p.at r)) (sym (unless_empty-some len _ (λ z. omega (arith, s.filled)))))
 
     module _ (q : Parser) where
       by-blanks : (b : Blanks) → W (drop len (drop p.at p.text.now)) ≡ b → answer_of r ≡ closed 0 len b → (t : Bool) → Stands r p q (Ok t)
@@ -111,7 +131,7 @@ module _ (p : Parser) (len : ℕ) (s : Spelt p len) (r : Result (Option Token) R
           record {
             named = record {
               says = name-closed ∙ rw (w, m.place, ← h) refl;
-              went = went p r _ 1 blanks-here (blanks-within 1 filled) q f.value m;
+              went = went p r _ 1 blanks-here (blanks-within 1 s.filled) q f.value m;
               top_same = m.top_same;
               start_is = refl;
               low = omega (arith, m.place);
@@ -140,15 +160,15 @@ module _ (p : Parser) (len : ℕ) (s : Spelt p len) (r : Result (Option Token) R
       unfolding lexeme
       word-refused d f = refused-by (W (drop len (drop p.at p.text.now))) refl blanks-here d f
 
--- where another word stands the keyword does not
-pub no-keyword : (p q : Parser) (len : ℕ) (w : List ℕ) → Spelt p len → same_bytes (take len (drop p.at p.text.now)) w ≡ false → q ≡ p → Missing (word w) p q
+-- where another word or none stands the keyword does not
+pub no-keyword : (p q : Parser) (w : List ℕ) → word_here p w ≡ false → q ≡ p → Missing (word w) p q
 unfolding keyword
-no-keyword p q len w s h e = record { says = rw (s.measured, h) refl; same = e }
+no-keyword p q w h e = record { says = rw h refl; same = e }
 
 -- where no word stands, no name does
-pub no-name : (p q : Parser) → Spelt p 0 → q ≡ p → Missing parse_name p q
+pub no-name : (p q : Parser) → identifier_length (drop p.at p.text.now) ≡ 0 → q ≡ p → Missing parse_name p q
 unfolding after parse_id
-no-name p q s e = record { says = rw s.measured refl; same = e }
+no-name p q n e = record { says = rw n refl; same = e }
 
 -- ---- the text of a custom literal
 module _ (p : Parser) (r : Result (Option Token) Refusal)

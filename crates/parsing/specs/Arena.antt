@@ -1,7 +1,10 @@
 -- The arena in which the reading rules build trees: nodes that are appended and never moved. A node stands for a run of tree words, given as a
 -- function that puts the run before other words.
-use Rattle.std.specs.Prelude.{ℕ, ◌<◌, ◌≡◌, List, ◌∷◌, length, get_or}
+use Rattle.std.specs.Prelude.{ℕ, ◌<◌, ◌≡◌, Bool, List, ◌∷◌, length, get_or}
+use Rattle.tree.specs.Codes.{operator_code}
 use Rattle.tree.specs.Tags.{more, no_more, id_expr_tag, operator_expr_tag}
+use Rattle.tree.specs.Words.{bool_word}
+use Rattle.tree.specs.declared.word.Operator.{Operator}
 use Rattle.parsing.specs.declared.arena.Node.{Node}
 use Rattle.parsing.specs.declared.arena.Node.TheVariants.{Empty, One, Two, Three, Ident, Unary, Binary, Item, Pair, Closed, Headed}
 
@@ -22,11 +25,11 @@ pub data Holds (arena : List Node) : ℕ → Run → Type 0 where
   one : {n x : ℕ} → get_or arena n outside ≡ One x → Holds arena n (λ r. x ∷ r)
   two : {n x y : ℕ} → get_or arena n outside ≡ Two x y → Holds arena n (λ r. x ∷ y ∷ r)
   three : {n x y z : ℕ} → get_or arena n outside ≡ Three x y z → Holds arena n (λ r. x ∷ y ∷ z ∷ r)
-  ident : {n x y z : ℕ} → get_or arena n outside ≡ Ident x y z → Holds arena n (λ r. id_expr_tag ∷ x ∷ y ∷ z ∷ r)
-  unary : {n x y : ℕ} {f : Run} → get_or arena n outside ≡ Unary x y → y < n → Holds arena y f
-      → Holds arena n (λ r. operator_expr_tag ∷ x ∷ more ∷ f (no_more ∷ r))
-  binary : {n x y z : ℕ} {f g : Run} → get_or arena n outside ≡ Binary x y z → y < n → z < n → Holds arena y f → Holds arena z g
-      → Holds arena n (λ r. operator_expr_tag ∷ x ∷ more ∷ f (more ∷ g (no_more ∷ r)))
+  ident : {n x y : ℕ} {z : Bool} → get_or arena n outside ≡ Ident x y z → Holds arena n (λ r. id_expr_tag ∷ x ∷ y ∷ bool_word z ∷ r)
+  unary : {n y : ℕ} {o : Operator} {f : Run} → get_or arena n outside ≡ Unary o y → y < n → Holds arena y f
+      → Holds arena n (λ r. operator_expr_tag ∷ operator_code o ∷ more ∷ f (no_more ∷ r))
+  binary : {n y z : ℕ} {o : Operator} {f g : Run} → get_or arena n outside ≡ Binary o y z → y < n → z < n → Holds arena y f → Holds arena z g
+      → Holds arena n (λ r. operator_expr_tag ∷ operator_code o ∷ more ∷ f (more ∷ g (no_more ∷ r)))
   item : {n y z : ℕ} {f g : Run} → get_or arena n outside ≡ Item y z → y < n → z < n → Holds arena y f → Holds arena z g
       → Holds arena n (λ r. f (more ∷ g r))
   pair : {n y z : ℕ} {f g : Run} → get_or arena n outside ≡ Pair y z → y < n → z < n → Holds arena y f → Holds arena z g → Holds arena n (λ r. f (g r))

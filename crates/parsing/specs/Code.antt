@@ -2,7 +2,9 @@
 use Rattle.std.specs.Prelude.{ℕ, suc, ◌+◌, ◌<◌, ◌≡◌, true, false, List, [], ◌∷◌, length, get_or}
 use Rattle.lexing.specs.Answer.{Answer}
 use Rattle.tree.specs.Ast.{Span, Expr, BLiteral, ILiteral, IdExpr, Operator, OperatorExpr, no_exprs, ◌then◌, Binding, binding, ParameterMode, InOut, Out, CallArgument, PParameter}
-use Rattle.tree.specs.Words.{operator_word, mode_word, name_words}
+use Rattle.tree.specs.Codes.{as_operator}
+use Rattle.tree.specs.Words.{mode_word, name_words}
+use Rattle.tree.specs.declared.word.Operator.{Operator as OperatorCode}
 use Rattle.grammar.specs.Grammar.{single, build, Class, product, sum, comparison, conjunction, disjunction, implication, explication, equivalence}
 use Rattle.grammar.specs.Steps.{Reader, after, must, mapped, ◌or◌, Sym, T, parse_name, parse_nat}
 use Rattle.grammar.specs.Rules.{left_tail, operator_of, parse_unary_expr, parse_factor_expr, parse_term_expr, parse_juct_expr, parse_logical_expr, parse_imp_exp_expr, parse_expr, after_paren, after_bar, after_old}
@@ -116,10 +118,10 @@ fold_layers (l ∷ ls) e = fold_layers ls (layered l e)
 -- the nodes of the layers, each with the one before it in the place of its last operand
 pub data Links (arena : List Node) : ℕ → List Layer → Type 0 where
   ends : Links arena 0 []
-  unary_link : {n z : ℕ} {op : Operator} {ls : List Layer} → get_or arena n outside ≡ Unary (operator_word op) z → z < n → Links arena z ls
-      → Links arena n (unary_layer op ∷ ls)
-  binary_link : {n y z : ℕ} {op : Operator} {a : Expr Span} {ls : List Layer} → get_or arena n outside ≡ Binary (operator_word op) y z → z < n → y < n
-      → Holds arena y (tree_words a) → Links arena z ls → Links arena n (binary_layer op a ∷ ls)
+  unary_link : {n z : ℕ} {op : OperatorCode} {ls : List Layer} → get_or arena n outside ≡ Unary op z → z < n → Links arena z ls
+      → Links arena n (unary_layer (as_operator op) ∷ ls)
+  binary_link : {n y z : ℕ} {op : OperatorCode} {a : Expr Span} {ls : List Layer} → get_or arena n outside ≡ Binary op y z → z < n → y < n
+      → Holds arena y (tree_words a) → Links arena z ls → Links arena n (binary_layer (as_operator op) a ∷ ls)
 
 -- what `fold` needs, and what it gives
 pub record Foldable (link node : ℕ) (p : Parser) : Type 0 where

@@ -1,6 +1,7 @@
 -- What the parser's methods promise. A rule is a reader of a text; p is the parser as a method is called, q as it returns.
-use Rattle.std.specs.Prelude.{ℕ, ◌+◌, ◌*◌, ◌≤◌, ◌<◌, ◌≡◌, Bool, true, false, List, ◌∷◌, length, drop, get_or, Option, Some, None, Result, Ok, Err}
+use Rattle.std.specs.Prelude.{ℕ, ◌+◌, ◌*◌, ◌≤◌, ◌<◌, ◌≡◌, Bool, true, false, List, ◌∷◌, length, take, drop, get_or, Option, Some, None, Result, Ok, Err}
 use Rattle.lexing.specs.Answer.{Answer, ok, refused}
+use Rattle.lexing.specs.Bytes.{same_bytes}
 use Rattle.lexing.specs.CodeAnswers.{number}
 use Rattle.lexing.specs.Tokens.{identifier_length, sign_not_prefix}
 use Rattle.lexing.specs.Answer.{moved}
@@ -121,6 +122,16 @@ Names_if rule p q (Err e) = rule p.text.now p.at ≡ refused (number e.reason) e
 pub record Spelt (p : Parser) (len : ℕ) : Type 0 where
   pub measured : identifier_length (drop p.at p.text.now) ≡ len
   pub inside : p.at + len ≤ length p.text.now
+  pub filled : 1 ≤ len
+
+-- its length, or none stands here
+abbrev pub Ahead : Parser → Option ℕ → Type 0
+Ahead p (Some len) = Spelt p len
+Ahead p None = identifier_length (drop p.at p.text.now) ≡ 0
+
+-- whether it is these bytes
+abbrev pub word_here : Parser → List ℕ → Bool
+word_here p w = same_bytes (take (identifier_length (drop p.at p.text.now)) (drop p.at p.text.now)) w
 
 -- it is read as a name
 pub record Passing_word (len : ℕ) (p q : Parser) (n : Name) : Type 0 where

@@ -1,4 +1,5 @@
 // The arena that trees are built in: nodes that are appended and never moved.
+use tree::word::Operator;
 
 // A node stands for a run of tree words. An arena of `Three(0, 0, 0)`, which is all zero bytes, is the fastest to make.
 #[derive(Clone, Copy, PartialEq, Eq, Debug)]
@@ -8,11 +9,11 @@ pub enum Node {
     Two(u32, u32),
     One(u32),
     Empty,
-    // An identifier.
-    Ident(u32, u32, u32),
+    // An identifier, and whether it stands under `old`.
+    Ident(u32, u32, bool),
     // An operator over one and over two operands.
-    Unary(u32, u32),
-    Binary(u32, u32, u32),
+    Unary(Operator, u32),
+    Binary(Operator, u32, u32),
     // A sequence with an item more.
     Item(u32, u32),
     // A run after another.
@@ -24,6 +25,7 @@ pub enum Node {
 }
 
 // The first two nodes: the empty run, a sequence before its first item; and the word 0, the end of a sequence without items.
+// Kept: these are places of the arena, which links hold as they hold any other place, and no kinds.
 pub(crate) const EMPTY: u32 = 0;
 
 pub(crate) const END: u32 = 1;

@@ -48,7 +48,7 @@ impl<'a> Parser<'a> {
         requires { Spare self.old 1 }
         ensures { Reads (option_words (function_definition_words same)) (opening parse_function_definition depth) 0 1 self.old self.new result }
     {
-        let guarded = self.word_is(self.word_ahead(), b"when");
+        let guarded = self.word_here(b"when");
         let when = self.many(Repeated::Whens, depth)?;
         let place = self.at;
         if self.sym(b"{")? {

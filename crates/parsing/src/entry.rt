@@ -63,26 +63,16 @@ pub fn parse(text: &[u8], arena: &mut [Node], whole: Whole) -> Result<u32, Refus
     ensures { Parses whole text.now arena.old arena.new result }
 {
     if !has_room(text.len(), arena.len()) {
-        return Err(Refusal {
-            reason: Reason::TreeTooLarge,
-            place: 0,
-        });
+        return Err(Refusal::new(Reason::TreeTooLarge, 0));
     }
-    match blanks(text) {
-        Err(open) => Err(Refusal {
-            reason: Reason::UnclosedComment,
-            place: open.at,
-        }),
-        Ok(at) => {
-            arena[EMPTY as usize] = Node::Empty;
-            arena[END as usize] = Node::One(NO_MORE);
-            let mut parser = Parser {
-                text,
-                arena,
-                at,
-                top: 2,
-            };
-            parser.to_end(whole)
-        }
-    }
+    let at = blanks(text)?;
+    arena[EMPTY as usize] = Node::Empty;
+    arena[END as usize] = Node::One(NO_MORE);
+    let mut parser = Parser {
+        text,
+        arena,
+        at,
+        top: 2,
+    };
+    parser.to_end(whole)
 }

@@ -10,7 +10,7 @@ use crate::expr::seq::Kind;
 use crate::parser::{Name, Parser, unusable};
 use crate::sign::Level;
 use lexing::refusal::Refusal;
-use tree::word::{ExprTag, FALSE, Operator};
+use tree::word::{ExprTag, Operator};
 
 // The levels.
 impl<'a> Parser<'a> {
@@ -65,7 +65,7 @@ impl<'a> Parser<'a> {
             let mut e = first;
             let mut link = EMPTY;
             while self.operator(Level::Implication)?.is_some() {
-                link = self.push(Node::Binary(Operator::LogicalImp.word(), e, link));
+                link = self.push(Node::Binary(Operator::LogicalImp, e, link));
                 e = self.need_tight(Level::Implication, depth)?;
             }
             return Ok(Some(self.fold(link, e)));
@@ -159,7 +159,7 @@ impl<'a> Parser<'a> {
     {
         let mut link = EMPTY;
         while let Some(op) = self.unary_operator()? {
-            link = self.push(Node::Unary(op.word(), link));
+            link = self.push(Node::Unary(op, link));
         }
         if link == EMPTY {
             return self.primary(depth);
@@ -184,8 +184,7 @@ impl<'a> Parser<'a> {
     fn primary(&mut self, depth: usize) -> Result<Option<u32>, Refusal>
         ensures { Reads_if tree_words (turning parse_primary_expr depth) 1 0 self.old self.new result }
     {
-        let len = self.word_ahead();
-        if len != 0 {
+        if let Some(len) = self.word_ahead() {
             return Ok(Some(self.worded(len, depth)?));
         }
         if let Some(literal) = self.literal()? {
@@ -210,8 +209,7 @@ impl<'a> Parser<'a> {
     // What begins with a word, which has `len` bytes.
     #[cycle(expression)]
     fn worded(&mut self, len: usize, depth: usize) -> Result<u32, Refusal>
-        requires spelt { Spelt self.old len }
-        requires filled { 1 ≤ len }
+        requires { Spelt self.old len }
         ensures { Reads tree_words (turning parse_primary_expr depth) 1 0 self.old self.new result }
     {
         if self.keyword_of(len, b"if")? {
@@ -252,7 +250,7 @@ impl<'a> Parser<'a> {
             let e = self.need_expr(depth)?;
             return Ok(self.pair(head, e));
         }
-        Ok(self.push(Node::Ident(n.start, n.len, FALSE)))
+        Ok(self.push(Node::Ident(n.start, n.len, false)))
     }
 
     // After `if`.

@@ -13,8 +13,8 @@ ghost use Rattle.parsing.specs.Code.{inner, custom_expr, literal_expr, constant_
 ghost use Rattle.parsing.specs.Contract.{Reads, Reads_if, Spelt, needed, same};
 
 use crate::arena::{END, Node};
-use crate::parser::{Parser, unusable};
-use lexing::refusal::{Reason, Refusal};
+use crate::parser::{Parser, too_deep, unusable};
+use lexing::refusal::Refusal;
 use tree::word::{ExprTag, FALSE, MORE, Mode, TRUE};
 
 // Names and their types.
@@ -137,7 +137,7 @@ impl<'a> Parser<'a> {
         ensures { Reads (call_argument_words same) (reference (as_mode mode)) 1 0 self.old self.new result }
     {
         let name = self.need_name()?;
-        let variable = self.push(Node::Ident(name.start, name.len, FALSE));
+        let variable = self.push(Node::Ident(name.start, name.len, false));
         Ok(self.push(Node::Headed(mode.word(), variable)))
     }
 }
@@ -200,7 +200,7 @@ impl<'a> Parser<'a> {
         ensures { Reads tree_words after_old 1 0 self.old self.new result }
     {
         let name = self.need_name()?;
-        Ok(self.push(Node::Ident(name.start, name.len, TRUE)))
+        Ok(self.push(Node::Ident(name.start, name.len, true)))
     }
 
     // `parseExpr` where no level is left: refusal 3 if an expression's first token stands here.
@@ -208,10 +208,7 @@ impl<'a> Parser<'a> {
         ensures { Reads_if tree_words (inner 0) 1 0 self.now self.now result }
     {
         if self.opens_expr() {
-            return Err(Refusal {
-                reason: Reason::LevelTooDeep,
-                place: self.at,
-            });
+            return Err(too_deep(self.at));
         }
         Ok(None)
     }
@@ -220,7 +217,7 @@ impl<'a> Parser<'a> {
     fn opens_expr(&self) -> bool
         ensures { result ≡ opens_expr (drop self.now.at self.now.text.now) }
     {
-        self.word_ahead() > 0 || opens_at(self.peek(0), self.peek(1))
+        self.word_ahead().is_some() || opens_at(self.peek(0), self.peek(1))
     }
 }
 

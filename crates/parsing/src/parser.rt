@@ -1,7 +1,7 @@
 // A text that is read, and the arena that its tree is built in: tokens and nodes.
 ghost use Rattle.std.specs.Prelude.{◌≡◌, ◌+◌, ◌*◌, ◌≤◌, ◌<◌, ◌^◌, length, take, drop, get_or};
 ghost use Rattle.lexing.specs.Bytes.{same_bytes};
-ghost use Rattle.lexing.specs.declared.refusal.Reason.TheVariants.{UnusableToken};
+ghost use Rattle.lexing.specs.declared.refusal.Reason.TheVariants.{UnusableToken, LevelTooDeep};
 ghost use Rattle.tree.specs.Limits.{most_text};
 ghost use Rattle.tree.specs.Tags.{no_more};
 ghost use Rattle.grammar.specs.Steps.{parse_name, parse_literal_text, parse_nat};
@@ -9,7 +9,7 @@ ghost use Rattle.grammar.specs.Statements.{mark as mark_rule};
 ghost use Rattle.parsing.specs.Arena.{most_arena, outside};
 ghost use Rattle.parsing.specs.declared.arena.Node.TheVariants.{Empty, One, Pair};
 
-use crate::arena::{END, Node};
+use crate::arena::{EMPTY, END, Node};
 use crate::sign::Sign;
 use lexing::Lexed;
 use lexing::refusal::{Reason, Refusal};
@@ -91,7 +91,7 @@ impl<'a> Parser<'a> {
         requires { Closable list self.old }
         ensures { Closes list self.old self.new result }
     {
-        if list == 0 {
+        if list == EMPTY {
             return END;
         }
         self.push(Node::Closed(list))
@@ -103,8 +103,8 @@ impl<'a> Parser<'a> {
         ensures { Combined sign a b self.old self.new result }
     {
         match sign {
-            Sign::Straight(op) => self.push(Node::Binary(op.word(), a, b)),
-            Sign::Swapped(op) => self.push(Node::Binary(op.word(), b, a)),
+            Sign::Straight(op) => self.push(Node::Binary(op, a, b)),
+            Sign::Swapped(op) => self.push(Node::Binary(op, b, a)),
         }
     }
 
@@ -116,6 +116,8 @@ impl<'a> Parser<'a> {
     {
         let mut e = last;
         let mut link = first;
+        // Kept: the next link stands in the node that this one leads to, so there is no range and no slice to go over, and an iterator of links
+        // (`iter::successors`) would hold the arena that each turn pushes to.
         loop {
             match self.arena[link as usize] {
                 Node::Unary(op, before) => {
@@ -134,7 +136,7 @@ impl<'a> Parser<'a> {
 
 // Tokens, with the blanks after them.
 impl<'a> Parser<'a> {
-    ghost use Rattle.parsing.specs.Contract.{word, sign, sign_but, Lies, Passed, Stands, Takes_if, Names_if, Spelt, Passes_word};
+    ghost use Rattle.parsing.specs.Contract.{word, sign, sign_but, Lies, Passed, Stands, Takes_if, Names_if, Spelt, Ahead, word_here, Passes_word};
     ghost use Rattle.parsing.specs.Signs.{Operates};
 
     // Passes a token that was read here.
@@ -148,10 +150,7 @@ impl<'a> Parser<'a> {
                 Ok(Some(token.value))
             }
             Ok(None) => Ok(None),
-            Err(refusal) => Err(Refusal {
-                reason: refusal.reason,
-                place: self.at + refusal.place,
-            }),
+            Err(refusal) => Err(Refusal::new(refusal.reason, self.at + refusal.place)),
         }
     }
 
@@ -168,18 +167,15 @@ impl<'a> Parser<'a> {
         requires { self.now.at + i < 2 ^ 63 }
         ensures { result ≡ get_or self.now.text.now (self.now.at + i) 0 }
     {
-        let at = self.at + i;
-        if at < self.text.len() {
-            return self.text[at];
-        }
-        0
+        self.text.get(self.at + i).copied().unwrap_or(0)
     }
 
-    // How many bytes the word or name that stands here has, 0 where there is none.
-    pub(crate) fn word_ahead(&self) -> usize
-        ensures { Spelt self.now result }
+    // How many bytes the word or name that stands here has, where one does.
+    pub(crate) fn word_ahead(&self) -> Option<usize>
+        ensures { Ahead self.now result }
     {
-        lexing::identifier_length(&self.text[self.at..])
+        let len = lexing::identifier_length(&self.text[self.at..]);
+        if len == 0 { None } else { Some(len) }
     }
 
     // Whether the word of `len` bytes that stands here is these.
@@ -191,10 +187,20 @@ impl<'a> Parser<'a> {
         lexing::same_bytes(&self.text[self.at..end], bytes)
     }
 
+    // Whether the word that stands here is these bytes.
+    pub(crate) fn word_here(&self, bytes: &[u8]) -> bool
+        requires { 1 ≤ length bytes.now }
+        ensures { result ≡ word_here self.now bytes.now }
+    {
+        match self.word_ahead() {
+            Some(len) => self.word_is(len, bytes),
+            None => false,
+        }
+    }
+
     // Passes the word or name of `len` bytes that stands here.
     pub(crate) fn pass_word(&mut self, len: usize) -> Result<Name, Refusal>
-        requires spelt { Spelt self.old len }
-        requires filled { 1 ≤ len }
+        requires { Spelt self.old len }
         ensures { Passes_word len self.old self.new result }
     {
         let start = self.at as u32;
@@ -220,10 +226,13 @@ impl<'a> Parser<'a> {
 
     // `T(bytes)`.
     pub(crate) fn keyword(&mut self, bytes: &[u8]) -> Result<bool, Refusal>
+        requires { 1 ≤ length bytes.now }
         ensures { Takes_if (word bytes.now) (length bytes.now) self.old self.new result }
     {
-        let len = self.word_ahead();
-        self.keyword_of(len, bytes)
+        match self.word_ahead() {
+            Some(len) => self.keyword_of(len, bytes),
+            None => Ok(false),
+        }
     }
 
     // `Sym(bytes)`.
@@ -259,11 +268,10 @@ impl<'a> Parser<'a> {
     pub(crate) fn name(&mut self) -> Result<Option<Name>, Refusal>
         ensures { Names_if parse_name self.old self.new result }
     {
-        let len = self.word_ahead();
-        if len == 0 {
-            return Ok(None);
+        match self.word_ahead() {
+            Some(len) => Ok(Some(self.pass_word(len)?)),
+            None => Ok(None),
         }
-        Ok(Some(self.pass_word(len)?))
     }
 
     // The text of a custom literal.
@@ -297,6 +305,7 @@ impl<'a> Parser<'a> {
     #[inline]
     #[tactic(auto, using(crate::proofs::Laws::failing), unfolding(grammar::specs::Steps::after))]
     pub(crate) fn need_keyword(&mut self, bytes: &[u8]) -> Result<(), Refusal>
+        requires { 1 ≤ length bytes.now }
         ensures { Takes (needed (word bytes.now)) (length bytes.now) self.old self.new result }
     {
         let place = self.at;
@@ -337,12 +346,16 @@ impl<'a> Parser<'a> {
     }
 }
 
+// Refusal 3 at a place.
+pub(crate) fn too_deep(place: usize) -> Refusal
+    ensures { result ≡ record { reason = LevelTooDeep; place = place } }
+{
+    Refusal::new(Reason::LevelTooDeep, place)
+}
+
 // Refusal 2 at a place.
 pub(crate) fn unusable(place: usize) -> Refusal
     ensures { result ≡ record { reason = UnusableToken; place = place } }
 {
-    Refusal {
-        reason: Reason::UnusableToken,
-        place,
-    }
+    Refusal::new(Reason::UnusableToken, place)
 }

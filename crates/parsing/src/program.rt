@@ -33,7 +33,9 @@ impl<'a> Parser<'a> {
     fn begin(&mut self) -> Result<Option<DeclKind>, Refusal>
         ensures { Begins kind_rule self.old self.new result }
     {
-        let len = self.word_ahead();
+        let Some(len) = self.word_ahead() else {
+            return Ok(None);
+        };
         for (word, kind) in WORDS {
             if self.keyword_of(len, word)? {
                 return Ok(Some(kind));
@@ -47,6 +49,7 @@ impl<'a> Parser<'a> {
         requires { Spare self.old 5 }
         ensures { Reads (decl_words kind) (decl_rule kind depth) 1 5 self.old self.new result }
     {
+        // Kept: the kind is data, which numbers its sequence too (`program`); the rules in the table of words would be function pointers.
         match kind {
             DeclKind::Types => self.type_decl(),
             DeclKind::Taggers => self.tagger_decl(),

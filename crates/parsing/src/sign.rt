@@ -1,5 +1,5 @@
 // Operators between operands and before them.
-ghost use Rattle.std.specs.Prelude.{◌≡◌};
+ghost use Rattle.std.specs.Prelude.{◌≡◌, ◌≤◌};
 ghost use Rattle.tree.specs.Codes.{as_operator};
 ghost use Rattle.grammar.specs.Rules.{unary_operator};
 ghost use Rattle.parsing.specs.Contract.{Takes_if};
@@ -101,6 +101,7 @@ impl<'a> Parser<'a> {
     // Whether a spelling stands here, which is passed.
     #[inline(always)]
     fn spelt(&mut self, spelling: Spelling) -> Result<bool, Refusal>
+        requires { 1 ≤ size spelling }
         ensures { Takes_if (spelt spelling.entry) (size spelling.entry) self.old self.new result }
     {
         match spelling {

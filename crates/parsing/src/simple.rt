@@ -13,8 +13,8 @@ ghost use Rattle.parsing.specs.Statements.{Spares_if, Stops, headed, stmt_rule, 
 use crate::arena::{END, Node};
 use crate::expr::seq::Kind;
 use crate::lead::{Lead, Simple};
-use crate::parser::{Name, Parser};
-use lexing::refusal::{Reason, Refusal};
+use crate::parser::{Name, Parser, too_deep};
+use lexing::refusal::Refusal;
 use tree::word::{MORE, NO_MORE, StmtTag};
 
 impl<'a> Parser<'a> {
@@ -52,6 +52,7 @@ impl<'a> Parser<'a> {
         requires { Spare self.old 4 }
         ensures { Reads (stmt_words same) (simple_rule depth kind) 0 4 self.old self.new result }
     {
+        // Kept: the word that was read decides here, and only here, which rule goes on; a closure for it would be made and called in this place.
         match kind {
             Simple::Reinit => self.reinit(depth),
             Simple::Exit => self.exit(),
@@ -114,14 +115,10 @@ impl<'a> Parser<'a> {
         ensures { Stops (stmt_rule 0) self.old self.new result }
     {
         let start = self.at;
-        let deep = Refusal {
-            reason: Reason::LevelTooDeep,
-            place: start,
-        };
-        let len = self.word_ahead();
-        if len == 0 {
+        let deep = too_deep(start);
+        let Some(len) = self.word_ahead() else {
             return if self.sym(b"{")? { Err(deep) } else { Ok(()) };
-        }
+        };
         let Lead::Name = self.lead_at(len) else {
             return Err(deep);
         };

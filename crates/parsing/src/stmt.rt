@@ -13,8 +13,8 @@ ghost use Rattle.parsing.specs.Statements.{Spares, Spares_if, aexpr_rule, block_
 
 use crate::arena::{EMPTY, Node};
 use crate::lead::Lead;
-use crate::parser::{Name, Parser, unusable};
-use lexing::refusal::{Reason, Refusal};
+use crate::parser::{Name, Parser, too_deep, unusable};
+use lexing::refusal::Refusal;
 use tree::word::{AExprTag, StmtTag};
 
 // What is repeated.
@@ -35,6 +35,7 @@ impl<'a> Parser<'a> {
     fn repeated(&mut self, kind: Repeated, depth: usize) -> Result<Option<u32>, Refusal>
         ensures { Spares_if (repeated_words kind) (repeated_rule kind depth) self.old self.new result }
     {
+        // Kept: `kind` is what the contract of `many` names its rule by, as in `item` (expr/seq.rt).
         match kind {
             Repeated::Stmts => self.stmt(depth),
             Repeated::Nested => self.nested(depth),
@@ -70,10 +71,7 @@ impl<'a> Parser<'a> {
             return Ok(None);
         }
         if depth == 0 {
-            return Err(Refusal {
-                reason: Reason::LevelTooDeep,
-                place: at,
-            });
+            return Err(too_deep(at));
         }
         let stmts = self.many(Repeated::Stmts, depth - 1)?;
         self.need_sym(b"}")?;
@@ -95,10 +93,7 @@ impl<'a> Parser<'a> {
         ensures { Reads (stmt_words same) (loop_body depth start) 1 3 self.old self.new result }
     {
         if depth == 0 {
-            return Err(Refusal {
-                reason: Reason::LevelTooDeep,
-                place: start,
-            });
+            return Err(too_deep(start));
         }
         let invariants = self.many(Repeated::Invariants, depth - 1)?;
         let head = self.push(Node::Headed(StmtTag::Loop as u32, invariants));
@@ -124,12 +119,12 @@ impl<'a> Parser<'a> {
         ensures { Spares_if (stmt_words same) (opening parse_stmt depth) self.old self.new result }
     {
         let start = self.at;
-        let len = self.word_ahead();
-        if len == 0 {
+        let Some(len) = self.word_ahead() else {
             return self.block(depth);
-        }
+        };
         let lead = self.lead_at(len);
         let name = self.pass_word(len)?;
+        // Kept: the word that was read decides here, and only here, which rule goes on; a closure for it would be made and called in this place.
         match lead {
             Lead::Var => Ok(Some(self.var_decl(true, depth)?)),
             Lead::Val => Ok(Some(self.var_decl(false, depth)?)),

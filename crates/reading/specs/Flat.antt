@@ -1,8 +1,10 @@
 -- A node's words in a table. The walk keeps a stack of frames, each of which stands for a run of words: its first words are written, and the
 -- frames of its parts take its place. Contracts of the walk's functions.
 use Rattle.std.specs.Prelude.{ℕ, ◌+◌, ◌-◌, ◌≤◌, ◌<◌, ◌≡◌, List, [], ◌∷◌, ◌++◌, length, get_or, replicate, Option, Some, None, Result, Ok, Err}
+use Rattle.tree.specs.Codes.{operator_code}
 use Rattle.tree.specs.Stack.{items}
 use Rattle.tree.specs.declared.stack.Stack.{Stack}
+use Rattle.tree.specs.Words.{bool_word}
 use Rattle.tree.specs.Tags.{more, no_more, id_expr_tag, operator_expr_tag}
 use Rattle.parsing.specs.Arena.{Run, Holds, most_arena, outside}
 use Rattle.parsing.specs.declared.arena.Node.{Node}
@@ -20,9 +22,9 @@ node_head Empty r = r
 node_head (One x) r = x ∷ r
 node_head (Two x y) r = x ∷ y ∷ r
 node_head (Three x y z) r = x ∷ y ∷ z ∷ r
-node_head (Ident x y z) r = id_expr_tag ∷ x ∷ y ∷ z ∷ r
-node_head (Unary x y) r = operator_expr_tag ∷ x ∷ more ∷ r
-node_head (Binary x y z) r = operator_expr_tag ∷ x ∷ more ∷ r
+node_head (Ident x y z) r = id_expr_tag ∷ x ∷ y ∷ bool_word z ∷ r
+node_head (Unary o y) r = operator_expr_tag ∷ operator_code o ∷ more ∷ r
+node_head (Binary o y z) r = operator_expr_tag ∷ operator_code o ∷ more ∷ r
 node_head (Item y z) r = r
 node_head (Pair y z) r = r
 node_head (Closed y) r = r
@@ -35,8 +37,8 @@ node_parts (One x) = []
 node_parts (Two x y) = []
 node_parts (Three x y z) = []
 node_parts (Ident x y z) = []
-node_parts (Unary x y) = Whole y ∷ End ∷ []
-node_parts (Binary x y z) = Whole y ∷ Last z ∷ []
+node_parts (Unary o y) = Whole y ∷ End ∷ []
+node_parts (Binary o y z) = Whole y ∷ Last z ∷ []
 node_parts (Item y z) = Whole y ∷ Next z ∷ []
 node_parts (Pair y z) = Whole y ∷ Whole z ∷ []
 node_parts (Closed y) = Whole y ∷ End ∷ []

@@ -6,7 +6,7 @@ ghost use Rattle.reading.specs.Flat.{Inside, frames_of, node_head, node_parts, h
 use crate::writer::{Full, Writer};
 use parsing::Node;
 use tree::stack::Stack;
-use tree::word::{ID_EXPR, MORE, NO_MORE, OPERATOR_EXPR};
+use tree::word::{ExprTag, MORE, NO_MORE};
 
 // What is still to be written.
 #[derive(Clone, Copy, PartialEq, Eq, Debug)]
@@ -32,8 +32,10 @@ impl Writer<'_> {
             Node::One(x) | Node::Headed(x, _) => self.emit(&[x]),
             Node::Two(x, y) => self.emit(&[x, y]),
             Node::Three(x, y, z) => self.emit(&[x, y, z]),
-            Node::Ident(x, y, z) => self.emit(&[ID_EXPR, x, y, z]),
-            Node::Unary(op, _) | Node::Binary(op, _, _) => self.emit(&[OPERATOR_EXPR, op, MORE]),
+            Node::Ident(x, y, old) => self.emit(&[ExprTag::IdExpr as u32, x, y, u32::from(old)]),
+            Node::Unary(op, _) | Node::Binary(op, _, _) => {
+                self.emit(&[ExprTag::OperatorExpr as u32, op.word(), MORE])
+            }
         }
     }
 

@@ -32,6 +32,8 @@ impl<'a> Parser<'a> {
         requires { Spare self.old 1 }
         ensures { Reads_if (item_words kind) (item_rule kind depth) 1 1 self.old self.new result }
     {
+        // Kept: `kind` is what the contracts of `items` and `list` name their rule by. Of a closure they could say no more than that its calls ran,
+        // and since nothing is inferred of a closure in a cycle of calls, each call would state the rule of the closure that it passes.
         match kind {
             Kind::Exprs => self.expr(depth),
             Kind::Bindings => self.id_type(),
@@ -177,7 +179,7 @@ impl<'a> Parser<'a> {
         requires { Spare self.old 1 }
         ensures { Reads_if property_words (item_rule Properties depth) 1 1 self.old self.new result }
     {
-        if self.word_is(self.word_ahead(), b"trigger") {
+        if self.word_here(b"trigger") {
             let triggers = self.marks(b"trigger", depth)?;
             let body = self.need_expr(depth)?;
             return Ok(Some(self.pair(triggers, body)));

@@ -21,7 +21,7 @@ use Rattle.parsing.proofs.Places.{no_credit, begin, begin_with, standing-more, t
 use Rattle.parsing.proofs.ExpressionPlaces.{stands-here, absent-here, over-two, sure, seen, was-seen, tail_if, stopped, closed}
 use borrow.Author.Tests.{le-leb}
 use Rattle.parsing.proofs.Openings.{level-opens}
-use Rattle.parsing.proofs.ExpressionRules.{universal-word, worded-rule, wordless-rule, triggers, triggered-rule, untriggered-rule, invariant-is, argument-is}
+use Rattle.parsing.proofs.ExpressionRules.{universal-word, worded-rule, wordless-rule, triggered-rule, untriggered-rule, invariant-is, argument-is}
 use Rattle.parsing.proofs.ExpressionLoops.{comma-repetition, marked-repetition, gathering, gathering-next, end-run, signed-none, signed-bare, signed-foldable, signed-done, listed, leaning-again, waiting_rest, waiting-first, waiting-next, foldable, folded, signed-first, signed-next}
 use Rattle.parsing.proofs.SignTables.{operator-stood, operator-absent}
 use Rattle.parsing.proofs.parser.Parser.+expression.Goals as goal
@@ -58,7 +58,7 @@ imp-loop-self-init t c =
 pub imp-loop-self-preserved : goal.imp-loop-self-preserved
 imp-loop-self-preserved t c =
     let o = operator-stood _ (level_rule Implication) _ _ _ c.in_ok-operator.ensures (sym c.is_some.ensures ∙ c.if-is_some.true) in
-    waiting-next c.args.depth c.loop-self.invariant o.1 c.word.ensures c.push-link.ensures c.in_ok-e.ensures
+    waiting-next c.args.depth c.loop-self.invariant o.1 c.push-link.ensures c.in_ok-e.ensures
 
 pub imp-fold-requires : goal.imp-fold-requires
 imp-fold-requires t c =
@@ -142,7 +142,7 @@ unary-loop-op-init t c = signed-first c.args.depth
 
 pub unary-loop-op-preserved : goal.unary-loop-op-preserved
 unary-loop-op-preserved t c =
-    signed-next c.args.depth c.loop-op.invariant (rw c.in-Some.is at c.in_ok-op.ensures) c.word.ensures c.push-link.ensures
+    signed-next c.args.depth c.loop-op.invariant (rw c.in-Some.is at c.in_ok-op.ensures) c.push-link.ensures
 
 -- ---- operands
 
@@ -365,77 +365,77 @@ marks-returns t c =
 pub primary-returns-in_err-literal : goal.primary-returns-in_err-literal
 primary-returns-in_err-literal t c =
     reads_if_err _ _ _ _ _ _ _ _ c.from_residual-in_err-literal.ensures.1 (stopped literal_expr _ _ c.in_err-literal.ensures
-    (said (wordless-rule _ _ _ _ (c.word_ahead-len.ensures.measured ∙ c.if-len-ne0.false)) (begin {p = c.args.self.now})))
+    (said (wordless-rule _ _ _ _ (rw c.in_default.is at c.word_ahead.ensures)) (begin {p = c.args.self.now})))
 
-pub primary-returns-in-Some : goal.primary-returns-in-Some
-primary-returns-in-Some t c =
-    done _ (read_if literal_expr _ _ (rw c.in-Some.is at c.in_ok-literal.ensures)
-    (said (wordless-rule _ _ _ _ (c.word_ahead-len.ensures.measured ∙ c.if-len-ne0.false)) begin) refl) refl refl
+pub primary-returns-in-Some-2 : goal.primary-returns-in-Some-2
+primary-returns-in-Some-2 t c =
+    done _ (read_if literal_expr _ _ (rw c.in-Some-2.is at c.in_ok-literal.ensures)
+    (said (wordless-rule _ _ _ _ (rw c.in_default.is at c.word_ahead.ensures)) begin) refl) refl refl
 
 pub primary-returns : goal.primary-returns
 primary-returns t c =
-    let no = rw c.in_default.is at c.in_ok-literal.ensures in
+    let no = rw c.in_default-2.is at c.in_ok-literal.ensures in
     tail_if tree_words _ (paren_expr (inner c.args.depth)) 1 0 1 0 _ _ no.same
-    (wordless-rule _ _ _ _ (c.word_ahead-len.ensures.measured ∙ c.if-len-ne0.false) ∙ after-none _ _ _ no.says) c.paren.ensures refl refl
+    (wordless-rule _ _ _ _ (rw c.in_default.is at c.word_ahead.ensures) ∙ after-none _ _ _ no.says) c.paren.ensures refl refl
 
-pub prop-returns-then-word_is : goal.prop-returns-then-word_is
-prop-returns-then-word_is t c =
-    let h = triggers c.args.self.now.text.now c.args.self.now.at c.word_ahead.ensures.measured c.word_is.ensures c.if-word_is.true in
+pub prop-returns-then-word_here : goal.prop-returns-then-word_here
+prop-returns-then-word_here t c =
+    let h = sym c.word_here.ensures ∙ c.if-word_here.true in
     done _ (paired c.pair.ensures (read (inner c.args.depth) _ c.in_ok-body.ensures (read_if (marked_rule (bytes "trigger") c.args.depth) _ _ c.in_ok-triggers.ensures
     (said (triggered-rule _ _ _ _ h) (begin_with c.requires)) refl) refl) refl) refl refl
 
 pub prop-returns-in_err-body : goal.prop-returns-in_err-body
 prop-returns-in_err-body t c =
-    let h = triggers c.args.self.now.text.now c.args.self.now.at c.word_ahead.ensures.measured c.word_is.ensures c.if-word_is.true in
+    let h = sym c.word_here.ensures ∙ c.if-word_here.true in
     reads_if_err _ _ _ _ _ _ _ _ c.from_residual-in_err-body.ensures.1 (refused_at (inner c.args.depth) _ (read_if (marked_rule (bytes "trigger") c.args.depth) _ _ c.in_ok-triggers.ensures
     (said (triggered-rule _ _ _ _ h) (begin_with c.requires)) refl) c.in_err-body.ensures)
 
 pub prop-returns-in_err-body-2 : goal.prop-returns-in_err-body-2
 prop-returns-in_err-body-2 t c =
-    let h = triggers c.args.self.now.text.now c.args.self.now.at c.word_ahead.ensures.measured c.word_is.ensures c.if-word_is.false in
+    let h = sym c.word_here.ensures ∙ c.if-word_here.false in
     reads_if_err _ _ _ _ _ _ _ _ c.from_residual-in_err-body-2.ensures.1 (stopped (inner c.args.depth) _ _ c.in_err-body-2.ensures (said (untriggered-rule _ _ _ _ h) (begin_with c.requires)))
 
 pub prop-returns-in_default : goal.prop-returns-in_default
 prop-returns-in_default t c =
-    let h = triggers c.args.self.now.text.now c.args.self.now.at c.word_ahead.ensures.measured c.word_is.ensures c.if-word_is.false in
+    let h = sym c.word_here.ensures ∙ c.if-word_here.false in
     let none = rw c.in_default.is at c.in_ok-body-2.ensures in
     record { says = (skipped (inner c.args.depth) _ _ none (said (untriggered-rule _ _ _ _ h) (begin_with c.requires))).says; same = none.same }
 
 pub prop-returns : goal.prop-returns
 prop-returns t c =
-    let h = triggers c.args.self.now.text.now c.args.self.now.at c.word_ahead.ensures.measured c.word_is.ensures c.if-word_is.false in
+    let h = sym c.word_here.ensures ∙ c.if-word_here.false in
     done _ (paired c.pair-2.ensures (read_if (inner c.args.depth) _ _ (rw c.in-Some.is at c.in_ok-body-2.ensures) (with_end (said (untriggered-rule _ _ _ _ h) (begin_with c.requires))) refl) refl) refl refl
 
 pub worded-returns-in_err-keyword_of : goal.worded-returns-in_err-keyword_of
 worded-returns-in_err-keyword_of t c =
     reads_err _ _ _ _ _ _ _ _ c.from_residual.ensures.1 (stopped (word (bytes "if")) _ _ c.in_err-keyword_of.ensures
-    (said (worded-rule _ _ (omega (arith, c.requires.spelt.measured, c.requires.filled)) _ _) (begin {p = c.args.self.now})))
+    (said (worded-rule _ _ (omega (arith, c.requires.measured, c.requires.filled)) _ _) (begin {p = c.args.self.now})))
 
 pub worded-returns-then-branch : goal.worded-returns-then-branch
 worded-returns-then-branch t c =
     tail tree_words _ (over after_if c.args.depth) 1 0 1 0 _ _ c.cond.ensures
     (stands-here (word (bytes "if")) 2 _ _ c.in_ok-keyword_of.ensures c.if-branch.true
-    (said (worded-rule _ _ (omega (arith, c.requires.spelt.measured, c.requires.filled)) _ _) begin)) refl refl refl
+    (said (worded-rule _ _ (omega (arith, c.requires.measured, c.requires.filled)) _ _) begin)) refl refl refl
 
 pub worded-returns-in_err-keyword_of-2 : goal.worded-returns-in_err-keyword_of-2
 worded-returns-in_err-keyword_of-2 t c =
     reads_err _ _ _ _ _ _ _ _ c.from_residual-in_err-keyword_of-2.ensures.1 (stopped (word (bytes "val")) _ _ c.in_err-keyword_of-2.ensures
     (absent-here (word (bytes "if")) 2 _ _ c.in_ok-keyword_of.ensures c.if-branch.false
-    (said (worded-rule _ _ (omega (arith, c.requires.spelt.measured, c.requires.filled)) _ _) begin)))
+    (said (worded-rule _ _ (omega (arith, c.requires.measured, c.requires.filled)) _ _) begin)))
 
 pub worded-returns-then-branch-2 : goal.worded-returns-then-branch-2
 worded-returns-then-branch-2 t c =
     tail tree_words _ (over after_val c.args.depth) 1 0 1 0 _ _ c.val.ensures
     (stands-here (word (bytes "val")) 3 _ _ c.in_ok-keyword_of-2.ensures c.if-branch-2.true
     (absent-here (word (bytes "if")) 2 _ _ c.in_ok-keyword_of.ensures c.if-branch.false
-    (said (worded-rule _ _ (omega (arith, c.requires.spelt.measured, c.requires.filled)) _ _) begin))) refl refl refl
+    (said (worded-rule _ _ (omega (arith, c.requires.measured, c.requires.filled)) _ _) begin))) refl refl refl
 
 pub worded-returns-in_err-keyword_of-3 : goal.worded-returns-in_err-keyword_of-3
 worded-returns-in_err-keyword_of-3 t c =
     reads_err _ _ _ _ _ _ _ _ c.from_residual-in_err-keyword_of-3.ensures.1 (stopped (word (bytes "forall")) _ _ c.in_err-keyword_of-3.ensures
     (absent-here (word (bytes "val")) 3 _ _ c.in_ok-keyword_of-2.ensures c.if-branch-2.false
     (absent-here (word (bytes "if")) 2 _ _ c.in_ok-keyword_of.ensures c.if-branch.false
-    (said (worded-rule _ _ (omega (arith, c.requires.spelt.measured, c.requires.filled)) _ _) begin))))
+    (said (worded-rule _ _ (omega (arith, c.requires.measured, c.requires.filled)) _ _) begin))))
 
 pub worded-returns-then-branch-3 : goal.worded-returns-then-branch-3
 worded-returns-then-branch-3 t c =
@@ -443,7 +443,7 @@ worded-returns-then-branch-3 t c =
     (stands-here (word (bytes "forall")) 6 _ _ c.in_ok-keyword_of-3.ensures c.if-branch-3.true
     (absent-here (word (bytes "val")) 3 _ _ c.in_ok-keyword_of-2.ensures c.if-branch-2.false
     (absent-here (word (bytes "if")) 2 _ _ c.in_ok-keyword_of.ensures c.if-branch.false
-    (said (worded-rule _ _ (omega (arith, c.requires.spelt.measured, c.requires.filled)) _ _) begin)))) refl refl refl
+    (said (worded-rule _ _ (omega (arith, c.requires.measured, c.requires.filled)) _ _) begin)))) refl refl refl
 
 pub worded-returns-in_err-keyword_of-4 : goal.worded-returns-in_err-keyword_of-4
 worded-returns-in_err-keyword_of-4 t c =
@@ -451,7 +451,7 @@ worded-returns-in_err-keyword_of-4 t c =
     (absent-here (word (bytes "forall")) 6 _ _ c.in_ok-keyword_of-3.ensures c.if-branch-3.false
     (absent-here (word (bytes "val")) 3 _ _ c.in_ok-keyword_of-2.ensures c.if-branch-2.false
     (absent-here (word (bytes "if")) 2 _ _ c.in_ok-keyword_of.ensures c.if-branch.false
-    (said (worded-rule _ _ (omega (arith, c.requires.spelt.measured, c.requires.filled)) _ _) begin)))))
+    (said (worded-rule _ _ (omega (arith, c.requires.measured, c.requires.filled)) _ _) begin)))))
 
 pub worded-returns-then-branch-4 : goal.worded-returns-then-branch-4
 worded-returns-then-branch-4 t c =
@@ -460,7 +460,7 @@ worded-returns-then-branch-4 t c =
     (absent-here (word (bytes "forall")) 6 _ _ c.in_ok-keyword_of-3.ensures c.if-branch-3.false
     (absent-here (word (bytes "val")) 3 _ _ c.in_ok-keyword_of-2.ensures c.if-branch-2.false
     (absent-here (word (bytes "if")) 2 _ _ c.in_ok-keyword_of.ensures c.if-branch.false
-    (said (worded-rule _ _ (omega (arith, c.requires.spelt.measured, c.requires.filled)) _ _) begin))))) refl refl refl
+    (said (worded-rule _ _ (omega (arith, c.requires.measured, c.requires.filled)) _ _) begin))))) refl refl refl
 
 pub worded-returns-in_err-keyword_of-5 : goal.worded-returns-in_err-keyword_of-5
 worded-returns-in_err-keyword_of-5 t c =
@@ -469,7 +469,7 @@ worded-returns-in_err-keyword_of-5 t c =
     (absent-here (word (bytes "forall")) 6 _ _ c.in_ok-keyword_of-3.ensures c.if-branch-3.false
     (absent-here (word (bytes "val")) 3 _ _ c.in_ok-keyword_of-2.ensures c.if-branch-2.false
     (absent-here (word (bytes "if")) 2 _ _ c.in_ok-keyword_of.ensures c.if-branch.false
-    (said (worded-rule _ _ (omega (arith, c.requires.spelt.measured, c.requires.filled)) _ _) begin))))))
+    (said (worded-rule _ _ (omega (arith, c.requires.measured, c.requires.filled)) _ _) begin))))))
 
 pub worded-returns-then-branch-5 : goal.worded-returns-then-branch-5
 worded-returns-then-branch-5 t c =
@@ -479,7 +479,7 @@ worded-returns-then-branch-5 t c =
     (absent-here (word (bytes "forall")) 6 _ _ c.in_ok-keyword_of-3.ensures c.if-branch-3.false
     (absent-here (word (bytes "val")) 3 _ _ c.in_ok-keyword_of-2.ensures c.if-branch-2.false
     (absent-here (word (bytes "if")) 2 _ _ c.in_ok-keyword_of.ensures c.if-branch.false
-    (said (worded-rule _ _ (omega (arith, c.requires.spelt.measured, c.requires.filled)) _ _) begin)))))) refl refl refl
+    (said (worded-rule _ _ (omega (arith, c.requires.measured, c.requires.filled)) _ _) begin)))))) refl refl refl
 
 pub worded-returns-in_err-constant : goal.worded-returns-in_err-constant
 worded-returns-in_err-constant t c =
@@ -489,7 +489,7 @@ worded-returns-in_err-constant t c =
     (absent-here (word (bytes "forall")) 6 _ _ c.in_ok-keyword_of-3.ensures c.if-branch-3.false
     (absent-here (word (bytes "val")) 3 _ _ c.in_ok-keyword_of-2.ensures c.if-branch-2.false
     (absent-here (word (bytes "if")) 2 _ _ c.in_ok-keyword_of.ensures c.if-branch.false
-    (said (worded-rule _ _ (omega (arith, c.requires.spelt.measured, c.requires.filled)) _ _) begin)))))))
+    (said (worded-rule _ _ (omega (arith, c.requires.measured, c.requires.filled)) _ _) begin)))))))
 
 pub worded-returns-in-Some : goal.worded-returns-in-Some
 worded-returns-in-Some t c =
@@ -499,7 +499,7 @@ worded-returns-in-Some t c =
     (absent-here (word (bytes "forall")) 6 _ _ c.in_ok-keyword_of-3.ensures c.if-branch-3.false
     (absent-here (word (bytes "val")) 3 _ _ c.in_ok-keyword_of-2.ensures c.if-branch-2.false
     (absent-here (word (bytes "if")) 2 _ _ c.in_ok-keyword_of.ensures c.if-branch.false
-    (said (worded-rule _ _ (omega (arith, c.requires.spelt.measured, c.requires.filled)) _ _) begin)))))) refl) refl refl
+    (said (worded-rule _ _ (omega (arith, c.requires.measured, c.requires.filled)) _ _) begin)))))) refl) refl refl
 
 pub worded-returns-in_err-name : goal.worded-returns-in_err-name
 worded-returns-in_err-name t c =
@@ -510,7 +510,7 @@ worded-returns-in_err-name t c =
     (absent-here (word (bytes "forall")) 6 _ _ c.in_ok-keyword_of-3.ensures c.if-branch-3.false
     (absent-here (word (bytes "val")) 3 _ _ c.in_ok-keyword_of-2.ensures c.if-branch-2.false
     (absent-here (word (bytes "if")) 2 _ _ c.in_ok-keyword_of.ensures c.if-branch.false
-    (said (worded-rule _ _ (omega (arith, c.requires.spelt.measured, c.requires.filled)) _ _) begin))))))))
+    (said (worded-rule _ _ (omega (arith, c.requires.measured, c.requires.filled)) _ _) begin))))))))
 
 pub worded-returns : goal.worded-returns
 worded-returns t c =
@@ -522,7 +522,7 @@ worded-returns t c =
     (absent-here (word (bytes "forall")) 6 _ _ c.in_ok-keyword_of-3.ensures c.if-branch-3.false
     (absent-here (word (bytes "val")) 3 _ _ c.in_ok-keyword_of-2.ensures c.if-branch-2.false
     (absent-here (word (bytes "if")) 2 _ _ c.in_ok-keyword_of.ensures c.if-branch.false
-    (said (worded-rule _ _ (omega (arith, c.requires.spelt.measured, c.requires.filled)) _ _) begin)))))))) refl refl refl
+    (said (worded-rule _ _ (omega (arith, c.requires.measured, c.requires.filled)) _ _) begin)))))))) refl refl refl
 
 pub bind-returns-in_err-rhs : goal.bind-returns-in_err-rhs
 unfolding parse_closure_binding

@@ -69,7 +69,7 @@ block-returns-then-not-branch t c =
 
 pub block-returns-then-depth-eq0 : goal.block-returns-then-depth-eq0
 block-returns-then-depth-eq0 t c =
-    block-deep _ c.args.depth _ c.if-depth-eq0.true ∙ after-ok _ _ _ (stood (sign (bytes "{")) 1 _ _ c.in_ok-sym.ensures c.if-not-branch.false).says
+    rw c.too_deep.ensures (block-deep _ c.args.depth _ c.if-depth-eq0.true ∙ after-ok _ _ _ (stood (sign (bytes "{")) 1 _ _ c.in_ok-sym.ensures c.if-not-branch.false).says)
 
 pub block-returns-in_err-stmts : goal.block-returns-in_err-stmts
 block-returns-in_err-stmts t c =
@@ -129,82 +129,83 @@ need_scope-returns t c =
 
 -- ---- statements
 
-pub stmt-returns-then-len-eq0 : goal.stmt-returns-then-len-eq0
-stmt-returns-then-len-eq0 t c =
-    spares_if_same _ _ (block_rule c.args.depth) _ _ _ (wordless-stmt _ c.args.depth _ (c.word_ahead-len.ensures.measured ∙ c.if-len-eq0.true)) c.block.ensures
+pub stmt-returns-in_default : goal.stmt-returns-in_default
+stmt-returns-in_default t c =
+    spares_if_same _ _ (block_rule c.args.depth) _ _ _ (wordless-stmt _ c.args.depth _ (rw c.in_default.is at c.word_ahead.ensures)) c.block.ensures
 
 pub stmt-returns-in_err-name : goal.stmt-returns-in_err-name
 stmt-returns-in_err-name t c =
-    spares_if_err _ _ _ _ _ (stmt-refused _ c.args.depth _ c.word_ahead-len.ensures.measured (omega (arith, c.if-len-eq0.false)) c.in_err-name.ensures) _ c.from_residual.ensures.1
+    let s = rw c.in-Some.is at c.word_ahead.ensures in
+    spares_if_err _ _ _ _ _ (stmt-refused _ c.args.depth _ s.measured s.filled c.in_err-name.ensures) _ c.from_residual.ensures.1
 
 pub stmt-var_decl-requires : goal.stmt-var_decl-requires
 stmt-var_decl-requires t c =
-    (omega (arith, c.decreases), room 6 no_credit (led c.args.depth c.word_ahead-len.ensures c.if-len-eq0.false c.lead_at-lead.ensures c.in_ok-name.ensures lead.Var c.in-Var.is) refl)
+    (omega (arith, c.decreases), room 6 no_credit (led c.args.depth (rw c.in-Some.is at c.word_ahead.ensures) c.lead_at-lead.ensures c.in_ok-name.ensures lead.Var c.in-Var.is) refl)
 
 pub stmt-returns-in_err-var_decl-in-Var : goal.stmt-returns-in_err-var_decl-in-Var
 stmt-returns-in_err-var_decl-in-Var t c =
     spares_if_err _ _ _ _ _ (refused_last (lead_rule lead.Var c.args.depth (span c.in_ok-name.name))
-    (led c.args.depth c.word_ahead-len.ensures c.if-len-eq0.false c.lead_at-lead.ensures c.in_ok-name.ensures lead.Var c.in-Var.is) c.in_err-var_decl-in-Var.ensures) _ c.from_residual-in_err-var_decl-in-Var.ensures.1
+    (led c.args.depth (rw c.in-Some.is at c.word_ahead.ensures) c.lead_at-lead.ensures c.in_ok-name.ensures lead.Var c.in-Var.is) c.in_err-var_decl-in-Var.ensures) _ c.from_residual-in_err-var_decl-in-Var.ensures.1
 
 pub stmt-var_decl-requires-in-Val : goal.stmt-var_decl-requires-in-Val
 stmt-var_decl-requires-in-Val t c =
-    (omega (arith, c.decreases), room 6 no_credit (led c.args.depth c.word_ahead-len.ensures c.if-len-eq0.false c.lead_at-lead.ensures c.in_ok-name.ensures lead.Val c.in-Val.is) refl)
+    (omega (arith, c.decreases), room 6 no_credit (led c.args.depth (rw c.in-Some.is at c.word_ahead.ensures) c.lead_at-lead.ensures c.in_ok-name.ensures lead.Val c.in-Val.is) refl)
 
 pub stmt-returns-in_err-var_decl-in-Val : goal.stmt-returns-in_err-var_decl-in-Val
 stmt-returns-in_err-var_decl-in-Val t c =
     spares_if_err _ _ _ _ _ (refused_last (lead_rule lead.Val c.args.depth (span c.in_ok-name.name))
-    (led c.args.depth c.word_ahead-len.ensures c.if-len-eq0.false c.lead_at-lead.ensures c.in_ok-name.ensures lead.Val c.in-Val.is) c.in_err-var_decl-in-Val.ensures) _ c.from_residual-in_err-var_decl-in-Val.ensures.1
+    (led c.args.depth (rw c.in-Some.is at c.word_ahead.ensures) c.lead_at-lead.ensures c.in_ok-name.ensures lead.Val c.in-Val.is) c.in_err-var_decl-in-Val.ensures) _ c.from_residual-in_err-var_decl-in-Val.ensures.1
 
 pub stmt-simple-requires : goal.stmt-simple-requires
-stmt-simple-requires t c = room 4 no_credit (led c.args.depth c.word_ahead-len.ensures c.if-len-eq0.false c.lead_at-lead.ensures c.in_ok-name.ensures (lead.Simple c.in-Simple.kind) c.in-Simple.is) refl
+stmt-simple-requires t c = room 4 no_credit (led c.args.depth (rw c.in-Some.is at c.word_ahead.ensures) c.lead_at-lead.ensures c.in_ok-name.ensures (lead.Simple c.in-Simple.kind) c.in-Simple.is) refl
 
 pub stmt-returns-in_err-simple-in-Simple : goal.stmt-returns-in_err-simple-in-Simple
 stmt-returns-in_err-simple-in-Simple t c =
     spares_if_err _ _ _ _ _ (refused_last (lead_rule (lead.Simple c.in-Simple.kind) c.args.depth (span c.in_ok-name.name))
-    (led c.args.depth c.word_ahead-len.ensures c.if-len-eq0.false c.lead_at-lead.ensures c.in_ok-name.ensures (lead.Simple c.in-Simple.kind) c.in-Simple.is) c.in_err-simple-in-Simple.ensures) _ c.from_residual-in_err-simple-in-Simple.ensures.1
+    (led c.args.depth (rw c.in-Some.is at c.word_ahead.ensures) c.lead_at-lead.ensures c.in_ok-name.ensures (lead.Simple c.in-Simple.kind) c.in-Simple.is) c.in_err-simple-in-Simple.ensures) _ c.from_residual-in_err-simple-in-Simple.ensures.1
 
 pub stmt-returns-in_err-forall_stmt-in-Forall : goal.stmt-returns-in_err-forall_stmt-in-Forall
 stmt-returns-in_err-forall_stmt-in-Forall t c =
     spares_if_err _ _ _ _ _ (refused_last (lead_rule lead.Forall c.args.depth (span c.in_ok-name.name))
-    (led c.args.depth c.word_ahead-len.ensures c.if-len-eq0.false c.lead_at-lead.ensures c.in_ok-name.ensures lead.Forall c.in-Forall.is) c.in_err-forall_stmt-in-Forall.ensures) _ c.from_residual-in_err-forall_stmt-in-Forall.ensures.1
+    (led c.args.depth (rw c.in-Some.is at c.word_ahead.ensures) c.lead_at-lead.ensures c.in_ok-name.ensures lead.Forall c.in-Forall.is) c.in_err-forall_stmt-in-Forall.ensures) _ c.from_residual-in_err-forall_stmt-in-Forall.ensures.1
 
 pub stmt-choose-requires : goal.stmt-choose-requires
 stmt-choose-requires t c =
-    (omega (arith, c.decreases), room 3 no_credit (led c.args.depth c.word_ahead-len.ensures c.if-len-eq0.false c.lead_at-lead.ensures c.in_ok-name.ensures lead.Choose c.in-Choose.is) refl)
+    (omega (arith, c.decreases), room 3 no_credit (led c.args.depth (rw c.in-Some.is at c.word_ahead.ensures) c.lead_at-lead.ensures c.in_ok-name.ensures lead.Choose c.in-Choose.is) refl)
 
 pub stmt-returns-in_err-choose-in-Choose : goal.stmt-returns-in_err-choose-in-Choose
 stmt-returns-in_err-choose-in-Choose t c =
     spares_if_err _ _ _ _ _ (refused_last (lead_rule lead.Choose c.args.depth (span c.in_ok-name.name))
-    (led c.args.depth c.word_ahead-len.ensures c.if-len-eq0.false c.lead_at-lead.ensures c.in_ok-name.ensures lead.Choose c.in-Choose.is) c.in_err-choose-in-Choose.ensures) _ c.from_residual-in_err-choose-in-Choose.ensures.1
+    (led c.args.depth (rw c.in-Some.is at c.word_ahead.ensures) c.lead_at-lead.ensures c.in_ok-name.ensures lead.Choose c.in-Choose.is) c.in_err-choose-in-Choose.ensures) _ c.from_residual-in_err-choose-in-Choose.ensures.1
 
 pub stmt-if_cont-requires : goal.stmt-if_cont-requires
 stmt-if_cont-requires t c =
-    (omega (arith, c.decreases), room 3 no_credit (led c.args.depth c.word_ahead-len.ensures c.if-len-eq0.false c.lead_at-lead.ensures c.in_ok-name.ensures lead.If c.in-If.is) refl)
+    (omega (arith, c.decreases), room 3 no_credit (led c.args.depth (rw c.in-Some.is at c.word_ahead.ensures) c.lead_at-lead.ensures c.in_ok-name.ensures lead.If c.in-If.is) refl)
 
 pub stmt-returns-in_err-if_cont-in-If : goal.stmt-returns-in_err-if_cont-in-If
 stmt-returns-in_err-if_cont-in-If t c =
     spares_if_err _ _ _ _ _ (refused_last (lead_rule lead.If c.args.depth (span c.in_ok-name.name))
-    (led c.args.depth c.word_ahead-len.ensures c.if-len-eq0.false c.lead_at-lead.ensures c.in_ok-name.ensures lead.If c.in-If.is) c.in_err-if_cont-in-If.ensures) _ c.from_residual-in_err-if_cont-in-If.ensures.1
+    (led c.args.depth (rw c.in-Some.is at c.word_ahead.ensures) c.lead_at-lead.ensures c.in_ok-name.ensures lead.If c.in-If.is) c.in_err-if_cont-in-If.ensures) _ c.from_residual-in_err-if_cont-in-If.ensures.1
 
 pub stmt-looped-requires : goal.stmt-looped-requires
 stmt-looped-requires t c =
-    (omega (arith, c.decreases), room 3 no_credit (led c.args.depth c.word_ahead-len.ensures c.if-len-eq0.false c.lead_at-lead.ensures c.in_ok-name.ensures lead.Loop c.in-Loop.is) refl)
+    (omega (arith, c.decreases), room 3 no_credit (led c.args.depth (rw c.in-Some.is at c.word_ahead.ensures) c.lead_at-lead.ensures c.in_ok-name.ensures lead.Loop c.in-Loop.is) refl)
 
 pub stmt-returns-in_err-looped-in-Loop : goal.stmt-returns-in_err-looped-in-Loop
 stmt-returns-in_err-looped-in-Loop t c =
     spares_if_err _ _ _ _ _ (refused_last (loop_body c.args.depth c.args.self.now.at)
-    (said (ap (λ k. loop_body c.args.depth k c.args.self.now.text.now c.pass_word.new.self.at) c.in_ok-name.ensures.named.start_is) (led c.args.depth c.word_ahead-len.ensures c.if-len-eq0.false c.lead_at-lead.ensures c.in_ok-name.ensures lead.Loop c.in-Loop.is)) c.in_err-looped-in-Loop.ensures) _ c.from_residual-in_err-looped-in-Loop.ensures.1
+    (said (ap (λ k. loop_body c.args.depth k c.args.self.now.text.now c.pass_word.new.self.at) c.in_ok-name.ensures.named.start_is) (led c.args.depth (rw c.in-Some.is at c.word_ahead.ensures) c.lead_at-lead.ensures c.in_ok-name.ensures lead.Loop c.in-Loop.is)) c.in_err-looped-in-Loop.ensures) _ c.from_residual-in_err-looped-in-Loop.ensures.1
 
 pub stmt-returns-in_err-stmt-in-Name : goal.stmt-returns-in_err-stmt-in-Name
 stmt-returns-in_err-stmt-in-Name t c =
     spares_if_err _ _ _ _ _ (refused_last (lead_rule lead.Name c.args.depth (span c.in_ok-name.name))
-    (led c.args.depth c.word_ahead-len.ensures c.if-len-eq0.false c.lead_at-lead.ensures c.in_ok-name.ensures lead.Name c.in-Name.is) c.in_err-stmt-in-Name.ensures) _ c.from_residual-in_err-stmt-in-Name.ensures.1
+    (led c.args.depth (rw c.in-Some.is at c.word_ahead.ensures) c.lead_at-lead.ensures c.in_ok-name.ensures lead.Name c.in-Name.is) c.in_err-stmt-in-Name.ensures) _ c.from_residual-in_err-stmt-in-Name.ensures.1
 
-pub stmt-returns-in_default : goal.stmt-returns-in_default
-stmt-returns-in_default t c =
-    let no = rw c.in_default.is at c.in_ok-stmt-in-Name.ensures in
+pub stmt-returns-in_default-2 : goal.stmt-returns-in_default-2
+stmt-returns-in_default-2 t c =
+    let no = rw c.in_default-2.is at c.in_ok-stmt-in-Name.ensures in
     let w = c.in_ok-name.ensures.named in
-    let l = (led c.args.depth c.word_ahead-len.ensures c.if-len-eq0.false c.lead_at-lead.ensures c.in_ok-name.ensures lead.Name c.in-Name.is) in
+    let l = (led c.args.depth (rw c.in-Some.is at c.word_ahead.ensures) c.lead_at-lead.ensures c.in_ok-name.ensures lead.Name c.in-Name.is) in
     let m = stay no.same in
     record {
       says = l.says ∙ says-of (named_stmt c.args.depth (span c.in_ok-name.name)) w.went.later no.says;
@@ -214,42 +215,42 @@ stmt-returns-in_default t c =
 pub stmt-returns-in_ok-var_decl-in-Var : goal.stmt-returns-in_ok-var_decl-in-Var
 stmt-returns-in_ok-var_decl-in-Var t c =
     ends-last _ (lead_rule lead.Var c.args.depth (span c.in_ok-name.name)) c.in_ok-var_decl-in-Var.ensures
-    (declared c.args.depth c.word_ahead-len.ensures c.if-len-eq0.false c.lead_at-lead.ensures c.in_ok-name.ensures lead.Var c.in-Var.is true c.in_ok-var_decl-in-Var.ensures.says refl) refl refl
+    (declared c.args.depth (rw c.in-Some.is at c.word_ahead.ensures) c.lead_at-lead.ensures c.in_ok-name.ensures lead.Var c.in-Var.is true c.in_ok-var_decl-in-Var.ensures.says refl) refl refl
 
 pub stmt-returns-in_ok-var_decl-in-Val : goal.stmt-returns-in_ok-var_decl-in-Val
 stmt-returns-in_ok-var_decl-in-Val t c =
     ends-last _ (lead_rule lead.Val c.args.depth (span c.in_ok-name.name)) c.in_ok-var_decl-in-Val.ensures
-    (declared c.args.depth c.word_ahead-len.ensures c.if-len-eq0.false c.lead_at-lead.ensures c.in_ok-name.ensures lead.Val c.in-Val.is false c.in_ok-var_decl-in-Val.ensures.says refl) refl refl
+    (declared c.args.depth (rw c.in-Some.is at c.word_ahead.ensures) c.lead_at-lead.ensures c.in_ok-name.ensures lead.Val c.in-Val.is false c.in_ok-var_decl-in-Val.ensures.says refl) refl refl
 
 pub stmt-returns-in_ok-simple-in-Simple : goal.stmt-returns-in_ok-simple-in-Simple
 stmt-returns-in_ok-simple-in-Simple t c =
     ends-last _ (lead_rule (lead.Simple c.in-Simple.kind) c.args.depth (span c.in_ok-name.name)) c.in_ok-simple-in-Simple.ensures
-    (led c.args.depth c.word_ahead-len.ensures c.if-len-eq0.false c.lead_at-lead.ensures c.in_ok-name.ensures (lead.Simple c.in-Simple.kind) c.in-Simple.is) refl refl
+    (led c.args.depth (rw c.in-Some.is at c.word_ahead.ensures) c.lead_at-lead.ensures c.in_ok-name.ensures (lead.Simple c.in-Simple.kind) c.in-Simple.is) refl refl
 
 pub stmt-returns-in_ok-forall_stmt-in-Forall : goal.stmt-returns-in_ok-forall_stmt-in-Forall
 stmt-returns-in_ok-forall_stmt-in-Forall t c =
     ends-last _ (lead_rule lead.Forall c.args.depth (span c.in_ok-name.name)) c.in_ok-forall_stmt-in-Forall.ensures
-    (led c.args.depth c.word_ahead-len.ensures c.if-len-eq0.false c.lead_at-lead.ensures c.in_ok-name.ensures lead.Forall c.in-Forall.is) refl refl
+    (led c.args.depth (rw c.in-Some.is at c.word_ahead.ensures) c.lead_at-lead.ensures c.in_ok-name.ensures lead.Forall c.in-Forall.is) refl refl
 
 pub stmt-returns-in_ok-choose-in-Choose : goal.stmt-returns-in_ok-choose-in-Choose
 stmt-returns-in_ok-choose-in-Choose t c =
     ends-last _ (lead_rule lead.Choose c.args.depth (span c.in_ok-name.name)) c.in_ok-choose-in-Choose.ensures
-    (led c.args.depth c.word_ahead-len.ensures c.if-len-eq0.false c.lead_at-lead.ensures c.in_ok-name.ensures lead.Choose c.in-Choose.is) refl refl
+    (led c.args.depth (rw c.in-Some.is at c.word_ahead.ensures) c.lead_at-lead.ensures c.in_ok-name.ensures lead.Choose c.in-Choose.is) refl refl
 
 pub stmt-returns-in_ok-if_cont-in-If : goal.stmt-returns-in_ok-if_cont-in-If
 stmt-returns-in_ok-if_cont-in-If t c =
     ends-last _ (lead_rule lead.If c.args.depth (span c.in_ok-name.name)) c.in_ok-if_cont-in-If.ensures
-    (led c.args.depth c.word_ahead-len.ensures c.if-len-eq0.false c.lead_at-lead.ensures c.in_ok-name.ensures lead.If c.in-If.is) refl refl
+    (led c.args.depth (rw c.in-Some.is at c.word_ahead.ensures) c.lead_at-lead.ensures c.in_ok-name.ensures lead.If c.in-If.is) refl refl
 
 pub stmt-returns-in_ok-looped-in-Loop : goal.stmt-returns-in_ok-looped-in-Loop
 stmt-returns-in_ok-looped-in-Loop t c =
     ends-last _ (loop_body c.args.depth c.args.self.now.at) c.in_ok-looped-in-Loop.ensures
-    (said (ap (λ k. loop_body c.args.depth k c.args.self.now.text.now c.pass_word.new.self.at) c.in_ok-name.ensures.named.start_is) (led c.args.depth c.word_ahead-len.ensures c.if-len-eq0.false c.lead_at-lead.ensures c.in_ok-name.ensures lead.Loop c.in-Loop.is)) refl refl
+    (said (ap (λ k. loop_body c.args.depth k c.args.self.now.text.now c.pass_word.new.self.at) c.in_ok-name.ensures.named.start_is) (led c.args.depth (rw c.in-Some.is at c.word_ahead.ensures) c.lead_at-lead.ensures c.in_ok-name.ensures lead.Loop c.in-Loop.is)) refl refl
 
-pub stmt-returns-in-Some : goal.stmt-returns-in-Some
-stmt-returns-in-Some t c =
-    ends-last _ (lead_rule lead.Name c.args.depth (span c.in_ok-name.name)) (rw c.in-Some.is at c.in_ok-stmt-in-Name.ensures)
-    (led c.args.depth c.word_ahead-len.ensures c.if-len-eq0.false c.lead_at-lead.ensures c.in_ok-name.ensures lead.Name c.in-Name.is) refl refl
+pub stmt-returns-in-Some-2 : goal.stmt-returns-in-Some-2
+stmt-returns-in-Some-2 t c =
+    ends-last _ (lead_rule lead.Name c.args.depth (span c.in_ok-name.name)) (rw c.in-Some-2.is at c.in_ok-stmt-in-Name.ensures)
+    (led c.args.depth (rw c.in-Some.is at c.word_ahead.ensures) c.lead_at-lead.ensures c.in_ok-name.ensures lead.Name c.in-Name.is) refl refl
 
 pub nested-returns : goal.nested-returns
 nested-returns t c = spares_if_same _ _ (opening parse_stmt (c.args.depth - 1)) _ _ _ (stmt-opens _ c.args.depth _ c.if-depth-eq0.false) c.stmt.ensures

@@ -1,7 +1,10 @@
 use Rattle.std.proofs.Common.{refl, ◌≡◌, arith}
 use Rattle.parsing.proofs.Places.{stood, absent}
-use Rattle.parsing.proofs.ProgramRules.{begins_err, seeking-next, found, found-refused, none-found}
+use Rattle.parsing.proofs.ProgramRules.{begins_err, seeking-next, found, found-refused, none-found, no-kind}
 use Rattle.parsing.proofs.parser.Parser.begin.Goals as goal
+
+pub returns-in_default : goal.returns-in_default
+returns-in_default c = no-kind _ (rw c.in_default.is at c.word_ahead.ensures)
 
 pub loop-word-init : goal.loop-word-init
 loop-word-init c = record { same = refl; says = refl; long = (refl, (refl, (refl, (refl, (refl, tt))))) }

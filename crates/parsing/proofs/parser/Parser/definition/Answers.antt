@@ -31,7 +31,7 @@ returns-then-branch c =
 
 pub returns-then-guarded : goal.returns-then-guarded
 returns-then-guarded c =
-    let s = keyword-stands c.args.self.now (bytes "when") c.word_ahead.ensures (sym c.word_is-guarded.ensures ∙ c.if-guarded.true) in
+    let s = keyword-stands c.args.self.now (bytes "when") (sym c.word_here-guarded.ensures ∙ c.if-guarded.true) in
     let w = c.in_ok-when.ensures in
     let l = skipped _ (undefined w.value _) _ (absent (sign (bytes "{")) 1 _ _ c.in_ok-sym.ensures c.if-branch.false)
     (read_if (repetition_rule Whens c.args.depth) _ _ w (said (definition-is _ c.args.depth _) (begin_with c.requires)) refl) in
@@ -39,7 +39,7 @@ returns-then-guarded c =
 
 pub returns : goal.returns
 returns c =
-    let e = no-keyword c.args.self.now _ _ (bytes "when") c.word_ahead.ensures (sym c.word_is-guarded.ensures ∙ c.if-guarded.false) refl in
+    let e = no-keyword c.args.self.now _ (bytes "when") (sym c.word_here-guarded.ensures ∙ c.if-guarded.false) refl in
     let w = c.in_ok-when.ensures in
     let l = skipped _ (undefined w.value _) _ (absent (sign (bytes "{")) 1 _ _ c.in_ok-sym.ensures c.if-branch.false)
     (read_if (repetition_rule Whens c.args.depth) _ _ w (said (definition-is _ c.args.depth _) (begin_with c.requires)) refl) in

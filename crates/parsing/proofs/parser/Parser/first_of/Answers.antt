@@ -2,11 +2,14 @@ use Rattle.std.proofs.Common.{refl, subst, arith}
 use Rattle.std.proofs.lemmas.List.{drop_all}
 use Rattle.parsing.proofs.Laws.{operates_err}
 use Rattle.parsing.proofs.Places.{stood, absent}
-use Rattle.parsing.proofs.SignTables.{Trying, trying-next, tried, tried-refused, none-tried}
+use Rattle.parsing.proofs.SignTables.{Trying, next-filled, trying-next, tried, tried-refused, none-tried}
 use Rattle.parsing.proofs.parser.Parser.first_of.Goals as goal
 
 pub loop-spelling-init : goal.loop-spelling-init
 loop-spelling-init g c = record { same = refl; says = refl; filled = c.requires }
+
+pub spelt-requires : goal.spelt-requires
+spelt-requires g c = next-filled _ _ c.loop-spelling-test.true c.loop-spelling.invariant c.loop-spelling-item.is
 
 pub loop-spelling-preserved : goal.loop-spelling-preserved
 loop-spelling-preserved g c = trying-next _ _ c.loop-spelling-test.true c.loop-spelling.invariant c.loop-spelling-item.is (absent _ _ _ _ c.in_ok-spelt.ensures c.if-branch.false)

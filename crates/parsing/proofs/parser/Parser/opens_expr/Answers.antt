@@ -1,8 +1,8 @@
 use Rattle.parsing.proofs.Openings.{opens-word, opens-byte}
 use Rattle.parsing.proofs.parser.Parser.opens_expr.Goals as goal
 
-pub returns-then-word_ahead-gt0 : goal.returns-then-word_ahead-gt0
-returns-then-word_ahead-gt0 c = opens-word _ c.word_ahead.ensures c.if-word_ahead-gt0.true
+pub returns-then-is_some : goal.returns-then-is_some
+returns-then-is_some c = opens-word c.args.self.now _ c.word_ahead.ensures c.is_some.ensures c.if-is_some.true
 
-pub returns-else-word_ahead-gt0 : goal.returns-else-word_ahead-gt0
-returns-else-word_ahead-gt0 c = opens-byte _ c.word_ahead.ensures c.if-word_ahead-gt0.false c.peek.ensures c.peek-else-word_ahead-gt0.ensures c.opens_at.ensures
+pub returns-else-is_some : goal.returns-else-is_some
+returns-else-is_some c = opens-byte c.args.self.now _ c.word_ahead.ensures c.is_some.ensures c.if-is_some.false c.peek.ensures c.peek-else-is_some.ensures c.opens_at.ensures
