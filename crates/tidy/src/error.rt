@@ -16,6 +16,7 @@ pub enum TidyError {
     Print(PrintError),
 }
 
+// Kept: a trait of number and place would make no caller plainer, as none is generic over errors, and `tree` and `lexing` share no crate for it.
 impl TidyError {
     // The refusal's number.
     pub fn number(self) -> u64
