@@ -76,7 +76,7 @@ impl BindingPower {
         }
     }
 
-    // Whether an operator of this strength needs no parentheses in a context.
+    // Whether an operator of this strength needs no parentheses in a context. Inlined with what it calls: a print asks it four times for an operator.
     #[inline(always)]
     #[tactic(auto, unfolding(crate::specs::PrintUtil::WinsOver))]
     pub fn wins_over(self, context: BindingPower) -> bool

@@ -34,6 +34,7 @@ pub(crate) fn breaks_line(op: Operator) -> bool
     }
 }
 
+#[inline(always)]
 pub(crate) fn binding_strength(op: Operator) -> BindingPower
     ensures { result ≡ BindingStrength (as_operator op) }
 {
@@ -56,6 +57,7 @@ pub(crate) fn binding_strength(op: Operator) -> BindingPower
     }
 }
 
+#[inline]
 pub(crate) fn spelling(op: Operator) -> &'static [u8]
     ensures { result.now ≡ bytes (ToString (as_operator op)) }
 {

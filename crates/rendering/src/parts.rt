@@ -109,6 +109,7 @@ impl Printer<'_> {
     }
 
     // A name after the `old` that follows it in the words.
+    #[inline]
     pub(crate) fn identifier(&mut self)
         ensures { Prints identifier self.old self.new }
     {
