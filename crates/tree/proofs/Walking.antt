@@ -18,7 +18,7 @@ use Rattle.tree.specs.ExpectedKinds.{kinds_in, marked-kinds, marked_append}
 use Rattle.tree.specs.KindNumbers.{kind_number, second_word}
 use Rattle.tree.specs.KindCodes.{as_kind}
 use Rattle.tree.specs.Notes.{note_kind, kind_notes}
-use Rattle.tree.specs.Rows.{as_mark, passed_of, expected_of, own_mark, Splits, MarkIs, MoreIs, Expects, Went, Stopped}
+use Rattle.tree.specs.Rows.{as_mark, passed_of, expected_of, own_mark, Splits, MarkIs, MoreIs, Adds, Went, Stopped}
 use Rattle.tree.specs.Stack.{items, Pushed, Popped}
 use Rattle.tree.specs.declared.CheckError.{CheckError}
 use Rattle.tree.specs.declared.CheckError.TheVariants.{Misfit}
@@ -43,7 +43,7 @@ bounded-later [] h b = tt
 bounded-later {at} {next} (f ∷ fs) h b = (omega (arith, b.0), bounded-later fs h b.1)
 
 -- the stack after a frame is put on it that may expect nothing
-module _ {f : Frame} {s s' : Stack Frame} (e : Expects f s s') where
+module _ {f : Frame} {s s' : Stack Frame} (e : Adds f s s') where
   abbrev OnTop : Type 0
   OnTop = (expected (items s') ≡ expected_of f ++ expected (items s)) × (s.free ≤ s'.free + 1)
       × ((at : ℕ) → passed_of f.mark ≤ at → Bounded at (items s) → Bounded at (items s')) × (length (items s') ≤ length (items s) + 1)
@@ -158,18 +158,18 @@ module _ {len : ℕ} {first : List KindCode} {ws counts₀ kinds₀ counts kinds
       mark-bounded m = omega (arith, m.small, rest-bounded, i.inside, i.few)
 
       -- a step is taken, and what is left of the frame is put back
-      module _ {next : ℕ} {fields : List Kind} (w : Went ws len at (as_kind k) next fields) {s₁ : Stack Frame} (x : Expects rest s' s₁) where
+      module _ {next : ℕ} {fields : List Kind} (w : Went ws len at (as_kind k) next fields) {s₁ : Stack Frame} (x : Adds rest s' s₁) where
         pub room-below : 0 < s₁.free
         room-below = let free : s'.free ≡ s.free + 1 = p.1 in omega (arith, (on-top x).1, i.room, w.forward, w.inside)
 
-        pub step-nearer : {entry : Frame} {s₂ : Stack Frame} → Expects entry s₁ s₂
+        pub step-nearer : {entry : Frame} {s₂ : Stack Frame} → Adds entry s₁ s₂
             → 2 * (length ws - next) + length (items s₂) < 2 * (length ws - at) + length (items s)
         step-nearer y = omega (arith, (on-top x).3, (on-top y).3, w.forward, w.inside, ap (λ (l : List Frame). length l) p.0)
 
       module _ {next : ℕ} {mark : Option MarkCode} (entry : Frame) {s₁ s₂ : Stack Frame} {counts₁ kinds₁ : List ℕ}
           (w : Went ws len at (as_kind k) next (map as_kind entry.kinds.now)) (m : MarkIs rest k at mark) (o : MoreIs mark entry.mark)
           (c : counts₁ ≡ noted (map as_kind entry.kinds.now) (as_mark mark) counts) (n : kinds₁ ≡ note_kind at next (kind_number (as_kind k)) kinds)
-          (x : Expects rest s' s₁) (y : Expects entry s₁ s₂) where
+          (x : Adds rest s' s₁) (y : Adds entry s₁ s₂) where
         abbrev fields : List Kind
         fields = map as_kind entry.kinds.now
 

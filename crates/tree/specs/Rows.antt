@@ -79,8 +79,8 @@ pub record MoreIs (m r : Option MarkCode) : Type 0 where
   pub is : as_mark r ≡ more (as_mark m)
   pub small : passed_of r ≤ passed_of m + 1
 
--- a frame is put on the stack, or expects nothing
-pub record Expects (f : Frame) (s s' : Stack Frame) : Type 0 where
+-- a frame is added to the stack, unless it expects nothing
+pub record Adds (f : Frame) (s s' : Stack Frame) : Type 0 where
   pub none : f.kinds.now ≡ [] → (items s' ≡ items s) × (s'.free ≡ s.free)
   pub some : (f.kinds.now ≡ [] → ⊥) → Pushed f s s'
 

@@ -2,7 +2,7 @@
 ghost use Rattle.std.specs.Prelude.{◌≡◌, ◌<◌, map};
 ghost use Rattle.tree.specs.Tally.{noted, more as more_of};
 ghost use Rattle.tree.specs.KindCodes.{as_kind};
-ghost use Rattle.tree.specs.Rows.{as_mark, passed_of, Splits, MarkIs, MoreIs, Expects};
+ghost use Rattle.tree.specs.Rows.{as_mark, passed_of, Splits, MarkIs, MoreIs, Adds};
 
 use crate::kind::Kind;
 use crate::outline::put;
@@ -72,7 +72,7 @@ pub(crate) fn more(mark: Option<Mark>) -> Option<Mark>
 // Puts what is expected next on the stack.
 pub(crate) fn expect(stack: &mut Stack<Frame>, frame: Frame)
     requires { 0 < stack.old.free }
-    ensures { Expects frame stack.old stack.new }
+    ensures { Adds frame stack.old stack.new }
 {
     if !frame.kinds.is_empty() {
         stack.push(frame);
