@@ -22,9 +22,9 @@ use Rattle.grammar.proofs.Bridge.Tests.{Stands, word, digits, other, nowhere, st
 use Rattle.parsing.specs.Code.{turns, inner, opened, literal_expr, custom_expr, constant_expr, reference_argument}
 
 -- the word of a `bool`
-pub universal-word : (b : Bool) → bool_byte b ≡ bool_word b
-universal-word false = refl
-universal-word true = refl
+pub bool-word : (b : Bool) → bool_byte b ≡ bool_word b
+bool-word false = refl
+bool-word true = refl
 
 -- ---- choices
 

@@ -1,11 +1,10 @@
 -- The statement rules step by step, as their methods read them.
 use Rattle.std.proofs.Common.{ℕ, zero, suc, ◌≡◌, ◌∙◌, refl, ap, Bool, true, false, List, ◌∷◌, drop, Option, Some, None, Ok, arith}
 use mathlib.Core.Path.{fun_ext}
-use mir.Val.{bool_byte}
 use Rattle.lexing.specs.Answer.{Answer, ok, refused, pick}
 use Rattle.tree.specs.Ast.{Span, Binding, binding, Expr, Stmt, Block, If, IfCase, no_stmts, case, a_expr, AAssertion}
 use Rattle.tree.specs.Clash.{impossible}
-use Rattle.tree.specs.Words.{bool_word, binding_words, stmt_words}
+use Rattle.tree.specs.Words.{binding_words, stmt_words}
 use Rattle.grammar.specs.Reading.{tree_words}
 use Rattle.grammar.specs.Rules.{opens_expr, parse_expr}
 use Rattle.grammar.specs.Steps.{Reader, after, need, must, mapped, ◌or◌, T, keyword_at, parse_name}
@@ -211,11 +210,6 @@ module _ (text : List ℕ) where
           → ◌≡◌ {A = Answer (Stmt Span)} (pick b (refused 3 p.at) Answer.none) Answer.none
       by-test true e = impossible cc
       by-test false e = refl
-
--- the number of a bool is its word
-pub bool-word : (b : Bool) → bool_byte b ≡ bool_word b
-bool-word true = refl
-bool-word false = refl
 
 -- the words of a statement for all values of a type
 pub forall-words : (b : Binding Span) (s : Stmt Span) → (λ r. 30 ∷ binding_words same b (stmt_words same s r)) ≡ stmt_words same (over_type b s)

@@ -115,50 +115,49 @@ module _ (p : Parser) (len : ℕ) (s : Spelt p len) (r : Result (Option Token) R
         answer-takes p r _ (length w) blanks-here (blanks-within (length w) l) q (word w) (rw (m, s.measured) refl) b f
 
   -- the word as a name
-  module _ where
-    name-closed : parse_name p.text.now p.at ≡ spanned p.text.now p.at (moved p.at (closed len len (W (drop len (drop p.at p.text.now)))))
-    unfolding after parse_id lexeme
-    name-closed = rw s.measured (ap (λ r. spanned p.text.now p.at (moved p.at r)) (sym (unless_empty-some len _ (λ z. omega (arith, s.filled)))))
+  name-closed : parse_name p.text.now p.at ≡ spanned p.text.now p.at (moved p.at (closed len len (W (drop len (drop p.at p.text.now)))))
+  unfolding after parse_id lexeme
+  name-closed = rw s.measured (ap (λ r. spanned p.text.now p.at (moved p.at r)) (sym (unless_empty-some len _ (λ z. omega (arith, s.filled)))))
 
-    module _ (q : Parser) where
-      by-blanks : (b : Blanks) → W (drop len (drop p.at p.text.now)) ≡ b → answer_of r ≡ closed 0 len b → (t : Bool) → Stands r p q (Ok t)
-          → Passing_word len p q (record { start = p.at; len = len })
-      unfolding after
-      by-blanks (passed k) w a true f =
-          let m = f.passing in
-          let e : ok f.value m.size ≡ ok 0 (len + k) = rw m.was at a in
-          let h : len + k ≡ m.size = cc in
-          record {
-            named = record {
-              says = name-closed ∙ rw (w, m.place, ← h) refl;
-              went = went p r _ 1 blanks-here (blanks-within 1 s.filled) q f.value m;
-              top_same = m.top_same;
-              start_is = refl;
-              low = omega (arith, m.place);
-            };
-            len_is = refl;
-          }
-      by-blanks (passed k) w a false f = let e : ◌≡◌ {A = Answer ℕ} Answer.none (ok 0 (len + k)) = rw f.was at a in impossible cc
-      by-blanks (unclosed k) w a true f = let e : ok f.value f.passing.size ≡ refused unclosed_comment (len + k) = rw f.passing.was at a in impossible cc
-      by-blanks (unclosed k) w a false f = let e : ◌≡◌ {A = Answer ℕ} Answer.none (refused unclosed_comment (len + k)) = rw f.was at a in impossible cc
+  module _ (q : Parser) where
+    by-blanks : (b : Blanks) → W (drop len (drop p.at p.text.now)) ≡ b → answer_of r ≡ closed 0 len b → (t : Bool) → Stands r p q (Ok t)
+        → Passing_word len p q (record { start = p.at; len = len })
+    unfolding after
+    by-blanks (passed k) w a true f =
+        let m = f.passing in
+        let e : ok f.value m.size ≡ ok 0 (len + k) = rw m.was at a in
+        let h : len + k ≡ m.size = cc in
+        record {
+          named = record {
+            says = name-closed ∙ rw (w, m.place, ← h) refl;
+            went = went p r _ 1 blanks-here (blanks-within 1 s.filled) q f.value m;
+            top_same = m.top_same;
+            start_is = refl;
+            low = omega (arith, m.place);
+          };
+          len_is = refl;
+        }
+    by-blanks (passed k) w a false f = let e : ◌≡◌ {A = Answer ℕ} Answer.none (ok 0 (len + k)) = rw f.was at a in impossible cc
+    by-blanks (unclosed k) w a true f = let e : ok f.value f.passing.size ≡ refused unclosed_comment (len + k) = rw f.passing.was at a in impossible cc
+    by-blanks (unclosed k) w a false f = let e : ◌≡◌ {A = Answer ℕ} Answer.none (refused unclosed_comment (len + k)) = rw f.was at a in impossible cc
 
-      pub word-passes : (t : Bool) → Stands r p q (Ok t) → Passing_word len p q (record { start = p.at; len = len })
-      unfolding lexeme
-      word-passes t f = by-blanks (W (drop len (drop p.at p.text.now))) refl blanks-here t f
+    pub word-passes : (t : Bool) → Stands r p q (Ok t) → Passing_word len p q (record { start = p.at; len = len })
+    unfolding lexeme
+    word-passes t f = by-blanks (W (drop len (drop p.at p.text.now))) refl blanks-here t f
 
-      refused-by : (b : Blanks) → W (drop len (drop p.at p.text.now)) ≡ b → answer_of r ≡ closed 0 len b → (d : Refusal) → Refusing r p d
-          → parse_name p.text.now p.at ≡ refused (number d.reason) d.place
-      unfolding after
-      refused-by (passed k) w a d f = let e : ◌≡◌ {A = Answer ℕ} (refused (number d.reason) f.place) (ok 0 (len + k)) = rw f.was at a in impossible cc
-      refused-by (unclosed k) w a d f =
-          let e : refused (number d.reason) f.place ≡ refused unclosed_comment (len + k) = rw f.was at a in
-          let h : unclosed_comment ≡ number d.reason = cc in
-          let l : len + k ≡ f.place = cc in
-          name-closed ∙ rw (w, f.here, ← h, ← l) refl
+    refused-by : (b : Blanks) → W (drop len (drop p.at p.text.now)) ≡ b → answer_of r ≡ closed 0 len b → (d : Refusal) → Refusing r p d
+        → parse_name p.text.now p.at ≡ refused (number d.reason) d.place
+    unfolding after
+    refused-by (passed k) w a d f = let e : ◌≡◌ {A = Answer ℕ} (refused (number d.reason) f.place) (ok 0 (len + k)) = rw f.was at a in impossible cc
+    refused-by (unclosed k) w a d f =
+        let e : refused (number d.reason) f.place ≡ refused unclosed_comment (len + k) = rw f.was at a in
+        let h : unclosed_comment ≡ number d.reason = cc in
+        let l : len + k ≡ f.place = cc in
+        name-closed ∙ rw (w, f.here, ← h, ← l) refl
 
-      pub word-refused : (d : Refusal) → Refusing r p d → parse_name p.text.now p.at ≡ refused (number d.reason) d.place
-      unfolding lexeme
-      word-refused d f = refused-by (W (drop len (drop p.at p.text.now))) refl blanks-here d f
+    pub word-refused : (d : Refusal) → Refusing r p d → parse_name p.text.now p.at ≡ refused (number d.reason) d.place
+    unfolding lexeme
+    word-refused d f = refused-by (W (drop len (drop p.at p.text.now))) refl blanks-here d f
 
 -- where another word or none stands the keyword does not
 pub no-keyword : (p q : Parser) (w : List ℕ) → word_here p w ≡ false → q ≡ p → Missing (word w) p q

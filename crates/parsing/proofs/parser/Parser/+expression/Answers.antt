@@ -21,7 +21,7 @@ use Rattle.parsing.proofs.Places.{no_credit, begin, begin_with, standing-more, t
 use Rattle.parsing.proofs.ExpressionPlaces.{stands-here, absent-here, over-two, sure, seen, was-seen, tail_if, stopped, closed}
 use borrow.Author.Tests.{le-leb}
 use Rattle.parsing.proofs.Openings.{level-opens}
-use Rattle.parsing.proofs.ExpressionRules.{universal-word, worded-rule, wordless-rule, triggered-rule, untriggered-rule, invariant-is, argument-is}
+use Rattle.parsing.proofs.ExpressionRules.{bool-word, worded-rule, wordless-rule, triggered-rule, untriggered-rule, invariant-is, argument-is}
 use Rattle.parsing.proofs.ExpressionLoops.{comma-repetition, marked-repetition, gathering, gathering-next, end-run, signed-none, signed-bare, signed-foldable, signed-done, listed, leaning-again, waiting_rest, waiting-first, waiting-next, foldable, folded, signed-first, signed-next}
 use Rattle.parsing.proofs.SignTables.{operator-stood, operator-absent}
 use Rattle.parsing.proofs.parser.Parser.+expression.Goals as goal
@@ -222,7 +222,7 @@ params-returns t c = done _ (with_end (absent-here (sign (bytes "(")) 1 _ _ c.in
 pub quant-returns : goal.quant-returns
 unfolding after_quantifier
 quant-returns t c =
-    let head = rw (c.from.ensures, universal-word c.args.universal) at c.push-head.ensures in
+    let head = rw (c.from.ensures, bool-word c.args.universal) at c.push-head.ensures in
     done _ (foured c.four.ensures (read _ _ c.in_ok-body.ensures (read _ _ (sure c.in_ok-patterns.ensures) (read _ _ c.in_ok-bindings.ensures
     (two-made head (begin_with c.requires) refl) refl) refl) refl) refl) refl refl
 

@@ -11,7 +11,8 @@ use Rattle.parsing.specs.declared.lead.Lead.TheVariants as lead
 use Rattle.parsing.proofs.Laws.{reads_err, after-ok, after-none, after-refused}
 use Rattle.parsing.proofs.Places.{no_credit, begin, begin_with, later-next, said, read, took, taken, skipped, named, two-made, three-made, headed, paired, foured, as_run, tail, refused_at, refused_last, stood, absent, done}
 use Rattle.parsing.proofs.StatementPlaces.{spares_err, spares_if_err, says-of, stay, back, read-all, spared, spared_if, passed, room, took-least, refuses, without-next, ends, ends-mapped, ends-last, tail-spares, spares_if_same}
-use Rattle.parsing.proofs.StatementEquations.{must-need, cond-rule, cont-rule, else-rule, aexpr-rule, case-rule, bool-word, cont-deep, cont-none, forall-words}
+use Rattle.parsing.proofs.ExpressionRules.{bool-word}
+use Rattle.parsing.proofs.StatementEquations.{must-need, cond-rule, cont-rule, else-rule, aexpr-rule, case-rule, cont-deep, cont-none, forall-words}
 use Rattle.parsing.proofs.StatementRules.{block-rule, block-deep, block-opens, stmt-opens, cont-opens, loop-opens, scope-rule, wordless-stmt, stmt-refused}
 use Rattle.parsing.proofs.StatementBranches.{lead_rule}
 use Rattle.parsing.proofs.StatementLeads.{led, declared}
