@@ -4,6 +4,7 @@ ghost use Rattle.tree.specs.Limits.{most_text, most_words};
 ghost use Rattle.tree.specs.Check.{refusal};
 ghost use Rattle.rendering.specs.Tables.{most_indent};
 ghost use Rattle.rendering.specs.Parts.{Prints};
+ghost use Rattle.rendering.specs.ExprParts.{most_step};
 ghost use Rattle.rendering.specs.Render.{rooted, root_indent, root_counts, root_part, Numbered, Renders, Makes};
 
 use crate::printer::{Printer, Source};
@@ -14,8 +15,11 @@ use tree::{CheckError, MOST_TEXT, MOST_WORDS, count_expression, count_program};
 
 const MOST_INDENT: usize = 255;
 
+// A table of so many words takes a small table of numbers.
+const SMALL_TABLE: usize = 256;
+
 // Prints the tree that a table holds over a text at a buffer's start. The buffer's bytes that no print occupies are free afterwards, after a
-// refusal all of them. A small table takes a small table of numbers.
+// refusal all of them.
 pub fn render(
     text: &[u8],
     words: &[u32],
@@ -27,91 +31,87 @@ pub fn render(
     if MOST_TEXT < text.len() {
         return Err(PrintError::Oversized);
     }
-    if MOST_INDENT < start_indent(root) {
+    if MOST_INDENT < root.start_indent() {
         return Err(PrintError::Oversized);
     }
-    if words.len() <= 256 {
-        let mut counts = [0u16; 256];
-        return render_counted(text, words, &mut counts, root, buffer);
+    if words.len() <= SMALL_TABLE {
+        return render_in::<SMALL_TABLE>(text, words, root, buffer);
     }
-    let mut counts = [0u16; MOST_WORDS];
-    render_counted(text, words, &mut counts, root, buffer)
+    render_in::<MOST_WORDS>(text, words, root, buffer)
 }
 
-// The start indent of a root's print.
-fn start_indent(root: Root) -> usize
-    ensures { result ≡ root_indent root }
-{
-    match root {
-        Root::AnExpression(format) => format.start_indent(),
-        Root::AProgram => 0,
-    }
-}
-
-// The check, which counts the items of the sequences, and then the print.
-fn render_counted(
+// The check, which counts the items of the sequences of a table of at most SIZE words, and then the print.
+fn render_in<const SIZE: usize>(
     text: &[u8],
     words: &[u32],
-    counts: &mut [u16],
     root: Root,
     buffer: &mut [u8],
 ) -> Result<usize, PrintError>
-    requires { (length text.now ≤ most_text) × (root_indent root ≤ most_indent) × (length words.now ≤ most_words → length words.now ≤ length counts.old) }
+    requires text { length text.now ≤ most_text }
+    requires indent { root_indent root ≤ most_indent }
+    requires words { length words.now ≤ most_words → length words.now ≤ SIZE }
+    requires size { SIZE ≤ most_words }
     ensures { Renders (rooted 2 text.now root) text.now words.now buffer.old result buffer.new }
 {
-    count_root(text, words, counts, root)?;
-    render_by(text, words, counts, root, buffer)
-}
-
-// The check of a table by its root.
-fn count_root(text: &[u8], words: &[u32], counts: &mut [u16], root: Root) -> Result<(), CheckError>
-    ensures { (refusal result ≡ (rooted 2 text.now root).refused words.now) × (counts.new ≡ root_counts root words.now (length text.now) counts.old) }
-{
-    match root {
-        Root::AnExpression(_) => count_expression(words, text.len(), counts),
-        Root::AProgram => count_program(words, text.len(), counts),
-    }
-}
-
-// The print of a checked table's tree, by the numbers of items.
-fn render_by(
-    text: &[u8],
-    words: &[u32],
-    counts: &[u16],
-    root: Root,
-    buffer: &mut [u8],
-) -> Result<usize, PrintError>
-    requires { (root_indent root ≤ most_indent) × Numbered text.now words.now counts.now 2 root }
-    ensures { Makes (rooted 2 text.now root) words.now buffer.old result buffer.new }
-{
-    let room = buffer.len();
+    let mut counts = [0; SIZE];
+    root.count(text, words, &mut counts)?;
     let source = Source {
         text,
         words,
-        counts,
+        counts: &counts,
         step: INDENT_AMOUNT,
     };
+    render_by(source, root, buffer)
+}
+
+// The print of a checked table's tree, by the numbers of items.
+fn render_by(source: Source, root: Root, buffer: &mut [u8]) -> Result<usize, PrintError>
+    requires { (source.step ≤ most_step) × (root_indent root ≤ most_indent) × Numbered source.text.now source.words.now source.counts.now source.step root }
+    ensures { Makes (rooted source.entry.step source.entry.text.now root) source.entry.words.now buffer.old result buffer.new }
+{
+    let room = buffer.len();
     let mut printer = Printer {
         source,
         at: 0,
         out: buffer,
         pos: 0,
     };
-    printer.root(root);
+    root.print(&mut printer);
     if room < printer.pos {
         return Err(PrintError::TooLong);
     }
     Ok(printer.pos)
 }
 
-impl Printer<'_> {
-    // The tree of a table, by its root.
-    fn root(&mut self, root: Root)
-        ensures { Prints (root_part root) self.old self.new }
+// What is done by the root.
+impl Root {
+    // The start indent of its print.
+    fn start_indent(self) -> usize
+        ensures { result ≡ root_indent self }
     {
-        match root {
-            Root::AnExpression(format) => self.expr(Setting::outermost(format)),
-            Root::AProgram => self.program(),
+        match self {
+            Root::AnExpression(format) => format.start_indent(),
+            Root::AProgram => 0,
+        }
+    }
+
+    // The check of a table, with the numbers of its sequences' items.
+    fn count(self, text: &[u8], words: &[u32], counts: &mut [u16]) -> Result<(), CheckError>
+        ensures { (refusal result ≡ (rooted 2 text.now self).refused words.now) × (counts.new ≡ root_counts self words.now (length text.now) counts.old) }
+    {
+        match self {
+            Root::AnExpression(_) => count_expression(words, text.len(), counts),
+            Root::AProgram => count_program(words, text.len(), counts),
+        }
+    }
+
+    // The print of a table's tree.
+    fn print(self, printer: &mut Printer)
+        ensures { Prints (root_part self) printer.old printer.new }
+    {
+        match self {
+            Root::AnExpression(format) => printer.expr(Setting::outermost(format)),
+            Root::AProgram => printer.program(),
         }
     }
 }

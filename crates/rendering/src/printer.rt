@@ -1,8 +1,8 @@
 // A printer, which reads the words of a table from a place on and writes their print into a buffer.
-ghost use Rattle.std.specs.Prelude.{IsTrue, ◌↔◌, ◌≡◌, ◌++◌, ◌+◌, ◌≤◌, length, take, drop, replicate};
+ghost use Rattle.std.specs.Prelude.{ℕ, List, IsTrue, ◌↔◌, ◌≡◌, ◌++◌, ◌+◌, ◌≤◌, length};
 ghost use Rattle.layout.specs.PrintUtil.{Indent, Space, Parenthesis};
 ghost use Rattle.layout.specs.Text.{decimal};
-ghost use Rattle.rendering.specs.Wrote.{Puts};
+ghost use Rattle.rendering.specs.Wrote.{Puts, Takes, Stores};
 ghost use Rattle.rendering.specs.Parts.{Reads, Looks, Ends, Counts};
 
 use layout::{BindingPower, ExprFormatOption, Side};
@@ -26,23 +26,8 @@ pub struct Printer<'a> {
     pub at: usize,
     pub out: &'a mut [u8],
     // The place of the next byte. Past the buffer's end it says that something did not fit, and stays so.
+    // Kept: with a Result of each write some sixty callers would pass an error on that one test at the end finds.
     pub pos: usize,
-}
-
-// Stores bytes where they fit.
-fn store(out: &mut [u8], pos: usize, bytes: &[u8])
-    requires { pos + length bytes.now ≤ length out.old }
-    ensures { out.new ≡ take pos out.old ++ bytes.now ++ drop (pos + length bytes.now) out.old }
-{
-    out[pos..pos + bytes.len()].copy_from_slice(bytes);
-}
-
-// Stores spaces where they fit.
-fn store_spaces(out: &mut [u8], pos: usize, size: usize)
-    requires { pos + size ≤ length out.old }
-    ensures { out.new ≡ take pos out.old ++ replicate size 32 ++ drop (pos + size) out.old }
-{
-    out[pos..pos + size].fill(b' ');
 }
 
 // ---- reading
@@ -52,23 +37,18 @@ impl Printer<'_> {
     pub(crate) fn word(&mut self) -> u32
         ensures { Reads self.old result self.new }
     {
-        if self.at < self.source.words.len() {
-            let word = self.source.words[self.at];
-            self.at += 1;
-            return word;
-        }
-        0
+        let Some(word) = self.source.words.get(self.at) else {
+            return 0;
+        };
+        self.at += 1;
+        *word
     }
 
     // The word so many places after the next; past the table's end 0.
     pub(crate) fn ahead(&self, places: usize) -> u32
         ensures { Looks self.now places result }
     {
-        let words = self.source.words;
-        if self.at < words.len() && places < words.len() - self.at {
-            return words[self.at + places];
-        }
-        0
+        get(self.source.words, self.at.saturating_add(places))
     }
 
     // Whether an option or a sequence that goes on here has no content or item left.
@@ -82,10 +62,7 @@ impl Printer<'_> {
     pub(crate) fn count(&self) -> usize
         ensures { Counts self.now result }
     {
-        match self.source.counts.get(self.at) {
-            Some(count) => usize::from(*count),
-            None => 0,
-        }
+        usize::from(self.source.counts.get(self.at).copied().unwrap_or(0))
     }
 }
 
@@ -99,29 +76,33 @@ impl Printer<'_> {
         self.pos <= self.out.len() && size <= self.out.len() - self.pos
     }
 
-    // Writes `bytes`. Inlined, so that a fixed text is stored without a loop.
+    // Writes so many bytes, which `fill` stores, where they fit. Inlined, so that a fixed text is stored without a loop.
+    #[inline(always)]
+    fn write<F: FnOnce(&mut [u8])>(&mut self, size: usize, fill: F)
+        requires { Takes F.FnOnce fill size }
+        ensures { (x : List ℕ) → length x ≡ size → Stores F.FnOnce fill x → Puts (λ rest. x ++ rest) self.old self.new }
+    {
+        if self.fits(size) {
+            fill(&mut self.out[self.pos..self.pos + size]);
+            self.pos += size;
+        } else {
+            self.pos = self.out.len() + 1;
+        }
+    }
+
+    // Writes `bytes`.
     #[inline(always)]
     pub(crate) fn put(&mut self, bytes: &[u8])
         ensures { Puts (λ rest. bytes.now ++ rest) self.old self.new }
     {
-        if self.fits(bytes.len()) {
-            store(self.out, self.pos, bytes);
-            self.pos += bytes.len();
-        } else {
-            self.pos = self.out.len() + 1;
-        }
+        self.write(bytes.len(), |place| place.copy_from_slice(bytes));
     }
 
     // Writes an indent.
     pub(crate) fn indent(&mut self, size: usize)
         ensures { Puts (λ rest. Indent size ++ rest) self.old self.new }
     {
-        if self.fits(size) {
-            store_spaces(self.out, self.pos, size);
-            self.pos += size;
-        } else {
-            self.pos = self.out.len() + 1;
-        }
+        self.write(size, |place| place.fill(b' '));
     }
 
     // Writes a natural in decimal.

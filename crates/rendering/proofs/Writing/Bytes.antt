@@ -1,9 +1,9 @@
 -- Writes one after the other, and the writes of bytes.
 use Prim.Native.Nat.{ℕ, ◌+◌, ◌≤◌, ◌<◌, min}
 use native.Mathlib.Omega.{arith}
-use mathlib.Core.Path.{◌≡◌, refl, sym, ap, ◌∙◌, subst}
+use mathlib.Core.Path.{◌≡◌, refl, sym, ap, ◌∙◌}
 use mathlib.Core.List.{List, ◌++◌, append_assoc}
-use lib.ListN.{length, take, drop, replicate, length-append, length-replicate}
+use lib.ListN.{length, take, length-append}
 use lib.Seq.{paste, take-paste, length-paste, take-length}
 use Rattle.rendering.specs.declared.printer.Printer.{Printer}
 use Rattle.rendering.specs.Wrote.{Wrote, Puts}
@@ -45,39 +45,27 @@ puts-then u v =
     record { source = v.source ∙ u.source; output = v.output ∙ u.output; still = v.still ∙ u.still; wrote = then u.wrote v.wrote }
 
 -- bytes that fit, and bytes that do not
-pub stored : (b : List ℕ) (p : ℕ) (x b' : List ℕ) → p + length x ≤ length b → b' ≡ take p b ++ x ++ drop (p + length x) b
-    → Wrote (λ rest. x ++ rest) b p b' (p + length x)
-stored b p x b' h e =
-    let whole : b' ≡ paste b p x (length x) = e ∙ ap (λ (l : List ℕ). take p b ++ l ++ drop (p + length x) b) (sym (take-length x)) in
+pub stored : (b : List ℕ) (p : ℕ) (x : List ℕ) (n : ℕ) (b' : List ℕ) → length x ≡ n → p + n ≤ length b → b' ≡ paste b p x n → Wrote (λ rest. x ++ rest) b p b' (p + n)
+stored b p x n b' l h e =
     record {
-      size = length x;
-      adds = λ rest. length-append x rest;
-      same = ap length whole ∙ length-paste b p x (length x) h (omega arith);
+      size = n;
+      adds = λ rest. let k = length-append x rest in omega (arith, k, l);
+      same = ap length e ∙ length-paste b p x n h (omega (arith, l));
       place = refl;
       bytes = λ _ rest.
-          ap (λ (l : List ℕ). take (p + length x) l ++ rest) whole
-          ∙ ap (λ (l : List ℕ). l ++ rest) (take-paste b p x (length x) (omega arith) (omega arith))
-          ∙ ap (λ (l : List ℕ). (take p b ++ l) ++ rest) (take-length x)
+          ap (λ (w : List ℕ). take (p + n) w ++ rest) e
+          ∙ ap (λ (w : List ℕ). w ++ rest) (take-paste b p x n (omega arith) (omega (arith, l)))
+          ∙ ap (λ (k : ℕ). (take p b ++ take k x) ++ rest) (sym l)
+          ∙ ap (λ (w : List ℕ). (take p b ++ w) ++ rest) (take-length x)
           ∙ append_assoc (take p b) x rest;
     }
 
--- bytes that do not fit
-pub over : (b : List ℕ) (p : ℕ) (x : List ℕ) → length b < p + length x → Wrote (λ rest. x ++ rest) b p b (length b + 1)
-over b p x h =
+pub over : (b : List ℕ) (p : ℕ) (x : List ℕ) (n : ℕ) → length x ≡ n → length b < p + n → Wrote (λ rest. x ++ rest) b p b (length b + 1)
+over b p x n l h =
     record {
-      size = length x;
-      adds = λ rest. length-append x rest;
+      size = n;
+      adds = λ rest. let k = length-append x rest in omega (arith, k, l);
       same = refl;
       place = omega arith;
       bytes = λ k rest. absurd (omega arith);
     }
-
--- the same of spaces
-pub spaces-stored : (b : List ℕ) (p n : ℕ) (b' : List ℕ) → p + n ≤ length b → b' ≡ take p b ++ replicate n 32 ++ drop (p + n) b
-    → Wrote (λ rest. replicate n 32 ++ rest) b p b' (p + n)
-spaces-stored b p n b' h e =
-    let P : ℕ → Type 0 = λ k. p + k ≤ length b → b' ≡ take p b ++ replicate n 32 ++ drop (p + k) b → Wrote (λ rest. replicate n 32 ++ rest) b p b' (p + k) in
-    subst P (length-replicate n 32) (stored b p (replicate n 32) b') h e
-
-pub spaces-over : (b : List ℕ) (p n : ℕ) → length b < p + n → Wrote (λ rest. replicate n 32 ++ rest) b p b (length b + 1)
-spaces-over b p n h = over b p (replicate n 32) (omega (arith, length-replicate {A = ℕ} n 32))

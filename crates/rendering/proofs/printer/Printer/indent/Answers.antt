@@ -1,11 +1,12 @@
--- Spaces that fit are stored; spaces that do not leave the buffer as it was.
-use Rattle.std.proofs.Common.{arith, refl, rules}
-use Rattle.std.proofs.lemmas.Grind.{common_steps}
-use Rattle.rendering.proofs.Writing.Bytes.{spaces-stored, spaces-over}
+-- The place is filled with spaces.
+use Rattle.std.proofs.Common.{◌≡◌, refl, sym, ap, ◌∙◌, length, rules}
+use lib.ListN.{replicate, length-replicate}
 use Rattle.rendering.proofs.printer.Printer.indent.Goals as goal
 
-pub returns-then-fits : goal.returns-then-fits
-returns-then-fits c = record { source = refl; output = refl; still = refl; wrote = spaces-stored _ _ c.args.size _ (search rules) c.store_spaces.ensures }
-
-pub returns-else-fits : goal.returns-else-fits
-returns-else-fits c = record { source = refl; output = refl; still = refl; wrote = spaces-over _ _ c.args.size (grind (arith, common_steps)) }
+pub returns : goal.returns
+returns c =
+    c.write.ensures (replicate c.args.size 32) (length-replicate c.args.size 32)
+    (λ y z e r.
+    let stored : r.left.now ≡ replicate (length r.shown.now) 32 = search rules in
+    let n : length r.shown.now ≡ c.args.size = ap length r.shows ∙ e ∙ length-replicate c.args.size 32 in
+    sym r.leaves ∙ stored ∙ ap (λ k. replicate k 32) n)

@@ -1,6 +1,6 @@
 -- The check of the root's trees.
 use Rattle.rendering.proofs.EntryAnswers.{checked-by}
-use Rattle.rendering.proofs.entry.count_root.Goals as goal
+use Rattle.rendering.proofs.Root.count.Goals as goal
 
 pub returns-in-AnExpression : goal.returns-in-AnExpression
 returns-in-AnExpression c =
