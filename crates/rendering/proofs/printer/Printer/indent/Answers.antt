@@ -1,5 +1,5 @@
 -- The place is filled with spaces.
-use Rattle.std.proofs.Common.{◌≡◌, refl, sym, ap, ◌∙◌, length, rules}
+use Rattle.std.proofs.Common.{◌≡◌, sym, ap, ◌∙◌, length, rules}
 use lib.ListN.{replicate, length-replicate}
 use Rattle.rendering.proofs.printer.Printer.indent.Goals as goal
 
