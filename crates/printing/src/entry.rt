@@ -26,6 +26,7 @@ pub fn print_expression(text: &[u8], words: &[u32], out: &mut [u8]) -> Result<us
 }
 
 // The same on several lines, from a start indent on.
+// Kept: as `print_expression`.
 pub fn print_expression_lines(
     text: &[u8],
     words: &[u32],
@@ -43,6 +44,7 @@ pub fn print_expression_lines(
 }
 
 // Prints the program that a table holds over a text.
+// Kept: as `print_expression`.
 pub fn print_program(text: &[u8], words: &[u32], out: &mut [u8]) -> Result<usize, PrintError>
     ensures { ProgramAnswered text.now words.now out.old result out.new }
 {
@@ -61,6 +63,7 @@ fn print(text: &[u8], words: &[u32], root: Root, out: &mut [u8]) -> Result<usize
 }
 
 // The print through a buffer of so many bytes, so that one that does not fit leaves the output as it was.
+// Kept: as `print`, the text and the words go on to `render`.
 fn print_through<const SIZE: usize>(
     text: &[u8],
     words: &[u32],

@@ -82,6 +82,7 @@ pub fn read_expression(text: &[u8], table: &mut [u32]) -> Result<usize, Refusal>
 }
 
 // Reads a program, in the same way.
+// Kept: as `read_expression`.
 pub fn read_program(text: &[u8], table: &mut [u32]) -> Result<usize, Refusal>
     ensures { ProgramAnswered text.now (length table.old) result table.new }
 {
