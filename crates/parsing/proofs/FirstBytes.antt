@@ -1,4 +1,4 @@
--- Where the next byte begins no operator, no level has one there.
+-- Where the next byte begins no operator of a level, there is none.
 use Prim.Native.Nat.{ℕ, zero, suc}
 use mathlib.Core.Path.{◌≡◌, refl, sym, ap, ◌∙◌}
 use mathlib.Core.Bool.{Bool, true, false}
@@ -18,11 +18,11 @@ use Rattle.grammar.specs.Rules.{operator_of, factor_operator, term_operator, par
 use Rattle.parsing.specs.Signs.{begins_operator}
 
 -- a byte that begins an operator is none that begins no operator
-unlike : (k b : ℕ) → begins_operator b ≡ false → begins_operator k ≡ true → eqb k b ≡ false
-unlike k b h g = by-test (eqb k b) refl
+unlike : (c : Class) (k b : ℕ) → begins_operator c b ≡ false → begins_operator c k ≡ true → eqb k b ≡ false
+unlike c k b h g = by-test (eqb k b) refl
   where
     by-test : (t : Bool) → eqb k b ≡ t → eqb k b ≡ false
-    by-test true e = let clash : true ≡ false = sym g ∙ ap begins_operator (eqb-true k b e) ∙ h in impossible (cc)
+    by-test true e = let clash : true ≡ false = sym g ∙ ap (begins_operator c) (eqb-true k b e) ∙ h in impossible (cc)
     by-test false e = e
 
 module _ (k b : ℕ) (w s : List ℕ) (e : eqb k b ≡ false) where
@@ -56,25 +56,25 @@ module _ (text : List ℕ) (at : ℕ) where
   at-end e explication = rw e refl
   at-end e equivalence = rw e refl
 
-  module _ (b : ℕ) (s : List ℕ) (e : drop at text ≡ b ∷ s) (h : begins_operator b ≡ false) where
-    before-byte : (c : Class) → operator_of text c at ≡ Answer.none
+  module _ (b : ℕ) (s : List ℕ) (e : drop at text ≡ b ∷ s) where
+    before-byte : (c : Class) → begins_operator c b ≡ false → operator_of text c at ≡ Answer.none
     unfolding after begins_operator factor_operator term_operator parse_comparison_operator equality_operator less_operator more_operator and_operator or_operator implies_operator explies_operator equiv_operator
-    before-byte product = rw (e, no_sign 42 b _ s (unlike 42 b h refl), no_word 100 b _ s (unlike 100 b h refl), no_word 109 b _ s (unlike 109 b h refl)) refl
-    before-byte sum = rw (e, no_sign 43 b _ s (unlike 43 b h refl), no_sign 45 b _ s (unlike 45 b h refl)) refl
-    before-byte comparison =
-        let less = unlike 60 b h refl in
-        let more = unlike 62 b h refl in
-        rw (e, no-sign-but 61 b _ s (unlike 61 b h refl) _, no_sign 33 b _ s (unlike 33 b h refl), no-sign-but 60 b (61 ∷ []) s less _, no-sign-but 60 b [] s less _, no_sign 62 b (61 ∷ []) s more, no_sign 62 b [] s more) refl
-    before-byte conjunction = rw (e, no_sign 38 b _ s (unlike 38 b h refl)) refl
-    before-byte disjunction = rw (e, no_sign 124 b _ s (unlike 124 b h refl)) refl
-    before-byte implication = rw (e, no_sign 61 b _ s (unlike 61 b h refl)) refl
-    before-byte explication = rw (e, no-sign-but 60 b _ s (unlike 60 b h refl) _) refl
-    before-byte equivalence = rw (e, no_sign 60 b _ s (unlike 60 b h refl)) refl
+    before-byte product h = rw (e, no_sign 42 b _ s (unlike product 42 b h refl), no_word 100 b _ s (unlike product 100 b h refl), no_word 109 b _ s (unlike product 109 b h refl)) refl
+    before-byte sum h = rw (e, no_sign 43 b _ s (unlike sum 43 b h refl), no_sign 45 b _ s (unlike sum 45 b h refl)) refl
+    before-byte comparison h =
+        let less = unlike comparison 60 b h refl in
+        let more = unlike comparison 62 b h refl in
+        rw (e, no-sign-but 61 b _ s (unlike comparison 61 b h refl) _, no_sign 33 b _ s (unlike comparison 33 b h refl), no-sign-but 60 b (61 ∷ []) s less _, no-sign-but 60 b [] s less _, no_sign 62 b (61 ∷ []) s more, no_sign 62 b [] s more) refl
+    before-byte conjunction h = rw (e, no_sign 38 b _ s (unlike conjunction 38 b h refl)) refl
+    before-byte disjunction h = rw (e, no_sign 124 b _ s (unlike disjunction 124 b h refl)) refl
+    before-byte implication h = rw (e, no_sign 61 b _ s (unlike implication 61 b h refl)) refl
+    before-byte explication h = rw (e, no-sign-but 60 b _ s (unlike explication 60 b h refl) _) refl
+    before-byte equivalence h = rw (e, no_sign 60 b _ s (unlike equivalence 60 b h refl)) refl
 
-  -- no level has an operator where the next byte begins none
-  pub begins-none : (c : Class) → begins_operator (get_or text at 0) ≡ false → operator_of text c at ≡ Answer.none
-  begins-none c h = by-rest (drop at text) refl (ap begins_operator (get_or-drop at text 0 0 ∙ ap (λ i. get_or text i 0) (omega arith)) ∙ h)
+  -- a level has no operator where the next byte begins none
+  pub begins-none : (c : Class) → begins_operator c (get_or text at 0) ≡ false → operator_of text c at ≡ Answer.none
+  begins-none c h = by-rest (drop at text) refl (ap (begins_operator c) (get_or-drop at text 0 0 ∙ ap (λ i. get_or text i 0) (omega arith)) ∙ h)
     where
-      by-rest : (s : List ℕ) → drop at text ≡ s → begins_operator (get_or s 0 0) ≡ false → operator_of text c at ≡ Answer.none
+      by-rest : (s : List ℕ) → drop at text ≡ s → begins_operator c (get_or s 0 0) ≡ false → operator_of text c at ≡ Answer.none
       by-rest [] e h = at-end e c
-      by-rest (b ∷ s) e h = before-byte b s e h c
+      by-rest (b ∷ s) e h = before-byte b s e c h

@@ -32,11 +32,6 @@ Operates of rule p q (Ok (Some c)) = Operated of rule p q c
 Operates of rule p q (Ok None) = Missing rule p q
 Operates of rule p q (Err e) = rule p.text.now p.at ≡ refused (number e.reason) e.place
 
--- the bytes that begin an operator between operands: ! & * + - < = > d m |
-unfoldable pub begins_operator : ℕ → Bool
-begins_operator b =
-    eqb b 33 || eqb b 38 || eqb b 42 || eqb b 43 || eqb b 45 || eqb b 60 || eqb b 61 || eqb b 62 || eqb b 100 || eqb b 109 || eqb b 124
-
 abbrev pub class_of : Level → Class
 class_of Product = product
 class_of Sum = sum
@@ -46,6 +41,17 @@ class_of Disjunction = disjunction
 class_of Implication = implication
 class_of Explication = explication
 class_of Equivalence = equivalence
+
+-- the bytes that begin an operator of a class: * d m, + -, ! < = >, &, |, =, < and <
+unfoldable pub begins_operator : Class → ℕ → Bool
+begins_operator product b = eqb b 42 || eqb b 100 || eqb b 109
+begins_operator sum b = eqb b 43 || eqb b 45
+begins_operator comparison b = eqb b 33 || eqb b 60 || eqb b 61 || eqb b 62
+begins_operator conjunction b = eqb b 38
+begins_operator disjunction b = eqb b 124
+begins_operator implication b = eqb b 61
+begins_operator explication b = eqb b 60
+begins_operator equivalence b = eqb b 60
 
 -- the rule of a level's operators
 abbrev pub level_rule : Level → Rule Build

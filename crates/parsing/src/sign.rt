@@ -3,7 +3,7 @@ ghost use Rattle.std.specs.Prelude.{◌≡◌, ◌≤◌};
 ghost use Rattle.tree.specs.Codes.{as_operator};
 ghost use Rattle.grammar.specs.Rules.{unary_operator};
 ghost use Rattle.parsing.specs.Contract.{Takes_if};
-ghost use Rattle.parsing.specs.Signs.{build_of, Operates, level_rule, begins_operator, spelt, size, table_rule, Filled};
+ghost use Rattle.parsing.specs.Signs.{build_of, Operates, class_of, level_rule, begins_operator, spelt, size, table_rule, Filled};
 
 use crate::parser::Parser;
 use lexing::refusal::Refusal;
@@ -127,6 +127,7 @@ impl<'a> Parser<'a> {
     }
 
     // The operator of a level, by its table.
+    // Kept: an arm names its level's table, and chooses no step; the tables differ in length, so that no array holds them.
     fn level_operator(&mut self, level: Level) -> Result<Option<Sign>, Refusal>
         ensures { Operates build_of (level_rule level) self.old self.new result }
     {
@@ -142,11 +143,11 @@ impl<'a> Parser<'a> {
         }
     }
 
-    // The operator of a level. After an operand that is the last, one look at the next byte tells that there is none.
+    // The operator of a level. A look at the next byte tells most often that there is none.
     pub(crate) fn operator(&mut self, level: Level) -> Result<Option<Sign>, Refusal>
         ensures { Operates build_of (level_rule level) self.old self.new result }
     {
-        if begins_operator(self.peek(0)) {
+        if begins_operator(level, self.peek(0)) {
             return self.level_operator(level);
         }
         Ok(None)
@@ -160,13 +161,19 @@ impl<'a> Parser<'a> {
     }
 }
 
-// Whether a byte begins an operator between operands.
+// Whether a byte begins an operator of a level.
 #[tactic(auto, unfolding(crate::specs::Signs::begins_operator))]
-fn begins_operator(b: u8) -> bool
-    ensures { result ≡ begins_operator b }
+fn begins_operator(level: Level, b: u8) -> bool
+    ensures { result ≡ begins_operator (class_of level) b }
 {
-    matches!(
-        b,
-        b'!' | b'&' | b'*' | b'+' | b'-' | b'<' | b'=' | b'>' | b'd' | b'm' | b'|'
-    )
+    match level {
+        Level::Product => matches!(b, b'*' | b'd' | b'm'),
+        Level::Sum => matches!(b, b'+' | b'-'),
+        Level::Comparison => matches!(b, b'!' | b'<' | b'=' | b'>'),
+        Level::Conjunction => b == b'&',
+        Level::Disjunction => b == b'|',
+        Level::Implication => b == b'=',
+        Level::Explication => b == b'<',
+        Level::Equivalence => b == b'<',
+    }
 }

@@ -7,4 +7,4 @@ pub returns : goal.returns
 returns c =
     let p = c.args.self.now in
     let h = c.peek.ensures ∙ ap (λ i. get_or p.text.now i 0) (omega arith) in
-    record { says = begins-none p.text.now p.at (class_of c.args.level) (sym (c.begins_operator.ensures ∙ ap begins_operator h) ∙ c.if-begins_operator.false); same = refl }
+    record { says = begins-none p.text.now p.at (class_of c.args.level) (sym (c.begins_operator.ensures ∙ ap (begins_operator (class_of c.args.level)) h) ∙ c.if-begins_operator.false); same = refl }
