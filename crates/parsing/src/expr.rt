@@ -33,6 +33,7 @@ impl<'a> Parser<'a> {
         self.chain(Level::Equivalence, depth - 1)
     }
 
+    // Kept: as `need_x` of src/parser.rt, and a member of the cycle, where a closure has to write its clauses.
     #[cycle(expression)]
     #[inline]
     pub(crate) fn need_expr(&mut self, depth: usize) -> Result<u32, Refusal>
@@ -120,6 +121,7 @@ impl<'a> Parser<'a> {
         }
     }
 
+    // Kept: as `need_x` of src/parser.rt, and a member of the cycle, where a closure has to write its clauses.
     #[cycle(expression)]
     #[inline]
     fn need_tight(&mut self, level: Level, depth: usize) -> Result<u32, Refusal>

@@ -49,6 +49,7 @@ impl<'a> Parser<'a> {
         Ok(Some(self.pair(name, typ)))
     }
 
+    // Kept: as `need_x` of src/parser.rt.
     #[inline]
     pub(crate) fn need_id_type(&mut self) -> Result<u32, Refusal>
         ensures { Reads (binding_words same) (needed parse_id_type) 1 0 self.old self.new result }
@@ -70,6 +71,7 @@ impl<'a> Parser<'a> {
         Ok(Some(self.pair(marked, typ)))
     }
 
+    // Kept: as `need_x` of src/parser.rt.
     #[inline]
     fn need_marked_type(&mut self, word: u32) -> Result<u32, Refusal>
         ensures { Reads (marked_words word) (needed parse_id_type) 1 0 self.old self.new result }

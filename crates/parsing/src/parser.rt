@@ -299,6 +299,8 @@ impl<'a> Parser<'a> {
 }
 
 // Tokens that must follow: refusal 2 where they don't.
+// Kept: `need_x` is the library's `ok_or` at the place before, and proves without an answer. One `need` over a closure, as `self.need(|p| p.name())`,
+// would save the line of that place, and want an answer at each use, from what the closure's calls give to what the rule gives.
 impl<'a> Parser<'a> {
     ghost use Rattle.parsing.specs.Contract.{Takes, Names, needed, word, sign};
 

@@ -78,6 +78,7 @@ impl<'a> Parser<'a> {
         Ok(Some(self.push(Node::Headed(StmtTag::Block as u32, stmts))))
     }
 
+    // Kept: as `need_x` of src/parser.rt, and a member of the cycle, where a closure has to write its clauses.
     #[cycle(statement)]
     fn need_block(&mut self, depth: usize) -> Result<u32, Refusal>
         ensures { Spares (stmt_words same) (needed (block_rule depth)) self.old self.new result }

@@ -64,6 +64,7 @@ impl<'a> Parser<'a> {
         Ok(Some(self.close(list)))
     }
 
+    // Kept: as `need_x` of src/parser.rt, and a member of the cycle, where a closure has to write its clauses.
     #[cycle(expression)]
     #[inline]
     pub(crate) fn need_items(&mut self, kind: Kind, depth: usize) -> Result<u32, Refusal>
