@@ -85,7 +85,7 @@ fn put(stack: &mut Stack<'_, Frame>, frame: Option<Frame>)
     ensures { Puts frame stack.old stack.new }
 {
     if let Some(frame) = frame {
-        stack.push(frame);
+        let _ = stack.push(frame);
     }
 }
 
@@ -96,7 +96,7 @@ impl Writer<'_> {
         ensures { (f : Run) → Holds arena.now root f → Writes f self.old self.new result }
     {
         let mut stack = Stack::new(places);
-        stack.push(Frame::Whole(root));
+        let _ = stack.push(Frame::Whole(root));
         while let Some(frame) = stack.pop() {
             self.head(arena, frame)?;
             let (upper, lower) = parts(arena, frame);

@@ -25,6 +25,7 @@ mod OutlineExamples
 pub mod Notes
 pub mod Rows
 pub mod Stack
+pub mod StackLaws
 -- what is expected and its kinds
 pub mod ExpectedKinds
 -- a contradiction's consequence; the trees of each kind, the laws of a walk over a table, and the theorems' proofs

@@ -75,7 +75,7 @@ pub(crate) fn expect(stack: &mut Stack<Frame>, frame: Frame)
     ensures { Adds frame stack.old stack.new }
 {
     if !frame.kinds.is_empty() {
-        stack.push(frame);
+        let _ = stack.push(frame);
     }
 }
 

@@ -10,8 +10,8 @@ pub struct Stack<'a, T> {
 }
 
 impl<'a, T: Copy> Stack<'a, T> {
-    ghost use Rattle.std.specs.Prelude.{◌≡◌, ◌<◌, []};
-    ghost use Rattle.tree.specs.Stack.{items, Pushed, Popped};
+    ghost use Rattle.std.specs.Prelude.{◌≡◌, []};
+    ghost use Rattle.tree.specs.Stack.{items, Pushes, Popped};
 
     // One without items.
     pub fn new(places: &'a mut [T]) -> Self
@@ -25,13 +25,16 @@ impl<'a, T: Copy> Stack<'a, T> {
         }
     }
 
-    // Puts an item on it.
-    pub fn push(&mut self, item: T)
-        requires { 0 < self.old.free }
-        ensures { Pushed item self.old self.new }
+    // Puts an item on it; gives it back where no place is free.
+    pub fn push(&mut self, item: T) -> Result<(), T>
+        ensures { Pushes item self.old result self.new }
     {
+        if self.free == 0 {
+            return Err(item);
+        }
         self.free -= 1;
         self.items[self.free] = item;
+        Ok(())
     }
 
     // Takes the item off that was put on it last.

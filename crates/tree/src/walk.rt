@@ -42,7 +42,7 @@ impl Table<'_> {
         ensures { Walked self.now.words.now self.now.text_len (map as_kind first.now) result counts.old counts.new kinds.old kinds.new }
     {
         let mut stack = Stack::new(places);
-        stack.push(Frame {
+        let _ = stack.push(Frame {
             kinds: first,
             mark: None,
         });

@@ -3,14 +3,16 @@ use native.Mathlib.Omega.{arith}
 use mathlib.Core.Path.{ap}
 use lib.ListN.{length}
 use Rattle.std.proofs.lemmas.Result.{err_from_is_err_and}
+use Rattle.tree.specs.StackLaws.{put-on}
 use Rattle.reading.proofs.flat.Walk.{walks-start, walks-inside, walks-less, walks-room, walks-next, walks-full, walks-end, places-popped, places-put, replaced, room-left}
 use Rattle.reading.proofs.writer.Writer.tree.Goals as goal
 
 pub loop-frame-init : goal.loop-frame-init
 loop-frame-init c =
+    let p = put-on c.push.result (omega (arith, c.new-stack.ensures.free, c.requires.below, c.requires.room)) c.push.ensures in
     record {
-      places = omega (arith, c.new-stack.ensures.free, ap length c.new-stack.ensures.empty, c.push.ensures.free, ap length c.push.ensures.items);
-      walks = rw (c.push.ensures.items, c.new-stack.ensures.empty) walks-start;
+      places = omega (arith, c.new-stack.ensures.free, ap length c.new-stack.ensures.empty, p.free, ap length p.items);
+      walks = rw (p.items, c.new-stack.ensures.empty) walks-start;
     }
 
 pub head-requires : goal.head-requires

@@ -1,12 +1,15 @@
 -- `Table::walk` meets its contract: `Walking` is the loop's invariant, and each turn's end and each answer a law of it.
+use native.Mathlib.Omega.{arith}
 use mathlib.Core.Path.{refl}
 use Rattle.std.proofs.lemmas.Result.{err_from_is_err_and}
+use Rattle.tree.specs.StackLaws.{put-on}
 use Rattle.tree.proofs.Walking.{started, mark-bounded, room-below, pop-nearer, step-nearer, after-pop, after-step, at-stop, at-surplus, at-whole}
 use Rattle.tree.proofs.walk.Table.walk.Goals as goal
 
 pub loop-frame-init : goal.loop-frame-init
 loop-frame-init c =
-    started c.args.self.now.text_len _ c.args.self.now.words.now c.args.counts.now c.args.kinds.now _ refl c.new-stack.ensures.empty c.new-stack.ensures.free c.push.ensures
+    started c.args.self.now.text_len _ c.args.self.now.words.now c.args.counts.now c.args.kinds.now _ refl c.new-stack.ensures.empty c.new-stack.ensures.free
+    (put-on c.push.result (omega (arith, c.new-stack.ensures.free, c.requires.0)) c.push.ensures)
     c.requires.0 c.requires.1
 
 pub next_step-requires : goal.next_step-requires
