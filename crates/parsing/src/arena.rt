@@ -10,6 +10,7 @@ pub enum Node {
     One(u32),
     Empty,
     // An identifier, and whether it stands under `old`.
+    // Kept: the Bool is IdExpr's own field in RawAst, and chooses no step.
     Ident(u32, u32, bool),
     // An operator over one and over two operands.
     Unary(Operator, u32),

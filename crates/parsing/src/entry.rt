@@ -11,6 +11,7 @@ use tree::MOST_TEXT;
 use tree::word::NO_MORE;
 
 // What a text is read as.
+// Kept: beside rendering's `Root`, which has an expression's format with it; as one type a reading would ask for a format.
 #[derive(Clone, Copy, PartialEq, Eq, Debug)]
 pub enum Whole {
     Expression,

@@ -349,6 +349,7 @@ impl<'a> Parser<'a> {
 }
 
 // Refusal 3 at a place.
+// Kept: this and `unusable` are each one call, by the name of the refusal that many rules give.
 pub(crate) fn too_deep(place: usize) -> Refusal
     ensures { result ≡ record { reason = LevelTooDeep; place = place } }
 {
@@ -356,6 +357,7 @@ pub(crate) fn too_deep(place: usize) -> Refusal
 }
 
 // Refusal 2 at a place.
+// Kept: as `too_deep`.
 pub(crate) fn unusable(place: usize) -> Refusal
     ensures { result ≡ record { reason = UnusableToken; place = place } }
 {

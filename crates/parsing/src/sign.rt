@@ -99,6 +99,7 @@ static UNARIES: [(Spelling<'static>, Operator); 2] = [
 
 impl<'a> Parser<'a> {
     // Whether a spelling stands here, which is passed.
+    // Kept: the arm is the form of a value that stands in a table, and its bytes are the arguments.
     #[inline(always)]
     fn spelt(&mut self, spelling: Spelling) -> Result<bool, Refusal>
         requires { 1 ≤ size spelling }

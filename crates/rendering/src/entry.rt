@@ -20,6 +20,7 @@ const SMALL_TABLE: usize = 256;
 
 // Prints the tree that a table holds over a text at a buffer's start. The buffer's bytes that no print occupies are free afterwards, after a
 // refusal all of them.
+// Kept: the text and the words are what callers have; a `Source` is made where the check has filled the numbers.
 pub fn render(
     text: &[u8],
     words: &[u32],
@@ -41,6 +42,7 @@ pub fn render(
 }
 
 // The check, which counts the items of the sequences of a table of at most SIZE words, and then the print.
+// Kept: as `render`, before there is a `Source`.
 fn render_in<const SIZE: usize>(
     text: &[u8],
     words: &[u32],
@@ -96,6 +98,7 @@ impl Root {
     }
 
     // The check of a table, with the numbers of its sequences' items.
+    // Kept: as `render`, before there is a `Source`.
     fn count(self, text: &[u8], words: &[u32], counts: &mut [u16]) -> Result<(), CheckError>
         ensures { (refusal result ≡ (rooted 2 text.now self).refused words.now) × (counts.new ≡ root_counts self words.now (length text.now) counts.old) }
     {

@@ -21,6 +21,7 @@ use layout::ExprFormatOption;
 use tree::CheckError;
 
 // The tree that a table is to hold.
+// Kept: beside parsing's `Whole`, of which this crate knows nothing, and with the format of an expression.
 #[derive(Clone, Copy)]
 pub enum Root {
     // An expression, printed in a format.

@@ -10,6 +10,7 @@ use layout::{BindingPower, TieBreaker};
 use tree::word::Operator;
 
 // Upstream's `opFamily` of the operators that mix with their own kind alone.
+// Kept: two numbers, since a family of layout's `TieBreaker` is any number.
 const CONJUNCTION: u8 = 0;
 
 const DISJUNCTION: u8 = 1;

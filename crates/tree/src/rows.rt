@@ -147,6 +147,7 @@ pub(crate) fn row_of(kind: Kind, word: u32) -> Option<&'static [Kind]>
 }
 
 // That of a word without fields, where it fits.
+// Kept: `fits` is the answer of a test, with no value beside it.
 fn leaf(fits: bool) -> Option<&'static [Kind]>
     ensures { as_turn result ≡ second fits 0 }
 {
