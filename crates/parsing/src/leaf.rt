@@ -59,6 +59,7 @@ impl<'a> Parser<'a> {
     }
 
     // `parseIdType`, with a word between the name and the type.
+    // Kept: beside `id_type`, as the word stands in one node with the name.
     fn marked_type(&mut self, word: u32) -> Result<Option<u32>, Refusal>
         ensures { Reads_if (marked_words word) parse_id_type 1 0 self.old self.new result }
     {

@@ -18,6 +18,8 @@ use tree::word::{ExprTag, Operator};
 // The text and the place that was come to, the arena and the number of its nodes. There is room for two nodes for each byte that is left, and the
 // first two nodes stand.
 // Kept: `depth`, the levels that may be opened, is an argument: as a field each level would lower it and put it back, and each contract say so.
+// Kept: `Spare N` in a contract: N is the rule's own and falls as it makes nodes; what all rules share are the ghost fields.
+// Kept: a kind, a level or a name beside `depth`: the depth falls from level to level, and they stay.
 #[derive(Drop)]
 pub(crate) struct Parser<'a> {
     pub(crate) text: &'a [u8],
@@ -150,6 +152,7 @@ impl<'a> Parser<'a> {
                 Ok(Some(token.value))
             }
             Ok(None) => Ok(None),
+            // Kept: a public `moved` of lexing would have to ask that the sum fits.
             Err(refusal) => Err(Refusal::new(refusal.reason, self.at + refusal.place)),
         }
     }
@@ -167,7 +170,7 @@ impl<'a> Parser<'a> {
         requires { self.now.at + i < 2 ^ 63 }
         ensures { result ≡ get_or self.now.text.now (self.now.at + i) 0 }
     {
-        self.text.get(self.at + i).copied().unwrap_or(0)
+        tree::item_or(self.text, self.at + i, 0)
     }
 
     // How many bytes the word or name that stands here has, where one does.

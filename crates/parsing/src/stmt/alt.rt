@@ -22,6 +22,7 @@ impl<'a> Parser<'a> {
         ensures { Reads (stmt_words same) (opening after_choose depth) 1 3 self.old self.new result }
     {
         let first = self.need_block(depth)?;
+        // Kept: a method for these lines would take a kind and a tag, and need a rule of its own beside those of choose and if.
         let head = self.push(Node::Headed(MORE, first));
         let branches = self.many(Repeated::Branches, depth)?;
         let all = self.pair(head, branches);
@@ -62,6 +63,7 @@ impl<'a> Parser<'a> {
         let Some(first) = self.case(depth)? else {
             return self.if_cond(depth);
         };
+        // Kept: as `choose`.
         let head = self.push(Node::Headed(MORE, first));
         let cases = self.many(Repeated::Cases, depth)?;
         let all = self.pair(head, cases);
