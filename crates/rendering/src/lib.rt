@@ -22,7 +22,7 @@ use tree::CheckError;
 
 // The tree that a table is to hold.
 // Kept: beside parsing's `Whole`, of which this crate knows nothing, and with the format of an expression.
-#[derive(Clone, Copy)]
+#[derive(Clone, Copy, PartialEq, Eq, Debug)]
 pub enum Root {
     // An expression, printed in a format.
     AnExpression(ExprFormatOption),
@@ -40,6 +40,7 @@ pub enum PrintError {
     TooLong,
 }
 
+// Kept: number and place by methods and no trait, see tidy's `TidyError`.
 impl PrintError {
     // The refusal's number.
     pub fn number(self) -> u64

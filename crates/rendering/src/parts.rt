@@ -38,14 +38,11 @@ impl Printer<'_> {
     {
         self.put(prefix);
         self.name();
-        if self.word() != NO_MORE {
-            self.put(b": ");
-            self.name();
-        }
+        self.optional(b": ", |p| p.name());
     }
 
     // `Bindings`.
-    // Kept: `separated` with a closure asks for the bounds of indents, as most items do; the callers of this method don't have them.
+    // Kept: `separated` prints a list that asks for the bounds of indents (`list_of`); this part is `free` of them.
     fn bindings(&mut self, prefix: &[u8])
         ensures { Prints (bindings prefix.now) self.old self.new }
     {

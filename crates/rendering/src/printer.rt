@@ -6,34 +6,35 @@ ghost use Rattle.rendering.specs.Wrote.{Puts, Takes, Stores};
 ghost use Rattle.rendering.specs.Parts.{Reads, Looks, Ends, Counts};
 
 use layout::{BindingPower, ExprFormatOption, Side};
-use tree::get;
 use tree::word::NO_MORE;
+use tree::{get, item_or};
 
 // What is printed: the words of a table over a text, how many items each of their sequences has, and the indent step.
 #[derive(Clone, Copy)]
-pub struct Source<'a> {
-    pub text: &'a [u8],
-    pub words: &'a [u32],
+pub(crate) struct Source<'a> {
+    pub(crate) text: &'a [u8],
+    pub(crate) words: &'a [u32],
     // At the place where a sequence begins, the number of its items.
-    pub counts: &'a [u16],
-    pub step: usize,
+    pub(crate) counts: &'a [u16],
+    pub(crate) step: usize,
 }
 
 #[derive(Drop)]
-pub struct Printer<'a> {
-    pub source: Source<'a>,
+pub(crate) struct Printer<'a> {
+    pub(crate) source: Source<'a>,
     // The place of the next word.
-    pub at: usize,
-    pub out: &'a mut [u8],
+    pub(crate) at: usize,
+    pub(crate) out: &'a mut [u8],
     // The place of the next byte. Past the buffer's end it says that something did not fit, and stays so.
     // Kept: with a Result of each write some sixty callers would pass an error on that one test at the end finds.
-    pub pos: usize,
+    pub(crate) pos: usize,
 }
 
 // ---- reading
 
 impl Printer<'_> {
     // The next word, which is passed; past the table's end 0, and the place stays.
+    // Kept: 0 is also the mark that ends a sequence, so a caller past the table's end stops there.
     pub(crate) fn word(&mut self) -> u32
         ensures { Reads self.old result self.new }
     {
@@ -55,14 +56,14 @@ impl Printer<'_> {
     pub(crate) fn is_at_end(&self) -> bool
         ensures { Ends self.now result }
     {
-        get(self.source.words, self.at) == NO_MORE
+        self.ahead(0) == NO_MORE
     }
 
     // How many items the sequence has that begins here.
     pub(crate) fn count(&self) -> usize
         ensures { Counts self.now result }
     {
-        usize::from(self.source.counts.get(self.at).copied().unwrap_or(0))
+        usize::from(item_or(self.source.counts, self.at, 0))
     }
 }
 

@@ -6,9 +6,9 @@ use layout::{BindingPower, ExprFormatOption, Side};
 
 // Upstream's `context` and `format`: how strongly the operators around an expression pull, and how its lines are laid out.
 #[derive(Clone, Copy)]
-pub struct Setting {
-    pub context: BindingPower,
-    pub format: ExprFormatOption,
+pub(crate) struct Setting {
+    pub(crate) context: BindingPower,
+    pub(crate) format: ExprFormatOption,
 }
 
 impl Setting {

@@ -1,4 +1,5 @@
 // The sequences that hold statements: each method prints the items from the next word on, and passes them.
+// Kept: loops of their own and not `separated`, as in expression/list.rt.
 ghost use Rattle.rendering.specs.Parts.{Prints};
 ghost use Rattle.rendering.specs.StmtParts.{statement_list, branch_list, case_sequence, a_expr_list};
 
@@ -7,6 +8,7 @@ use tree::word::NO_MORE;
 
 impl Printer<'_> {
     // `StatementList`.
+    // Kept: the mark ends the loop; the number only tells the last item, and a `for` over it would pass the marks unread.
     #[cycle(statement)]
     pub(crate) fn list(&mut self, indent: usize)
         ensures { Prints (statement_list indent) self.old self.new }
