@@ -3,7 +3,7 @@ ghost use Rattle.rendering.specs.Parts.{Prints, a_name, name_head, typed_name, i
 ghost use Rattle.rendering.specs.Parts.{a_bool, a_natural, custom_literal, identifier};
 
 use crate::printer::Printer;
-use tree::word::{FALSE, NO_MORE};
+use tree::word::FALSE;
 use tree::{name, natural};
 
 impl Printer<'_> {
@@ -42,16 +42,10 @@ impl Printer<'_> {
     }
 
     // `Bindings`.
-    // Kept: `separated` prints a list that asks for the bounds of indents (`list_of`); this part is `free` of them.
     fn bindings(&mut self, prefix: &[u8])
         ensures { Prints (bindings prefix.now) self.old self.new }
     {
-        let mut before = prefix;
-        while self.word() != NO_MORE {
-            self.put(before);
-            before = b", ";
-            self.typed();
-        }
+        self.separated(prefix, b", ", |p| p.typed());
     }
 
     // A quantifier's Bool and bindings.

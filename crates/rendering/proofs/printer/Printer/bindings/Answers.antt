@@ -1,30 +1,41 @@
 -- The bindings of a list: none, or text, a binding and the others.
-use Rattle.std.proofs.Common.{arith, [], ◌∷◌}
+use Rattle.std.proofs.Common.{arith, refl, rules, List, ℕ, [], ◌∷◌}
 use Rattle.lexing.specs.Bytes.{bytes}
 use Rattle.tree.specs.Ast.{binding}
 use Rattle.layout.specs.Printer.{Bindings}
-use Rattle.rendering.specs.Parts.{Told, Prints, bindings}
 use Rattle.rendering.specs.declared.printer.Printer.{Printer}
-use Rattle.rendering.proofs.Walk.{prints, begin, reads, word, text, part, done, none-yet, one-more, all-of}
-use Rattle.rendering.proofs.printer.Printer.bindings.Goals.{After-typed}
+use Rattle.rendering.specs.Parts.{Told, Prints, typed_name, bindings}
+use Rattle.rendering.specs.Sequences.{Step, Kind, Repeatedly, end, item}
+use Rattle.rendering.proofs.Walk.{prints, begin, reads, word, text, part, done}
+use Rattle.rendering.proofs.Sequences.{by-call, plainly, moves, printed-list}
 use Rattle.rendering.proofs.printer.Printer.bindings.Goals as goal
 
-some : (c : After-typed) (s' : Printer) → Prints (bindings (bytes ", ")) c.typed.new.self s' → Told (bindings c.loop-before.before.now) c.loop-before.self s'
-unfolding Bindings
-some c s' p [] rest g d = absurd (c.loop-before-test.true (reads (begin d) c.word.ensures))
-some c s' p (binding n t ∷ bs) rest g d =
-    done (part p bs tt (part c.typed.ensures (n, t) tt (text (word (begin d) c.word.ensures) c.put.ensures)))
+-- a name and its type, as a tree of a kind
+abbrev a_typed : Kind
+a_typed =
+    record {
+      Tree = λ S. (typed_name S 0).Tree;
+      numbers = λ S a rest. Unit {0};
+      words = λ S. (typed_name S 0).words;
+      print = λ S. (typed_name S 0).print;
+      indent = λ S. 0;
+    }
 
-none : (c : goal.After-loop-before) → Told (bindings c.loop-before.before.now) c.loop-before.self c.word.new.self
-unfolding Bindings
-none c [] rest g d = done (word (begin d) c.word.ensures)
-none c (binding n t ∷ bs) rest g d = let e = reads (begin d) c.word.ensures in absurd (omega (arith, e, c.loop-before-test.false))
+module _ {R : Step} (h : (s s' : Printer) → R s s' → Prints typed_name s s') where
+  told : {first : List ℕ} {s s' : Printer} → Repeatedly R (bytes ", ") first s s' → Told (bindings first) s s'
+  unfolding Bindings
+  told (end r) [] rest g d = done (word (begin d) r)
+  told (end r) (binding n t ∷ bs) rest g d = absurd (let z = reads (begin d) r in omega (arith, z))
+  told (item w s₁ s₂ s₃ r k p x y) [] rest g d = absurd (let z = reads (begin d) r in omega (arith, z, k))
+  told (item w s₁ s₂ s₃ r k p x y) (binding n t ∷ bs) rest g d =
+      let others = printed-list a_typed (λ s s' q. plainly a_typed (h s s' q)) y in
+      let one-binding = part (h s₂ s₃ x) (n, t) tt (text (word (begin d) r) p) in
+      done (part (prints {P = bindings (bytes ", ")} others.source others.output others.forward (told y)) bs tt one-binding)
 
-pub loop-before-init : goal.loop-before-init
-loop-before-init c = none-yet
-
-pub loop-before-preserved : goal.loop-before-preserved
-loop-before-preserved c = one-more c.loop-before.invariant (cc) (cc) (omega arith) (some c)
+pub separated-requires : goal.separated-requires
+separated-requires c k = ((refl, tt), (search rules, moves a_typed (λ s s' r. plainly a_typed (by-call typed_name r (search rules)))))
 
 pub returns : goal.returns
-returns c = all-of c.loop-before.invariant (prints (cc) (cc) (omega arith) (none c))
+returns c =
+    let list = printed-list a_typed (λ s s' r. plainly a_typed (by-call typed_name r (search rules))) c.separated.ensures in
+    prints (cc) (cc) (let f = list.forward in omega arith) (told (λ s s' r. by-call typed_name r (search rules)) c.separated.ensures)
