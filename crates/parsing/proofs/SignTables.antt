@@ -6,8 +6,10 @@ use Rattle.lexing.specs.Answer.{Answer, ok, refused}
 use Rattle.lexing.specs.declared.refusal.Refusal.{Refusal}
 use Rattle.grammar.specs.Steps.{after, mapped, ◌or◌}
 use Rattle.parsing.specs.Contract.{Rule, Took, Missing}
-use Rattle.parsing.specs.Signs.{Operated, Operates, spelt, size, table_rule, Filled}
+use Rattle.parsing.specs.Signs.{build_of, Operated, Operates, level_rule, spelt, size, table_rule, Filled, Tabled}
 use Rattle.parsing.specs.declared.parser.Parser.{Parser}
+use Rattle.parsing.specs.declared.sign.Level.{Level}
+use Rattle.parsing.specs.declared.sign.Sign.{Sign}
 use Rattle.parsing.specs.declared.sign.Spelling.{Spelling}
 use Rattle.parsing.proofs.Laws.{after-ok, after-none, after-refused}
 
@@ -100,11 +102,16 @@ or-pairs Answer.none Answer.none (ok c n) d r = refl
 or-pairs Answer.none Answer.none (refused i j) d r = refl
 or-pairs Answer.none Answer.none Answer.none d r = refl
 
-mapped-operates : {B C : Type 0} (f : C → B) (rule : Rule B) (other : Rule C) (p q : Parser) (r : Result (Option C) Refusal)
+pub mapped-operates : {B C : Type 0} (f : C → B) (rule : Rule B) (other : Rule C) (p q : Parser) (r : Result (Option C) Refusal)
     → rule p.text.now p.at ≡ mapped f (other p.text.now p.at) → Operates (λ c. c) other p q r → Operates f rule p q r
 mapped-operates f rule other p q (Ok (Some c)) e o = record { says = e ∙ after-ok _ _ _ o.says; went = o.went; top_same = o.top_same }
 mapped-operates f rule other p q (Ok None) e o = record { says = e ∙ after-none _ _ _ o.says; same = o.same }
 mapped-operates f rule other p q (Err d) e o = e ∙ after-refused _ _ _ o
+
+-- a level's rule is that of its table's signs
+pub tabled : (level : Level) (ss : List (Spelling × Sign)) → ((text : List ℕ) → (at : ℕ) → level_rule level text at ≡ signs_rule build_of ss text at) → Filled ss
+    → Tabled level ss
+tabled level ss e f = record { reads = λ text at. e text at ∙ table-reads build_of text at ss; filled = f }
 
 -- a rule that is that of a table's signs is read by the table
 pub operates-as : {B C : Type 0} (f : C → B) (rule : Rule B) (ss : List (Spelling × C)) (p q : Parser) (r : Result (Option C) Refusal)

@@ -79,3 +79,8 @@ table_rule (e ∷ es) text at = mapped (λ _. e.1) (spelt e.0 text at) or table_
 abbrev pub Filled : {T : Type 0} → List (Spelling × T) → Type 0
 Filled [] = Unit {0}
 Filled (e ∷ es) = 1 ≤ size e.0 × Filled es
+
+-- a table that reads as the rule of a level's operators
+pub record Tabled (level : Level) (table : List (Spelling × Sign)) : Type 0 where
+  pub reads : (text : List ℕ) → (at : ℕ) → level_rule level text at ≡ mapped build_of (table_rule table text at)
+  pub filled : Filled table

@@ -3,7 +3,7 @@ ghost use Rattle.std.specs.Prelude.{◌≡◌, ◌≤◌};
 ghost use Rattle.tree.specs.Codes.{as_operator};
 ghost use Rattle.grammar.specs.Rules.{unary_operator};
 ghost use Rattle.parsing.specs.Contract.{Takes_if};
-ghost use Rattle.parsing.specs.Signs.{build_of, Operates, class_of, level_rule, begins_operator, spelt, size, table_rule, Filled};
+ghost use Rattle.parsing.specs.Signs.{build_of, Operates, class_of, level_rule, begins_operator, spelt, size, table_rule, Filled, Tabled};
 
 use crate::parser::Parser;
 use lexing::refusal::Refusal;
@@ -97,6 +97,24 @@ static UNARIES: [(Spelling<'static>, Operator); 2] = [
     (Spelling::Sym(b"-"), Operator::UnaryMinus),
 ];
 
+impl Level {
+    // The operators of the level.
+    fn table(self) -> &'static [(Spelling<'static>, Sign)]
+        ensures { Tabled self result.now }
+    {
+        match self {
+            Level::Product => &FACTORS,
+            Level::Sum => &TERMS,
+            Level::Comparison => &COMPARISONS,
+            Level::Conjunction => &CONJUNCTIONS,
+            Level::Disjunction => &DISJUNCTIONS,
+            Level::Implication => &IMPLICATIONS,
+            Level::Explication => &EXPLICATIONS,
+            Level::Equivalence => &EQUIVALENCES,
+        }
+    }
+}
+
 impl<'a> Parser<'a> {
     // Whether a spelling stands here, which is passed.
     // Kept: the arm is the form of a value that stands in a table, and its bytes are the arguments.
@@ -127,21 +145,12 @@ impl<'a> Parser<'a> {
         Ok(None)
     }
 
-    // The operator of a level, by its table.
-    // Kept: an arm names its level's table, and chooses no step; the tables differ in length, so that no array holds them.
+    // The operator of a level, by its table. It is called only where an operator may begin, so `operator` stays short without it.
+    #[inline(never)]
     fn level_operator(&mut self, level: Level) -> Result<Option<Sign>, Refusal>
         ensures { Operates build_of (level_rule level) self.old self.new result }
     {
-        match level {
-            Level::Product => self.first_of(&FACTORS),
-            Level::Sum => self.first_of(&TERMS),
-            Level::Comparison => self.first_of(&COMPARISONS),
-            Level::Conjunction => self.first_of(&CONJUNCTIONS),
-            Level::Disjunction => self.first_of(&DISJUNCTIONS),
-            Level::Implication => self.first_of(&IMPLICATIONS),
-            Level::Explication => self.first_of(&EXPLICATIONS),
-            Level::Equivalence => self.first_of(&EQUIVALENCES),
-        }
+        self.first_of(level.table())
     }
 
     // The operator of a level. A look at the next byte tells most often that there is none.
