@@ -6,6 +6,7 @@ ghost use Rattle.lexing.specs.CodeAnswers.{reach_of, mark_of, end_of, Position};
 use crate::bytes::{is_space, not_newline, run_length};
 
 // A long comment that opens at this place is not closed.
+// Kept: no text has one now, since `W` takes such a comment to the end; the definitions and the refusals have a place for it.
 #[derive(Clone, Copy, PartialEq, Eq, Debug)]
 pub struct Unclosed {
     pub at: usize,
@@ -45,6 +46,7 @@ pub(crate) fn long_comment(s: &[u8]) -> Option<usize>
 {
     let mut depth: usize = 0;
     // The byte before, 0 where a mark ends there.
+    // Kept: 0 for no byte, which no mark has; an `Option<u8>` would be made and taken apart at each byte.
     let mut before = 0;
     for (i, b) in s.iter().enumerate() {
         match mark_at(before, *b) {
@@ -66,6 +68,7 @@ pub(crate) fn long_comment(s: &[u8]) -> Option<usize>
 }
 
 // Upstream's function of this name: the place after the long comment that is open at `start`, at most `end`.
+// Kept: `start` and `end` are upstream's parameters, and `Position` is stated with them.
 pub(crate) fn position_after_end_of_long_comment(input: &[u8], start: usize, end: usize) -> usize
     requires { (start ≤ end) × (end ≤ length input.now) }
     ensures { Position (take (end - start) (drop start input.now)) start end result }

@@ -34,7 +34,7 @@ pub fn lexeme(text: &[u8], value: u64, n: usize) -> Lexed
 }
 
 // How many bytes the identifier at the start has, 0 where there is none.
-// Kept: its callers are promised the length with 0, which slices the text as it is; an `Option<usize>` of it would be taken apart at each use.
+// Kept: 0 is the length that specs and `keyword` read with; parsing's `word_ahead` has it as an Option.
 pub fn identifier_length(text: &[u8]) -> usize
     ensures { result ≡ tokens.identifier_length text.now }
 {

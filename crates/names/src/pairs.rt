@@ -11,6 +11,7 @@ const MIDDLE: usize = 8192;
 
 const LARGE: usize = 65536;
 
+// Kept: two keys of each place in one slice, w apart, here and below; they may overlap, so they are no two slices.
 // Puts the class of each of the first n places, the first place with the same keys, in place of its first key. Small numbers take small arrays.
 pub(crate) fn pair_classes(keys: &mut [u16], w: usize, n: usize, most: usize)
     requires { Pairs keys.old w n most }

@@ -74,6 +74,7 @@ impl<'a, const N: usize> Spans<'a, N> {
     }
 
     // The keys of a span, if its length is at least w and below 2 w. Keys stand at i and at i + count.
+    // Kept: `classes` and `keys` apart, here and below: one is read while the other is written.
     fn take_key(&self, i: usize, w: usize, classes: &[u16; N], keys: &mut [u16; N])
         requires span { i < self.now.count }
         requires positive { 1 ≤ w }

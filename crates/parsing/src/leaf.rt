@@ -141,7 +141,7 @@ impl<'a> Parser<'a> {
     {
         let name = self.need_name()?;
         let variable = self.push(Node::Ident(name.start, name.len, false));
-        Ok(self.push(Node::Headed(mode.word(), variable)))
+        Ok(self.push(Node::Headed(u32::from(mode), variable)))
     }
 }
 

@@ -23,6 +23,7 @@ pub(crate) enum Frame {
 
 impl Writer<'_> {
     // Writes the words of a node before its parts.
+    // Kept: the arm is the form of a value, which is read here; no step is chosen for another.
     #[tactic(auto, using(crate::proofs::flat::Words::writes_none))]
     fn node_head(&mut self, node: Node) -> Result<(), Full>
         ensures { Writes (node_head node) self.old self.new result }
@@ -34,12 +35,13 @@ impl Writer<'_> {
             Node::Three(x, y, z) => self.emit(&[x, y, z]),
             Node::Ident(x, y, old) => self.emit(&[ExprTag::IdExpr as u32, x, y, u32::from(old)]),
             Node::Unary(op, _) | Node::Binary(op, _, _) => {
-                self.emit(&[ExprTag::OperatorExpr as u32, op.word(), MORE])
+                self.emit(&[ExprTag::OperatorExpr as u32, u32::from(op), MORE])
             }
         }
     }
 
     // Writes the words that a frame begins with.
+    // Kept: as `node_head`.
     fn head(&mut self, arena: &[Node], frame: Frame) -> Result<(), Full>
         requires { Inside (length arena.now) frame }
         ensures { Writes (head_of arena.now frame) self.old self.new result }

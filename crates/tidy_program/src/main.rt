@@ -10,6 +10,7 @@ use std::io::Read;
 use tidy::{MOST_PRINT, MOST_TEXT, tidied};
 
 // One byte more than is accepted.
+// Kept: a limit, and no kind.
 const MOST_READ: u64 = MOST_TEXT as u64 + 1;
 
 fn main(rt: HostRuntime) -> io::Result<()> {

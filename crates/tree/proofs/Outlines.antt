@@ -8,17 +8,18 @@ use mathlib.Core.List.{List, [], ◌∷◌, ◌++◌}
 use lib.ListN.{length, get_or, take, drop, set, length-set}
 use lib.Dec.{eqb, ltb}
 use borrow.Author.Tests.{eqb-false, ltb-false, lt-ltb, le-ltb}
-use Rattle.std.specs.Prelude.{Option, Some, None}
+use Rattle.std.specs.Prelude.{Result, Ok, Err}
 use Rattle.tree.specs.Clash.{impossible}
 use Rattle.tree.specs.Kind.{by_row}
 use Rattle.tree.specs.KindNumbers.{second_word, natural_kind, kind_of}
 use Rattle.tree.specs.KindCodes.{as_kind, kind_code}
-use Rattle.tree.specs.Codes.{Decodes}
+use Rattle.tree.specs.Codes.{Converts}
 use Rattle.tree.specs.Limits.{most_words}
 use Rattle.tree.specs.Outline.{filled}
 use Rattle.tree.specs.Notes.{note_kind, field_count, fields_at, fields_end, end_at, end_notes}
 use Rattle.tree.specs.Trees.{◌▸◌}
 use Rattle.tree.specs.declared.kind.Kind.{Kind as KindCode}
+use Rattle.tree.specs.declared.word.Unknown.{Unknown}
 use Rattle.tree.specs.declared.kind.Kind.TheVariants as kind
 use Rattle.tree.proofs.RowLaws.{in-turn}
 
@@ -64,8 +65,8 @@ kind-with n h l =
 
 module _ (number w : ℕ) where
   -- a number without a kind has no fields
-  pub fields-none : Decodes kind_code number None → fields_at number w ≡ 0
-  fields-none d = by-test (eqb number second_word || ltb natural_kind number) refl
+  pub fields-none : (x : Unknown) → Converts kind_code number (Err x) → fields_at number w ≡ 0
+  fields-none x d = by-test (eqb number second_word || ltb natural_kind number) refl
     where
       by-test : (b : Bool) → (eqb number second_word || ltb natural_kind number) ≡ b → fields_at number w ≡ 0
       by-test true e = rw e
@@ -74,7 +75,7 @@ module _ (number w : ℕ) where
           let z = eqb-false number second_word o.0 in
           let l = ltb-false natural_kind number o.1 in
           let k = kind-with number (omega arith) (omega arith) in
-          let f : ◌≡◌ {A = Option KindCode} None (Some k.0) = (d k.0).1 k.1 in
+          let f : ◌≡◌ {A = Result KindCode Unknown} (Err x) (Ok k.0) = (d k.0).1 k.1 in
           impossible cc
 
 -- a name and a natural have one

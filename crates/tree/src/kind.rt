@@ -2,7 +2,7 @@
 ghost use Rattle.std.specs.Prelude.{◌≡◌};
 ghost use Rattle.tree.specs.Tally.{sequence};
 ghost use Rattle.tree.specs.KindCodes.{as_kind, kind_code};
-ghost use Rattle.tree.specs.Codes.{Decodes, Converts};
+ghost use Rattle.tree.specs.Codes.{Converts};
 
 use crate::word::Unknown;
 
@@ -11,7 +11,7 @@ use crate::word::Unknown;
 pub const SECOND_WORD: u16 = 0;
 
 // What may be expected at a word.
-#[derive(Clone, Copy, PartialEq, Eq, Debug)]
+#[derive(Clone, Copy, PartialEq, Eq, PartialOrd, Ord, Debug)]
 pub enum Kind {
     // What one word says.
     Bool = 1,
@@ -97,24 +97,10 @@ impl TryFrom<u16> for Kind {
 }
 
 impl Kind {
-    // Its number in an outline.
-    pub fn number(self) -> u16
-        ensures { result ≡ kind_code self }
-    {
-        u16::from(self)
-    }
-
-    // The kind with that number, where there is one.
-    pub fn from_number(number: u16) -> Option<Kind>
-        ensures { Decodes kind_code number result }
-    {
-        Kind::try_from(number).ok()
-    }
-
     // Whether it is a sequence.
     pub(crate) fn is_sequence(self) -> bool
         ensures { result ≡ sequence (as_kind self) }
     {
-        Kind::Names.number() <= self.number() && self.number() <= Kind::Procedures.number()
+        Kind::Names <= self && self <= Kind::Procedures
     }
 }

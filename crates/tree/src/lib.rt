@@ -1,5 +1,5 @@
-// The tree words of B3 (REFERENCE, "The tree words"): the check that a table's words are one tree over a text, and the small
-// functions by which checked words are read.
+// The tree words of B3 (REFERENCE, "The tree words"): the check that a table's words are one tree over a text, its outline, the small functions by
+// which checked words are read, and the stack that walks have.
 
 #![tactic(auto)]
 
@@ -41,6 +41,7 @@ pub enum CheckError {
     TooManyWords,
 }
 
+// Kept: number and place by methods and no trait, see tidy's `TidyError`.
 impl CheckError {
     // The number of a print's refusal: text, words or start indent are past their limits, or the words aren't one tree over the text.
     pub fn number(self) -> u64
@@ -205,7 +206,7 @@ fn walk_large(
 }
 
 // The word at a place; 0 past the end.
-// Kept: the library's `get` and `unwrap_or` under the name that the contracts of callers cite.
+// Kept: `item_or` of words with 0, by the name that it had; callers state it by `get_or`.
 pub fn get(words: &[u32], at: usize) -> u32
     ensures { result ≡ get_or words.now at 0 }
 {

@@ -31,7 +31,7 @@ pub(crate) fn note_kind(kinds: &mut [u16], at: usize, next: usize, kind: Kind)
     requires { at < most_words }
     ensures { kinds.new ≡ note_kind at next (kind_code kind) kinds.old }
 {
-    put(kinds, at, kind.number());
+    put(kinds, at, u16::from(kind));
     let second = at + 1;
     if second < next {
         put(kinds, second, SECOND_WORD);
@@ -56,7 +56,8 @@ fn end_of(words: &[u32], kinds: &[u16], ends: &[u16], at: usize) -> u16
 {
     let second = at + 1;
     let next = second as u16;
-    let Some(kind) = Kind::from_number(item_or(kinds, at, 0)) else {
+    // Kept: the kinds are read back from their numbers, which are the outline; kinds of their own would be a second array of 16,384.
+    let Ok(kind) = Kind::try_from(item_or(kinds, at, 0)) else {
         return next;
     };
     match kind {

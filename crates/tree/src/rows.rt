@@ -128,8 +128,9 @@ fn content_row(kind: Kind) -> &'static [Kind]
     }
 }
 
-// The row that a word of that kind begins, where there is such a word; a name and a natural, whose words may be any, have none. Inlined, the
-// check of a table takes a fifth fewer instructions.
+// The row that a word of that kind begins, where there is such a word; a name and a natural, whose words may be any, have none. The check of
+// a table takes a fifth fewer instructions with it inlined.
+// Kept: the arm is the form of a value, which is read here; no step is chosen for another.
 #[inline(always)]
 pub(crate) fn row_of(kind: Kind, word: u32) -> Option<&'static [Kind]>
     ensures { as_turn result ≡ by_row (as_kind kind) word }

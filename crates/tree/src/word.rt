@@ -19,8 +19,7 @@ pub const TRUE: u32 = 1;
 #[derive(Clone, Copy, PartialEq, Eq, Debug)]
 pub struct Unknown;
 
-// Kept: `word` and `from_word` beside the conversions, five times. They are the names that parsing, reading and rendering call, and an Option
-// says it all: that a word is none's is no error where they call. A trait for both would be one more import for each caller.
+// Kept: `from_word` beside the conversion, five times: `try_from(..).ok()` by a name, since that a word is none's is no error where it is called.
 
 // ParameterMode.
 #[derive(Clone, Copy, PartialEq, Eq, Debug)]
@@ -54,13 +53,6 @@ impl TryFrom<u32> for Mode {
 }
 
 impl Mode {
-    // Its word in a table.
-    pub fn word(self) -> u32
-        ensures { result ≡ mode_code self }
-    {
-        u32::from(self)
-    }
-
     // The one with that word, where there is one.
     pub fn from_word(word: u32) -> Option<Mode>
         ensures { Decodes mode_code word result }
@@ -127,13 +119,6 @@ impl TryFrom<u32> for Operator {
 }
 
 impl Operator {
-    // Its word in a table.
-    pub fn word(self) -> u32
-        ensures { result ≡ operator_code self }
-    {
-        u32::from(self)
-    }
-
     // The one with that word, where there is one.
     pub fn from_word(word: u32) -> Option<Operator>
         ensures { Decodes operator_code word result }
@@ -188,13 +173,6 @@ impl TryFrom<u32> for ExprTag {
 }
 
 impl ExprTag {
-    // Its word in a table.
-    pub fn word(self) -> u32
-        ensures { result ≡ expr_code self }
-    {
-        u32::from(self)
-    }
-
     // The one with that word, where there is one.
     pub fn from_word(word: u32) -> Option<ExprTag>
         ensures { Decodes expr_code word result }
@@ -265,13 +243,6 @@ impl TryFrom<u32> for StmtTag {
 }
 
 impl StmtTag {
-    // Its word in a table.
-    pub fn word(self) -> u32
-        ensures { result ≡ stmt_code self }
-    {
-        u32::from(self)
-    }
-
     // The one with that word, where there is one.
     pub fn from_word(word: u32) -> Option<StmtTag>
         ensures { Decodes stmt_code word result }
@@ -310,13 +281,6 @@ impl TryFrom<u32> for AExprTag {
 }
 
 impl AExprTag {
-    // Its word in a table.
-    pub fn word(self) -> u32
-        ensures { result ≡ aexpr_code self }
-    {
-        u32::from(self)
-    }
-
     // The one with that word, where there is one.
     pub fn from_word(word: u32) -> Option<AExprTag>
         ensures { Decodes aexpr_code word result }

@@ -15,9 +15,64 @@ use std::io::Write;
 // More bytes than an entry writes.
 const OUTPUT: usize = 65600;
 
+// The answer of the last of so many runs, or of one, from an input into an output.
+pub(crate) fn repeated<I: Copy, T, R: Drop, F: FnMut(I, &mut [T]) -> R>(
+    times: Option<u32>,
+    input: I,
+    output: &mut [T],
+    mut run: F,
+) -> R
+    requires { F.IsAlwaysCallable run }
+{
+    let mut answer = run(input, output);
+    for _ in 1..times.unwrap_or(1) {
+        answer = run(input, output);
+    }
+    answer
+}
+
+// What stands in an output before a case, what it is counted in, and the note where another item stands past what was given.
+#[derive(Clone, Copy)]
+struct Output<T> {
+    blank: T,
+    unit: &'static [u8],
+    note: &'static [u8],
+}
+
+// Prints how much was given, and of one run what it is; or a refusal's number and place.
+fn answered<W: Write, T: PartialEq + Copy, F: FnOnce(&mut W, &[T], usize) -> io::Result<()>>(
+    to: &mut W,
+    times: Option<u32>,
+    answer: Result<usize, (u64, usize)>,
+    given: &[T],
+    output: Output<T>,
+    show: F,
+) -> io::Result<()>
+    requires { F.IsAlwaysCallable show }
+{
+    let n = match answer {
+        Ok(n) => {
+            if times.is_none() {
+                show(to, given, n)?;
+            } else {
+                print_count(to, n, output.unit)?;
+            }
+            n
+        }
+        Err((number, place)) => {
+            print_refusal(to, number, place)?;
+            0
+        }
+    };
+    if are(given, n, &output.blank) {
+        return Ok(());
+    }
+    print(to, output.note)
+}
+
 // The words of the table, and the text.
 #[inline(never)]
-pub(crate) fn read_case<F: Fn(&[u8], &mut [u32]) -> Result<usize, Refusal>>(
+pub(crate) fn read_case<F: FnMut(&[u8], &mut [u32]) -> Result<usize, Refusal>>(
     to: &mut impl Write,
     times: Option<u32>,
     rest: &[u8],
@@ -29,34 +84,32 @@ pub(crate) fn read_case<F: Fn(&[u8], &mut [u32]) -> Result<usize, Refusal>>(
     let mut table = [4294967295u32; WORDS];
     let size = number(rest);
     let n = build(tail(rest, size.digits), &mut text);
-    let text = &text[..n];
     let table = most(size.value, &mut table);
-    let mut answer = read(text, table);
-    for _ in 1..times.unwrap_or(1) {
-        answer = read(text, table);
-    }
-    let words = match answer {
-        Ok(n) if times.is_none() => {
-            print_words(to, table, n)?;
-            n
-        }
-        Ok(n) => {
-            print_count(to, n, b" words")?;
-            n
-        }
-        Err(refusal) => {
-            print_refusal(to, refusal.reason.number(), refusal.place)?;
-            0
-        }
+    let answer = repeated(times, &text[..n], table, read);
+    let words = Output {
+        blank: 0,
+        unit: b" words",
+        note: b" not cleared",
     };
-    if are(table, words, &0) {
-        return Ok(());
-    }
-    print(to, b" not cleared")
+    answered(
+        to,
+        times,
+        answer.map_err(|refusal| (refusal.reason.number(), refusal.place)),
+        table,
+        words,
+        |to, table, n| print_words(to, table, n),
+    )
+}
+
+// What is printed: a table's words over a text.
+#[derive(Clone, Copy)]
+pub(crate) struct Source<'a> {
+    pub(crate) text: &'a [u8],
+    pub(crate) words: &'a [u32],
 }
 
 // The bytes of the output, the table, a slash, and the text.
-pub(crate) fn print_case<F: Fn(&[u8], &[u32], &mut [u8]) -> Result<usize, PrintError>>(
+pub(crate) fn print_case<F: FnMut(Source, &mut [u8]) -> Result<usize, PrintError>>(
     to: &mut impl Write,
     times: Option<u32>,
     rest: &[u8],
@@ -71,7 +124,7 @@ pub(crate) fn print_case<F: Fn(&[u8], &[u32], &mut [u8]) -> Result<usize, PrintE
 
 // A table's print over the text of a line. The text and the output are made when the table is: they take the stack that making it took.
 #[inline(never)]
-fn print_over<F: Fn(&[u8], &[u32], &mut [u8]) -> Result<usize, PrintError>>(
+fn print_over<F: FnMut(Source, &mut [u8]) -> Result<usize, PrintError>>(
     to: &mut impl Write,
     times: Option<u32>,
     size: u32,
@@ -84,28 +137,23 @@ fn print_over<F: Fn(&[u8], &[u32], &mut [u8]) -> Result<usize, PrintError>>(
     let mut text = [0u8; TEXT];
     let mut out = [b'~'; OUTPUT];
     let n = build(line, &mut text);
-    let text = &text[..n];
     let out = most(size, &mut out);
-    let mut answer = print_tree(text, words, out);
-    for _ in 1..times.unwrap_or(1) {
-        answer = print_tree(text, words, out);
-    }
-    let bytes = match answer {
-        Ok(n) if times.is_none() => {
-            print_bytes(to, out, n)?;
-            n
-        }
-        Ok(n) => {
-            print_count(to, n, b" bytes")?;
-            n
-        }
-        Err(error) => {
-            print_refusal(to, error.number(), error.place())?;
-            0
-        }
+    let source = Source {
+        text: &text[..n],
+        words,
     };
-    if are(out, bytes, &b'~') {
-        return Ok(());
-    }
-    print(to, b" touched")
+    let answer = repeated(times, source, out, print_tree);
+    let bytes = Output {
+        blank: b'~',
+        unit: b" bytes",
+        note: b" touched",
+    };
+    answered(
+        to,
+        times,
+        answer.map_err(|error| (error.number(), error.place())),
+        out,
+        bytes,
+        |to, out, n| print_bytes(to, out, n),
+    )
 }

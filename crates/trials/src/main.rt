@@ -97,17 +97,17 @@ fn answer(to: &mut impl Write, entry: u8, line: &[u8]) -> io::Result<()> {
         b'a' => names_case(to, times, rest),
         b'r' => read_case(to, times, rest, |text, table| read_expression(text, table)),
         b'R' => read_case(to, times, rest, |text, table| read_program(text, table)),
-        b'p' => print_case(to, times, rest, |text, words, out| {
-            print_expression(text, words, out)
+        b'p' => print_case(to, times, rest, |s, out| {
+            print_expression(s.text, s.words, out)
         }),
         b'm' => {
             let indent = number(rest);
-            print_case(to, times, tail(rest, indent.digits), |text, words, out| {
-                print_expression_lines(text, words, indent.value as usize, out)
+            print_case(to, times, tail(rest, indent.digits), |s, out| {
+                print_expression_lines(s.text, s.words, indent.value as usize, out)
             })
         }
-        b'P' => print_case(to, times, rest, |text, words, out| {
-            print_program(text, words, out)
+        b'P' => print_case(to, times, rest, |s, out| {
+            print_program(s.text, s.words, out)
         }),
         _ => Ok(()),
     }

@@ -1,5 +1,6 @@
 // The cases of a table's outline. Before a case every kind is 255, and every end 65535. The answer is what the check finds, a slash and the kinds, a
 // slash and the ends, as the case leaves them.
+use crate::entries::repeated;
 use crate::lines::tail;
 use crate::numbers::number;
 use crate::pieces::{DIGITS, WORDS, with_words};
@@ -20,7 +21,8 @@ pub(crate) fn outline_case(to: &mut impl Write, times: Option<u32>, rest: &[u8])
     })
 }
 
-// Prints the answer; of repeated runs only how many words the table has. The kinds and the ends are made when the table is: they take the stack that making it took.
+// Prints the answer; of repeated runs only how many words the table has. The kinds and the ends are made when the table is: they take the stack
+// that making it took.
 #[inline(never)]
 fn outline_into(
     to: &mut impl Write,
@@ -34,10 +36,9 @@ fn outline_into(
     let mut ends = [65535u16; WORDS];
     let kinds = most(most_kinds, &mut kinds);
     let ends = most(most_ends, &mut ends);
-    let mut answer = outline_program(words, text_len, kinds, ends);
-    for _ in 1..times.unwrap_or(1) {
-        answer = outline_program(words, text_len, kinds, ends);
-    }
+    let answer = repeated(times, words, kinds, |words, kinds| {
+        outline_program(words, text_len, kinds, ends)
+    });
     if times.is_some() {
         return print_count(to, words.len(), b" words");
     }

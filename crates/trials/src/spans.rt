@@ -1,4 +1,6 @@
-// The cases of `names`. Before a case every number is 65535. The answer is how many names there are, a slash and the numbers, as the case leaves them.
+// The cases of `names`. Before a case every number is 65535. The answer is how many names there are, a slash and the numbers, as the case leaves
+// them.
+use crate::entries::repeated;
 use crate::pieces::{LONG_TEXT, SPAN_DIGITS, SPANS, build, with_words};
 use crate::show::print_count;
 use crate::slices::{most, print_numbers};
@@ -16,7 +18,8 @@ pub(crate) fn names_case(to: &mut impl Write, times: Option<u32>, rest: &[u8]) -
     })
 }
 
-// The spans over the text of a line; of repeated runs only how many names there are. The text and the numbers are made when the spans are: they take the stack that making them took.
+// The spans over the text of a line; of repeated runs only how many names there are. The text and the numbers are made when the spans are: they
+// take the stack that making them took.
 #[inline(never)]
 fn number_over(
     to: &mut impl Write,
@@ -28,12 +31,13 @@ fn number_over(
     let mut text = [0u8; LONG_TEXT];
     let mut numbers = [65535u16; NUMBERS];
     let n = build(line, &mut text);
-    let text = &text[..n];
     let numbers = most(size, &mut numbers);
-    let mut count = number_spans(text, spans, numbers);
-    for _ in 1..times.unwrap_or(1) {
-        count = number_spans(text, spans, numbers);
-    }
+    let count = repeated(
+        times,
+        (&text[..n], spans),
+        numbers,
+        |(text, spans), numbers| { number_spans(text, spans, numbers) },
+    );
     if times.is_some() {
         return print_count(to, count, b" names");
     }

@@ -4,5 +4,5 @@ use Rattle.parsing.proofs.parser.Parser.reference.Goals as goal
 
 pub returns : goal.returns
 returns c =
-    let last = rw c.word.ensures at c.push.ensures in
+    let last = rw c.from.ensures at c.push.ensures in
     done _ (headed last (ident-made c.push-variable.ensures (named_mapped _ _ c.in_ok-name.ensures begin) refl) refl) refl refl
