@@ -40,7 +40,7 @@ struct Output<T> {
 }
 
 // Prints how much was given, and of one run what it is; or a refusal's number and place.
-fn answered<W: Write, T: PartialEq + Copy, F: FnOnce(&mut W, &[T], usize) -> io::Result<()>>(
+fn answered<W: Write, T: PartialEq + Copy, F: FnOnce(&mut W, &[T]) -> io::Result<()>>(
     to: &mut W,
     times: Option<u32>,
     answer: Result<usize, (u64, usize)>,
@@ -53,7 +53,7 @@ fn answered<W: Write, T: PartialEq + Copy, F: FnOnce(&mut W, &[T], usize) -> io:
     let n = match answer {
         Ok(n) => {
             if times.is_none() {
-                show(to, given, n)?;
+                show(to, given.get(..n).unwrap_or(given))?;
             } else {
                 print_count(to, n, output.unit)?;
             }
@@ -64,7 +64,7 @@ fn answered<W: Write, T: PartialEq + Copy, F: FnOnce(&mut W, &[T], usize) -> io:
             0
         }
     };
-    if are(given, n, &output.blank) {
+    if are(given.get(n..).unwrap_or(&[]), &output.blank) {
         return Ok(());
     }
     print(to, output.note)
@@ -97,7 +97,7 @@ pub(crate) fn read_case<F: FnMut(&[u8], &mut [u32]) -> Result<usize, Refusal>>(
         answer.map_err(|refusal| (refusal.reason.number(), refusal.place)),
         table,
         words,
-        |to, table, n| print_words(to, table, n),
+        |to, words| print_words(to, words),
     )
 }
 
@@ -154,6 +154,6 @@ fn print_over<F: FnMut(Source, &mut [u8]) -> Result<usize, PrintError>>(
         answer.map_err(|error| (error.number(), error.place())),
         out,
         bytes,
-        |to, out, n| print_bytes(to, out, n),
+        |to, bytes| print_bytes(to, bytes),
     )
 }

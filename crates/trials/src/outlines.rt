@@ -12,6 +12,7 @@ use std::io::Write;
 use tree::outline_program;
 
 // How many kinds and how many ends, the length of the text, and a table.
+// Kept: `to` and `times`, here and in `spans` and `entries`, are what a case is given; each goes on in one call.
 pub(crate) fn outline_case(to: &mut impl Write, times: Option<u32>, rest: &[u8]) -> io::Result<()> {
     let kinds = number(rest);
     let after = tail(rest, kinds.digits);

@@ -27,23 +27,22 @@ pub(crate) fn build(line: &[u8], text: &mut [u8]) -> usize
 {
     let mut end = 0;
     for piece in line.split(|b| *b == b';') {
-        end = repeat(piece, text, end);
+        end += repeat(piece, &mut text[end..]);
     }
     end
 }
 
-// Puts a piece into `text` from a place on, and answers the place after.
-fn repeat(piece: &[u8], text: &mut [u8], at: usize) -> usize
-    requires { at ≤ length text.old }
+// Puts a piece at the start of `text`, as much as fits, and answers how long it is.
+fn repeat(piece: &[u8], text: &mut [u8]) -> usize
     ensures { result ≤ length text.new }
 {
     let count = number(piece);
     let bytes = tail(piece, count.digits);
-    let mut place = at;
+    let mut n = 0;
     for _ in 0..count.value {
-        place += decode(bytes, &mut text[place..]);
+        n += decode(bytes, &mut text[n..]);
     }
-    place
+    n
 }
 
 // Puts the words of a line of pieces at the start of `table`, as many as fit, by way of their digits, of which there may be so many; answers

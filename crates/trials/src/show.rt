@@ -24,10 +24,9 @@ pub(crate) fn print_count(to: &mut impl Write, n: usize, unit: &[u8]) -> io::Res
     print(to, unit)
 }
 
-// The first `n` words.
-pub(crate) fn print_words(to: &mut impl Write, table: &[u32], n: usize) -> io::Result<()> {
+pub(crate) fn print_words(to: &mut impl Write, words: &[u32]) -> io::Result<()> {
     print(to, b" =>")?;
-    print_each(to, table.get(..n).unwrap_or(table))
+    print_each(to, words)
 }
 
 // Each after a space.
@@ -38,11 +37,10 @@ pub(crate) fn print_each<T: Display>(to: &mut impl Write, items: &[T]) -> io::Re
     Ok(())
 }
 
-// The first `n` bytes in quotes, with the escapes of `lines`, or how many there are and their checksum.
-pub(crate) fn print_bytes(to: &mut impl Write, out: &[u8], n: usize) -> io::Result<()> {
-    let bytes = out.get(..n).unwrap_or(out);
-    if MOST_SHOWN < n {
-        print_count(to, n, b" bytes, CRC-32 ")?;
+// Bytes in quotes, with the escapes of `lines`, or how many there are and their checksum.
+pub(crate) fn print_bytes(to: &mut impl Write, bytes: &[u8]) -> io::Result<()> {
+    if MOST_SHOWN < bytes.len() {
+        print_count(to, bytes.len(), b" bytes, CRC-32 ")?;
         return print_number(to, u64::from(crc32(bytes)));
     }
     print(to, b" => \"")?;
@@ -52,6 +50,7 @@ pub(crate) fn print_bytes(to: &mut impl Write, out: &[u8], n: usize) -> io::Resu
     print(to, b"\"")
 }
 
+// Kept: the arm is the form of a byte, and each prints.
 fn print_escape(to: &mut impl Write, b: u8) -> io::Result<()> {
     match b {
         b'\n' => print(to, b"\\n"),

@@ -24,7 +24,7 @@ pub(crate) fn most<T>(n: u32, items: &mut [T]) -> &mut [T] {
     &mut items[..room]
 }
 
-// Whether all items from `n` on are equal to one.
-pub(crate) fn are<T: PartialEq>(items: &[T], n: usize, item: &T) -> bool {
-    items.iter().skip(n).all(|x| x == item)
+// Whether all items are equal to one.
+pub(crate) fn are<T: PartialEq>(items: &[T], item: &T) -> bool {
+    items.iter().all(|x| x == item)
 }
