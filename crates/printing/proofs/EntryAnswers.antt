@@ -14,7 +14,8 @@ use Rattle.std.specs.Prelude.{Result, Ok, Err}
 use Rattle.rendering.specs.declared.PrintError.{PrintError}
 use Rattle.rendering.specs.declared.PrintError.TheVariants.{TooLong}
 use Rattle.rendering.specs.Errors.{print_too_long, print_error_number, print_error_place}
-use Rattle.rendering.specs.Tables.{Printable, Held, held, refused, held_by}
+use Rattle.tree.specs.Held.{Held, held, refused}
+use Rattle.rendering.specs.Tables.{Printable, held_for}
 use Rattle.rendering.specs.Render.{Made, Gives, Renders}
 use Rattle.printing.specs.Entries.{most_print, Outcome, written, refusal, stored, print_held, print_table}
 use Rattle.printing.specs.Delivery.{delivered}
@@ -52,7 +53,7 @@ made-length {print} {b} {n = n} m =
 module _ (P : Printable) (b b' : List ℕ) where
   module _ (out : List ℕ) (h : length b ≤ most_print) (k : min (length out) most_print ≤ length b) where
     -- a print in the buffer is stored
-    print-stored : (n : ℕ) (x : Held P.Tree) → Gives P b (Ok n) b' x → delivered (take n b') out ≡ print_held P x out
+    print-stored : (n : ℕ) (x : Held P.kind.Tree) → Gives P b (Ok n) b' x → delivered (take n b') out ≡ print_held P x out
     unfolding delivered stored
     print-stored n (held t) m =
         let e : n ≡ length (P.print t) = (made-length m).0 in
@@ -66,7 +67,7 @@ module _ (P : Printable) (b b' : List ℕ) where
     print-stored n (refused number place) e = let f = e.answers in impossible cc
 
     -- a refusal is the print's
-    print-refused : (error : PrintError) (x : Held P.Tree) → Gives P b (Err error) b' x
+    print-refused : (error : PrintError) (x : Held P.kind.Tree) → Gives P b (Err error) b' x
         → refusal (print_error_number error) (print_error_place error) out ≡ print_held P x out
     unfolding stored
     print-refused error (held t) m =
@@ -84,16 +85,16 @@ module _ (P : Printable) (b b' : List ℕ) where
 -- ---- by what `render` ensures
 
 module _ {P : Printable} {text words b b' : List ℕ} {r : Result ℕ PrintError} (x : Renders P text words b r b') where
-  by_answer : {q : Result ℕ PrintError} → r ≡ q → Gives P b q b' (held_by P text words)
-  by_answer e = subst (λ (q : Result ℕ PrintError). Gives P b q b' (held_by P text words)) e x.gives
+  by_answer : {q : Result ℕ PrintError} → r ≡ q → Gives P b q b' (held_for P text words)
+  by_answer e = subst (λ (q : Result ℕ PrintError). Gives P b q b' (held_for P text words)) e x.gives
 
   module _ (out : List ℕ) (h : length b ≤ most_print) (k : min (length out) most_print ≤ length b) where
     -- the first n bytes of the buffer are the print, and are handed over
     pub handed : {n : ℕ} {o : Outcome} → r ≡ Ok n → o ≡ delivered (take n b') out → o ≡ print_table P text words out
     unfolding print_table
-    handed {n} e d = d ∙ print-stored P b b' out h k n (held_by P text words) (by_answer e)
+    handed {n} e d = d ∙ print-stored P b b' out h k n (held_for P text words) (by_answer e)
 
     -- so is a refusal
     pub refused-too : {error : PrintError} → r ≡ Err error → refusal (print_error_number error) (print_error_place error) out ≡ print_table P text words out
     unfolding print_table
-    refused-too {error} e = print-refused P b b' out h k error (held_by P text words) (by_answer e)
+    refused-too {error} e = print-refused P b b' out h k error (held_for P text words) (by_answer e)

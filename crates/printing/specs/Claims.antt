@@ -1,27 +1,27 @@
 -- What is proved of the prints. `Answered (expressions 2 text format)` is the contract of `print_expression` (format `SingleLine`) and of
 -- `print_expression_lines` (format `MultipleLines` of the start indent), `Answered (programs 2 text)` that of `print_program`: r is the answer,
 -- out the output before the call and out' the output after it. A tree over the text is one whose names are of type `NameIn (length text)`, spans
--- that lie inside it. `expression-laws` and `program-laws` (rendering's TableLaws) are the L of the two.
+-- that lie inside it. `expression-laws` and `program-laws` (tree's HeldLaws) are the L of the two.
 use Rattle.std.specs.Prelude.{ℕ, ◌≡◌, ◌↔◌, ◌⊎◌, List, ◌++◌, length, drop}
 use Rattle.std.proofs.Math.Option.{some}
 use Rattle.tree.specs.Check.{oversized, misfitting}
 use Rattle.std.specs.Prelude.{Result, Ok}
 use Rattle.rendering.specs.declared.PrintError.{PrintError}
+use Rattle.tree.specs.HeldLaws.{Lawful}
 use Rattle.rendering.specs.Tables.{Printable, Within}
-use Rattle.rendering.specs.TableLaws.{Lawful}
 use Rattle.rendering.specs.Errors.{print_too_long, Refuses}
 use Rattle.printing.specs.Entries.{Answered, Fits}
 use Rattle.printing.specs.PrintCases as Cases
 
-module _ (P : Printable) (L : Lawful P) (text words out : List ℕ) (r : Result ℕ PrintError) (out' : List ℕ) (a : Answered P text words out r out') where
+module _ (P : Printable) (L : Lawful P.kind) (text words out : List ℕ) (r : Result ℕ PrintError) (out' : List ℕ) (a : Answered P text words out r out') where
   -- A table that holds the tree t, within the limits: where t's print fits, the answer is its length, and the output is the print followed by
   -- the old bytes.
-  pub tree-printed : (t : P.Tree) → P.words t ≡ words → Within P text words → Fits (P.print t) out
+  pub tree-printed : (t : P.kind.Tree) → P.kind.words t ≡ words → Within P text words → Fits (P.print t) out
       → (r ≡ Ok (length (P.print t))) × (out' ≡ P.print t ++ drop (length (P.print t)) out)
   tree-printed = Cases.tree-printed P L text words out r out' a
 
   -- Nothing else is written.
-  pub written-tree : (n : ℕ) → r ≡ Ok n → Within P text words × ((t : P.Tree) × ((P.words t ≡ words) × Fits (P.print t) out))
+  pub written-tree : (n : ℕ) → r ≡ Ok n → Within P text words × ((t : P.kind.Tree) × ((P.kind.words t ≡ words) × Fits (P.print t) out))
   written-tree = Cases.written-tree P L text words out r out' a
 
   -- Refusal 6: exactly past the limits on the text, the words and the start indent.
@@ -29,15 +29,15 @@ module _ (P : Printable) (L : Lawful P) (text words out : List ℕ) (r : Result 
   refused-6 = Cases.refused-6 P L text words out r out' a
 
   -- Refusal 7: exactly where the table holds no tree, and at the place of the check's refusal.
-  pub refused-7 : ((place : ℕ) × (Refuses r misfitting place)) ↔ (Within P text words × ((t : P.Tree) → P.words t ≡ words → ⊥))
+  pub refused-7 : ((place : ℕ) × (Refuses r misfitting place)) ↔ (Within P text words × ((t : P.kind.Tree) → P.kind.words t ≡ words → ⊥))
   refused-7 = Cases.refused-7 P L text words out r out' a
 
   pub refused-7-place : (place : ℕ)
-      → (Refuses r misfitting place) ↔ (Within P text words × (P.refused words ≡ some (record { number = misfitting; place = place })))
+      → (Refuses r misfitting place) ↔ (Within P text words × (P.kind.refused words ≡ some (record { number = misfitting; place = place })))
   refused-7-place = Cases.refused-7-place P L text words out r out' a
 
   -- Refusal 8: exactly where the print of the table's tree is longer than the output or than 65,536 bytes.
-  pub refused-8 : (Refuses r print_too_long 0) ↔ (Within P text words × ((t : P.Tree) × ((P.words t ≡ words) × (Fits (P.print t) out → ⊥))))
+  pub refused-8 : (Refuses r print_too_long 0) ↔ (Within P text words × ((t : P.kind.Tree) × ((P.kind.words t ≡ words) × (Fits (P.print t) out → ⊥))))
   refused-8 = Cases.refused-8 P L text words out r out' a
 
   -- There is no other refusal, and each leaves the output as it was.

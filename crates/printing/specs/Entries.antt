@@ -2,7 +2,8 @@
 use Rattle.std.specs.Prelude.{ℕ, ◌≤◌, ◌≡◌, ◌&&◌, List, ◌++◌, length, drop, leb}
 use Rattle.lexing.specs.Answer.{pick}
 use Rattle.layout.specs.declared.format.ExprFormatOption.{ExprFormatOption}
-use Rattle.rendering.specs.Tables.{Printable, expressions, programs, Held, held, refused, held_by}
+use Rattle.tree.specs.Held.{Held, held, refused}
+use Rattle.rendering.specs.Tables.{Printable, expressions, programs, held_for}
 use Rattle.rendering.specs.Errors.{print_too_long, print_error_number, print_error_place}
 use Rattle.std.specs.Prelude.{Result, Ok, Err}
 use Rattle.rendering.specs.declared.PrintError.{PrintError}
@@ -30,12 +31,12 @@ stored print out =
 
 module _ (P : Printable) where
   -- by what the table holds: its tree's print, or refusal 6 or 7
-  abbrev pub print_held : Held P.Tree → (out : List ℕ) → Outcome
+  abbrev pub print_held : Held P.kind.Tree → (out : List ℕ) → Outcome
   print_held (held t) out = stored (P.print t) out
   print_held (refused number place) out = refusal number place out
 
   unfoldable pub print_table : (text words out : List ℕ) → Outcome
-  print_table text words out = print_held (held_by P text words) out
+  print_table text words out = print_held (held_for P text words) out
 
   -- the contract of a print: its answer r and the output afterwards
   abbrev pub Answered : (text words out : List ℕ) → Result ℕ PrintError → (out' : List ℕ) → Type 0

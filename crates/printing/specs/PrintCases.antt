@@ -9,9 +9,11 @@ use borrow.Author.Tests.{leb-true, le-leb}
 use Rattle.lexing.specs.RunLaws.{pick-cases, both_true}
 use Rattle.tree.specs.Clash.{impossible}
 use Rattle.tree.specs.Check.{Refusal, oversized, misfitting}
-use Rattle.rendering.specs.Tables.{Printable, Held, Within}
-use Rattle.rendering.specs.TableLaws as tables
-use Rattle.rendering.specs.TableLaws.{Lawful, Table, table}
+use Rattle.tree.specs.Held.{Held}
+use Rattle.tree.specs.HeldLaws as tables
+use Rattle.tree.specs.HeldLaws.{Lawful, Table}
+use Rattle.rendering.specs.Tables.{Printable, Within}
+use Rattle.rendering.specs.TableLaws.{table}
 use Rattle.rendering.specs.Errors.{print_too_long, print_error_number, print_error_place, Refuses}
 use Rattle.std.specs.Prelude.{Result, Ok, Err}
 use Rattle.rendering.specs.declared.PrintError.{PrintError}
@@ -20,11 +22,11 @@ use Rattle.printing.specs.Entries.{most_print, written, refusal, outcome_of, sto
 -- one of the four cases holds of the answer r and of the output afterwards
 pub data Answer (P : Printable) (text words out : List ℕ) (r : Result ℕ PrintError) (out' : List ℕ) : Type 0 where
   over : (Within P text words → ⊥) → Refuses r oversized 0 → out' ≡ out → Answer P text words out r out'
-  misfit : Within P text words → (place : ℕ) → P.refused words ≡ some (record { number = misfitting; place = place }) → Refuses r misfitting place → out' ≡ out
+  misfit : Within P text words → (place : ℕ) → P.kind.refused words ≡ some (record { number = misfitting; place = place }) → Refuses r misfitting place → out' ≡ out
       → Answer P text words out r out'
-  long : Within P text words → (t : P.Tree) → P.words t ≡ words → (Fits (P.print t) out → ⊥) → Refuses r print_too_long 0 → out' ≡ out
+  long : Within P text words → (t : P.kind.Tree) → P.kind.words t ≡ words → (Fits (P.print t) out → ⊥) → Refuses r print_too_long 0 → out' ≡ out
       → Answer P text words out r out'
-  printed : Within P text words → (t : P.Tree) → P.words t ≡ words → Fits (P.print t) out
+  printed : Within P text words → (t : P.kind.Tree) → P.kind.words t ≡ words → Fits (P.print t) out
       → r ≡ Ok (length (P.print t)) → out' ≡ P.print t ++ drop (length (P.print t)) out
       → Answer P text words out r out'
 
@@ -38,9 +40,9 @@ is-written : (r : Result ℕ PrintError) {n : ℕ} {after out' : List ℕ} → o
 is-written (Ok n) e = (cc, cc)
 is-written (Err error) e = impossible cc
 
-module _ (P : Printable) (L : Lawful P) (text words out : List ℕ) (r : Result ℕ PrintError) (out' : List ℕ) where
+module _ (P : Printable) (L : Lawful P.kind) (text words out : List ℕ) (r : Result ℕ PrintError) (out' : List ℕ) where
   -- the cases of a table with a tree's words
-  of_tree : Within P text words → (t : P.Tree) → P.words t ≡ words → stored (P.print t) out ≡ outcome_of r out'
+  of_tree : Within P text words → (t : P.kind.Tree) → P.kind.words t ≡ words → stored (P.print t) out ≡ outcome_of r out'
       → Answer P text words out r out'
   unfolding stored
   of_tree w t h e =
@@ -55,7 +57,7 @@ module _ (P : Printable) (L : Lawful P) (text words out : List ℕ) (r : Result 
       c.0 c.1)
 
   -- the cases of a table
-  of-table : {h : Held P.Tree} → Table P text words h → print_held P h out ≡ outcome_of r out' → Answer P text words out r out'
+  of-table : {h : Held P.kind.Tree} → Table P.kind (Within P text words) words h → print_held P h out ≡ outcome_of r out' → Answer P text words out r out'
   of-table (tables.over n) e = let c = is-refused r (sym e) in over n c.0 c.1
   of-table (tables.misfit w place m) e = let c = is-refused r (sym e) in misfit w place m c.0 c.1
   of-table (tables.tree w t h) e = of_tree w t h e
@@ -87,9 +89,9 @@ not_written e f = let h = f.answers in impossible cc
 
 -- ---- what the claims cite
 
-module _ (P : Printable) (L : Lawful P) (text words out : List ℕ) (r : Result ℕ PrintError) (out' : List ℕ) (a : Answered P text words out r out') where
+module _ (P : Printable) (L : Lawful P.kind) (text words out : List ℕ) (r : Result ℕ PrintError) (out' : List ℕ) (a : Answered P text words out r out') where
   abbrev T : Type 0
-  T = P.Tree
+  T = P.kind.Tree
 
   abbrev print : T → List ℕ
   print t = P.print t
@@ -98,15 +100,15 @@ module _ (P : Printable) (L : Lawful P) (text words out : List ℕ) (r : Result 
   answer = cases P L text words out r out' a
 
   -- a table that holds a tree is no misfit
-  held : (t : T) → P.words t ≡ words → Within P text words → {place : ℕ} → P.refused words ≡ some (record { number = misfitting; place = place }) → ⊥
-  held t h w m = let e = (P.unrefused words).1 (w.words-fit, (t, h)) in impossible cc
+  held : (t : T) → P.kind.words t ≡ words → Within P text words → {place : ℕ} → P.kind.refused words ≡ some (record { number = misfitting; place = place }) → ⊥
+  held t h w m = let e = (P.kind.unrefused words).1 (w.words-fit, (t, h)) in impossible cc
 
   -- a print of one tree with the table's words fits where that of another does
-  fits-too : (t u : T) → P.words t ≡ words → P.words u ≡ words → Fits (print t) out → Fits (print u) out
+  fits-too : (t u : T) → P.kind.words t ≡ words → P.kind.words u ≡ words → Fits (print t) out → Fits (print u) out
   fits-too t u h i f = subst (λ (x : T). Fits (print x) out) (L.same words t u h i) f
 
   -- a tree whose print fits is printed
-  pub tree-printed : (t : T) → P.words t ≡ words → Within P text words → Fits (print t) out
+  pub tree-printed : (t : T) → P.kind.words t ≡ words → Within P text words → Fits (print t) out
       → (r ≡ Ok (length (print t))) × (out' ≡ print t ++ drop (length (print t)) out)
   tree-printed t h w f =
       elim answer [
@@ -118,7 +120,7 @@ module _ (P : Printable) (L : Lawful P) (text words out : List ℕ) (r : Result 
       ]
 
   -- what is written is such a print
-  pub written-tree : (n : ℕ) → r ≡ Ok n → Within P text words × ((t : T) × ((P.words t ≡ words) × Fits (print t) out))
+  pub written-tree : (n : ℕ) → r ≡ Ok n → Within P text words × ((t : T) × ((P.kind.words t ≡ words) × Fits (print t) out))
   written-tree n e =
       elim answer [
         | over m f k ↦ not_written e f
@@ -141,7 +143,7 @@ module _ (P : Printable) (L : Lawful P) (text words out : List ℕ) (r : Result 
 
   -- refusal 7 exactly where the check refuses by 7, at its place
   pub refused-7-place : (place : ℕ)
-      → (Refuses r misfitting place) ↔ (Within P text words × (P.refused words ≡ some (record { number = misfitting; place = place })))
+      → (Refuses r misfitting place) ↔ (Within P text words × (P.kind.refused words ≡ some (record { number = misfitting; place = place })))
   refused-7-place place = (
     λ e. elim answer [
       | over n f k ↦ let z : ◌≡◌ {A = ℕ} 7 6 = one_number e f in absurd (omega arith)
@@ -158,7 +160,7 @@ module _ (P : Printable) (L : Lawful P) (text words out : List ℕ) (r : Result 
   )
 
   -- and exactly where the table holds no tree
-  pub refused-7 : ((place : ℕ) × (Refuses r misfitting place)) ↔ (Within P text words × ((t : T) → P.words t ≡ words → ⊥))
+  pub refused-7 : ((place : ℕ) × (Refuses r misfitting place)) ↔ (Within P text words × ((t : T) → P.kind.words t ≡ words → ⊥))
   refused-7 = (
     λ e. let h = (refused-7-place e.0).0 e.1 in (h.0, λ t i. held t i h.0 h.1),
     λ h. elim answer [
@@ -170,7 +172,7 @@ module _ (P : Printable) (L : Lawful P) (text words out : List ℕ) (r : Result 
   )
 
   -- refusal 8 exactly where the print does not fit
-  pub refused-8 : (Refuses r print_too_long 0) ↔ (Within P text words × ((t : T) × ((P.words t ≡ words) × (Fits (print t) out → ⊥))))
+  pub refused-8 : (Refuses r print_too_long 0) ↔ (Within P text words × ((t : T) × ((P.kind.words t ≡ words) × (Fits (print t) out → ⊥))))
   refused-8 = (
     λ e. elim answer [
       | over n f k ↦ let z : ◌≡◌ {A = ℕ} 8 6 = one_number e f in absurd (omega arith)

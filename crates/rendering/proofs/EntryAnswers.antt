@@ -5,6 +5,7 @@ use mathlib.Core.Path.{◌≡◌, refl, sym, ap, ◌∙◌, subst}
 use mathlib.Core.Option.{Option, none}
 use mathlib.Core.List.{List, [], append-nil}
 use lib.ListN.{length, take}
+use lib.Dec.{leb}
 use borrow.Author.Tests.{le-leb, lt-leb}
 use Rattle.tree.specs.Clash.{impossible}
 use Rattle.tree.specs.Limits.{most_text, most_words}
@@ -20,8 +21,10 @@ use Rattle.rendering.specs.declared.PrintError.TheVariants.{Oversized, Misfit, T
 use Rattle.rendering.specs.Errors.{of_check}
 use Rattle.rendering.specs.declared.Root.{Root}
 use Rattle.rendering.specs.declared.Root.TheVariants.{AnExpression, AProgram}
-use Rattle.rendering.specs.Tables.{most_indent, Printable, print_of, program_print_of, Held, held, refused, held_by, Within}
-use Rattle.rendering.specs.TableLaws.{Lawful, expression-laws, program-laws, holds, refuses, long-text, deep-indent}
+use Rattle.tree.specs.Held.{Held, held, refused}
+use Rattle.tree.specs.HeldLaws.{Lawful, expression-laws, program-laws, refuses, long-text, past-limit}
+use Rattle.rendering.specs.Tables.{most_indent, Printable, print_of, program_print_of, held_for, Within}
+use Rattle.rendering.specs.TableLaws.{holds}
 use Rattle.rendering.specs.Wrote.{Wrote}
 use Rattle.rendering.specs.Parts.{Prints}
 use Rattle.rendering.specs.ExprParts.{most_step}
@@ -55,17 +58,17 @@ longer {X} {b} w h =
 -- ---- the print of a table's tree
 
 -- an accepted table is no longer than a table may be
-few : (P : Printable) (words : List ℕ) → P.refused words ≡ none → length words ≤ most_words
-few P words e = ((P.unrefused words).0 e).0
+few : (P : Printable) (words : List ℕ) → P.kind.refused words ≡ none → length words ≤ most_words
+few P words e = ((P.kind.unrefused words).0 e).0
 
 -- what the check that accepts a table notes are the numbers of items
 pub numbered : (text words before : List ℕ) (step : ℕ) (root : Root) {after : List ℕ} → (length words ≤ most_words → length words ≤ length before)
-    → (rooted step text root).refused words ≡ none → after ≡ root_counts root words (length text) before → Numbered text words after step root
+    → (rooted step text root).kind.refused words ≡ none → after ≡ root_counts root words (length text) before → Numbered text words after step root
 numbered text words before step root {after} h e f =
     let l : length words ≤ most_words = few (rooted step text root) words e in
     record { few = l; counted = λ t d. subst (λ (c : List ℕ). RootCounted text words c step root t) (sym f) (by-root root t d l (h l)) }
   where
-    by-root : (r : Root) (t : (rooted step text r).Tree) → (rooted step text r).words t ≡ words → length words ≤ most_words → length words ≤ length before
+    by-root : (r : Root) (t : (rooted step text r).kind.Tree) → (rooted step text r).kind.words t ≡ words → length words ≤ most_words → length words ≤ length before
         → RootCounted text words (root_counts r words (length text) before) step r t
     by-root (AnExpression format) t d l m = expression-counted words (length text) before t d l m
     by-root AProgram t d l m = program-counted words (length text) before t d l m
@@ -74,8 +77,8 @@ numbered text words before step root {after} h e f =
 written : (root : Root) {s s' : Printer} {r : Result ℕ PrintError} → s.at ≡ 0 → s.pos ≡ 0 → s.source.step ≤ most_step → root_indent root ≤ most_indent
     → length s.source.words.now ≤ most_words → Prints (root_part root) s s'
     → ((X : List ℕ → List ℕ) → Wrote X s.out.now 0 s'.out.now s'.pos → Made (X []) s.out.now r s'.out.now)
-    → (t : (rooted s.source.step s.source.text.now root).Tree) → RootCounted s.source.text.now s.source.words.now s.source.counts.now s.source.step root t
-    → (rooted s.source.step s.source.text.now root).words t ≡ s.source.words.now → Made ((rooted s.source.step s.source.text.now root).print t) s.out.now r s'.out.now
+    → (t : (rooted s.source.step s.source.text.now root).kind.Tree) → RootCounted s.source.text.now s.source.words.now s.source.counts.now s.source.step root t
+    → (rooted s.source.step s.source.text.now root).kind.words t ≡ s.source.words.now → Made ((rooted s.source.step s.source.text.now root).print t) s.out.now r s'.out.now
 unfolding print_of program_print_of
 written (AnExpression format) {s} e p m i l x k t c f = k _ (rw p at (x.prints t [] (record { few = l; short = m; room = omega arith }, c) (rw e (sym f))).wrote)
 written AProgram {s} e p m i l x k t c f = k _ (rw p at (x.prints t [] (record { few = l; short = m; room = omega arith }, c) (rw e (sym f))).wrote)
@@ -92,9 +95,9 @@ module _ (root : Root) {s s' : Printer} (e : s.at ≡ 0) (p : s.pos ≡ 0) (m : 
 -- ---- by the root
 
 -- each root's trees are lawful, and have its start indent
-pub root_laws : (step : ℕ) (text : List ℕ) (root : Root) → Lawful (rooted step text root)
-root_laws step text (AnExpression format) = expression-laws step text format
-root_laws step text AProgram = program-laws step text
+pub root_laws : (step : ℕ) (text : List ℕ) (root : Root) → Lawful (rooted step text root).kind
+root_laws step text (AnExpression format) = expression-laws text
+root_laws step text AProgram = program-laws text
 
 root-indent : (step : ℕ) (text : List ℕ) (root : Root) → (rooted step text root).indent ≡ root_indent root
 root-indent step text (AnExpression format) = refl
@@ -102,10 +105,10 @@ root-indent step text AProgram = refl
 
 -- the check of a table by its root
 pub checked-by : (text words before : List ℕ) (step : ℕ) {root k : Root} {q : Option Refusal} {after : List ℕ} → root ≡ k
-    → (q ≡ (rooted step text k).refused words) × (after ≡ root_counts k words (length text) before)
-    → (q ≡ (rooted step text root).refused words) × (after ≡ root_counts root words (length text) before)
+    → (q ≡ (rooted step text k).kind.refused words) × (after ≡ root_counts k words (length text) before)
+    → (q ≡ (rooted step text root).kind.refused words) × (after ≡ root_counts root words (length text) before)
 checked-by text words before step {q = q} {after = after} e x =
-    subst (λ (r : Root). (q ≡ (rooted step text r).refused words) × (after ≡ root_counts r words (length text) before)) (sym e) x
+    subst (λ (r : Root). (q ≡ (rooted step text r).kind.refused words) × (after ≡ root_counts r words (length text) before)) (sym e) x
 
 -- ---- the refusals, and the print of an accepted table
 
@@ -114,27 +117,27 @@ module _ (step : ℕ) (root : Root) (text words b b' : List ℕ) where
   P = rooted step text root
 
   -- what the table is refused by
-  by-held : {r : Result ℕ PrintError} (h : Held P.Tree) → held_by P text words ≡ h → Gives P b r b' h → Renders P text words b r b'
-  by-held {r} h e g = record { gives = subst (λ (x : Held P.Tree). Gives P b r b' x) (sym e) g }
+  by-held : {r : Result ℕ PrintError} (h : Held P.kind.Tree) → held_for P text words ≡ h → Gives P b r b' h → Renders P text words b r b'
+  by-held {r} h e g = record { gives = subst (λ (x : Held P.kind.Tree). Gives P b r b' x) (sym e) g }
 
   -- a text that is too long, and a start indent that is too large, are refused by 6
   pub over-text : most_text < length text → Renders P text words b (Err Oversized) b'
-  over-text h = by-held (refused oversized 0) (long-text P text words h) (record { error = Oversized; answers = refl; numbered = refl; placed = refl })
+  over-text h = by-held (refused oversized 0) (long-text P.kind text words (leb P.indent most_indent) h) (record { error = Oversized; answers = refl; numbered = refl; placed = refl })
 
   pub over-indent : most_indent < root_indent root → Renders P text words b (Err Oversized) b'
-  over-indent h = by-held (refused oversized 0) (deep-indent P text words (rw (root-indent step text root) h)) (record { error = Oversized; answers = refl; numbered = refl; placed = refl })
+  over-indent h = by-held (refused oversized 0) (past-limit P.kind text words (lt-leb _ _ (rw (root-indent step text root) h))) (record { error = Oversized; answers = refl; numbered = refl; placed = refl })
 
   module _ (t : length text ≤ most_text) (i : root_indent root ≤ most_indent) where
     -- the check's refusal is the answer
-    pub refused-table : (e : CheckError) → P.refused words ≡ check_refusal (Err e) → Renders P text words b (Err (of_check e)) b'
+    pub refused-table : (e : CheckError) → P.kind.refused words ≡ check_refusal (Err e) → Renders P text words b (Err (of_check e)) b'
     refused-table (CheckMisfit place) e =
-        by-held (refused misfitting place) (refuses P text words t (rw (root-indent step text root) i) _ e) (record { error = Misfit place; answers = refl; numbered = refl; placed = refl })
+        by-held (refused misfitting place) (refuses P.kind text words t (le-leb _ _ (rw (root-indent step text root) i)) _ e) (record { error = Misfit place; answers = refl; numbered = refl; placed = refl })
     refused-table CheckTooManyWords e =
-        by-held (refused oversized 0) (refuses P text words t (rw (root-indent step text root) i) _ e) (record { error = Oversized; answers = refl; numbered = refl; placed = refl })
+        by-held (refused oversized 0) (refuses P.kind text words t (le-leb _ _ (rw (root-indent step text root) i)) _ e) (record { error = Oversized; answers = refl; numbered = refl; placed = refl })
 
     -- the print of an unrefused table's tree is the answer
-    pub accepted : {r : Result ℕ PrintError} → P.refused words ≡ none → Makes P words b r b' → Renders P text words b r b'
+    pub accepted : {r : Result ℕ PrintError} → P.kind.refused words ≡ none → Makes P words b r b' → Renders P text words b r b'
     accepted e x =
-        let a = (P.unrefused words).0 e in
+        let a = (P.kind.unrefused words).0 e in
         let w : Within P text words = record { text-fits = t; words-fit = a.0; indent-fits = rw (root-indent step text root) i } in
-        by-held (held a.1.0) (holds P text words (root_laws step text root) a.1.0 a.1.1 w) (x.made a.1.0 a.1.1)
+        by-held (held a.1.0) (holds P (root_laws step text root) text words a.1.0 a.1.1 w) (x.made a.1.0 a.1.1)

@@ -5,24 +5,26 @@ use Rattle.std.proofs.Common.{◌∙◌, refl, le-leb}
 use Rattle.std.proofs.lemmas.Bool.{lt-leb}
 use Rattle.rendering.specs.declared.PrintError.{PrintError}
 use Rattle.rendering.specs.declared.PrintError.TheVariants.{TooLong}
-use Rattle.rendering.specs.Tables.{Printable, refused, held_by, Within}
-use Rattle.rendering.specs.TableLaws.{Lawful, Table, table, holds}
+use Rattle.tree.specs.Held.{refused}
+use Rattle.tree.specs.HeldLaws.{Lawful, Table}
+use Rattle.rendering.specs.Tables.{Printable, held_for, Within}
+use Rattle.rendering.specs.TableLaws.{table, holds}
 use Rattle.rendering.specs.Errors.{print_too_long, Refuses}
 use Rattle.rendering.specs.Render.{Made, Renders}
 
 -- Every table is one of the three; which, its words and the limits decide.
-pub table-cases : (P : Printable) → Lawful P → (text words : List ℕ) → Table P text words (held_by P text words)
+pub table-cases : (P : Printable) → Lawful P.kind → (text words : List ℕ) → Table P.kind (Within P text words) words (held_for P text words)
 table-cases P L text words = table P L text words
 
 module _ (P : Printable) (text words b : List ℕ) (r : Result ℕ PrintError) (b' : List ℕ) (h : Renders P text words b r b') where
   -- A refused table is refused so.
-  pub refused-so : (number place : ℕ) → held_by P text words ≡ refused number place → Refuses r number place
+  pub refused-so : (number place : ℕ) → held_for P text words ≡ refused number place → Refuses r number place
   refused-so number place e = rw e at h.gives
 
   -- of a table that holds a tree
-  module _ (L : Lawful P) (t : P.Tree) (e : P.words t ≡ words) (w : Within P text words) where
+  module _ (L : Lawful P.kind) (t : P.kind.Tree) (e : P.kind.words t ≡ words) (w : Within P text words) where
     made : Made (P.print t) b r b'
-    made = rw (holds P text words L t e w) at h.gives
+    made = rw (holds P L text words t e w) at h.gives
 
     -- A tree whose print the buffer has room for is printed at the buffer's start.
     pub rendered : length (P.print t) ≤ length b → (r ≡ Ok (length (P.print t))) × (take (length (P.print t)) b' ≡ P.print t)

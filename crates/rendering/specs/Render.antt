@@ -11,7 +11,8 @@ use Rattle.rendering.specs.Errors.{Refuses}
 use Rattle.rendering.specs.declared.Root.{Root}
 use Rattle.rendering.specs.declared.Root.TheVariants.{AnExpression, AProgram}
 use Rattle.layout.specs.PrintUtil.{start_indent, Init}
-use Rattle.rendering.specs.Tables.{Printable, expressions, programs, Held, held, refused, held_by}
+use Rattle.tree.specs.Held.{Held, held, refused}
+use Rattle.rendering.specs.Tables.{Printable, expressions, programs, held_for}
 use Rattle.rendering.specs.Parts.{Parts}
 use Rattle.rendering.specs.ExprParts.{an_expr}
 use Rattle.rendering.specs.DeclParts.{a_program}
@@ -38,14 +39,14 @@ root_part AProgram = a_program
 
 module _ (text table counts : List ℕ) (step : ℕ) where
   -- the numbers of a tree's sequences
-  abbrev pub RootCounted : (root : Root) → (rooted step text root).Tree → Type 0
+  abbrev pub RootCounted : (root : Root) → (rooted step text root).kind.Tree → Type 0
   RootCounted (AnExpression format) t = CountedExpr {N = NameIn (length text)} (λ n. n.span) counts (length table) t []
   RootCounted AProgram t = CountedProgram {N = NameIn (length text)} (λ n. n.span) counts (length table) t []
 
   -- what the print of a table needs: as many words as a checked table has at most, and the numbers of its tree
   pub record Numbered (root : Root) : Type 0 where
     pub few : length table ≤ most_words
-    pub counted : (t : (rooted step text root).Tree) → (rooted step text root).words t ≡ table → RootCounted root t
+    pub counted : (t : (rooted step text root).kind.Tree) → (rooted step text root).kind.words t ≡ table → RootCounted root t
 
 -- a print stands at the start of the buffer b, which became b', and its length is answered; or it is longer than the buffer
 pub record Made (print b : List ℕ) (r : Result ℕ PrintError) (b' : List ℕ) : Type 0 where
@@ -53,15 +54,15 @@ pub record Made (print b : List ℕ) (r : Result ℕ PrintError) (b' : List ℕ)
   pub bytes : (n : ℕ) → r ≡ Ok n → take n b' ≡ print
 
 -- the answer and the buffer by what the table holds
-abbrev pub Gives : (P : Printable) (b : List ℕ) (r : Result ℕ PrintError) (b' : List ℕ) → Held P.Tree → Type 0
+abbrev pub Gives : (P : Printable) (b : List ℕ) (r : Result ℕ PrintError) (b' : List ℕ) → Held P.kind.Tree → Type 0
 Gives P b r b' (held t) = Made (P.print t) b r b'
 Gives P b r b' (refused number place) = Refuses r number place
 
 -- What `render` ensures of its answer r and the buffer b, which becomes b'. The buffer's bytes that no print occupies are free, after a refusal
 -- all of them.
 pub record Renders (P : Printable) (text words b : List ℕ) (r : Result ℕ PrintError) (b' : List ℕ) : Type 0 where
-  pub gives : Gives P b r b' (held_by P text words)
+  pub gives : Gives P b r b' (held_for P text words)
 
 -- the same by the tree whose words a checked table has
 pub record Makes (P : Printable) (words b : List ℕ) (r : Result ℕ PrintError) (b' : List ℕ) : Type 0 where
-  pub made : (t : P.Tree) → P.words t ≡ words → Made (P.print t) b r b'
+  pub made : (t : P.kind.Tree) → P.kind.words t ≡ words → Made (P.print t) b r b'

@@ -100,7 +100,7 @@ impl Root {
     // The check of a table, with the numbers of its sequences' items.
     // Kept: as `render`, before there is a `Source`.
     fn count(self, text: &[u8], words: &[u32], counts: &mut [u16]) -> Result<(), CheckError>
-        ensures { (refusal result ≡ (rooted 2 text.now self).refused words.now) × (counts.new ≡ root_counts self words.now (length text.now) counts.old) }
+        ensures { (refusal result ≡ (rooted 2 text.now self).kind.refused words.now) × (counts.new ≡ root_counts self words.now (length text.now) counts.old) }
     {
         match self {
             Root::AnExpression(_) => count_expression(words, text.len(), counts),

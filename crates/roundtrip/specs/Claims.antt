@@ -14,7 +14,7 @@ use Rattle.lexing.specs.declared.refusal.Refusal.{Refusal}
 use Rattle.layout.specs.declared.format.ExprFormatOption.{ExprFormatOption}
 use Rattle.rendering.specs.declared.PrintError.{PrintError}
 use Rattle.layout.specs.PrintUtil.{Init}
-use Rattle.rendering.specs.Tables.{Holds}
+use Rattle.tree.specs.Held.{Holds}
 use Rattle.printing.specs.Entries.{PrintAnswered, ProgramAnswered}
 use Rattle.roundtrip.specs.Nesting.{nesting}
 use Rattle.roundtrip.specs.SmallNaturals.{Words32}

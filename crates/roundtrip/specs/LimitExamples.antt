@@ -12,9 +12,10 @@ use Rattle.tree.specs.Check.{NameIn}
 use Rattle.tree.specs.Resolve.{part}
 use Rattle.layout.specs.declared.format.ExprFormatOption.TheVariants.{SingleLine, MultipleLines}
 use Rattle.layout.specs.Examples.{computed}
-use Rattle.rendering.specs.Tables.{expressions, print_of, held_by}
+use Rattle.tree.specs.Held.{held_by}
+use Rattle.rendering.specs.Tables.{expressions, print_of}
 use Rattle.printing.specs.Entries.{most_print, written, refusal, stored, print_table, print_expression}
-use Rattle.rendering.specs.TableLaws.{expression-laws}
+use Rattle.tree.specs.HeldLaws.{expression-laws}
 use Rattle.printing.specs.EntryLaws.{prints}
 
 -- ---- the start indent
@@ -26,7 +27,7 @@ name-words = 4 ∷ 0 ∷ 1 ∷ 0 ∷ []
 indent-255 : print_expression 2 (bytes "a") name-words (MultipleLines 255) (bytes "~~") ≡ written 1 (bytes "a~")
 unfolding computed print_of stored part
 indent-255 =
-    prints (expressions 2 (bytes "a") (MultipleLines 255)) (bytes "a") name-words (bytes "~~") (expression-laws 2 (bytes "a") (MultipleLines 255))
+    prints (expressions 2 (bytes "a") (MultipleLines 255)) (bytes "a") name-words (bytes "~~") (expression-laws (bytes "a"))
     (IdExpr (record { span = record { start = 0; len = 1 }; inside = lit≤ tt }) false) refl (lit≤ tt) (lit≤ tt) (lit≤ tt)
 
 indent-256 : print_expression 2 (bytes "a") name-words (MultipleLines 256) (bytes "~~") ≡ refusal 6 0 (bytes "~~")
@@ -75,7 +76,7 @@ module _ (text : List ℕ) (full : length text ≡ 32768) where
   sum-stored : (n : ℕ) → n ≤ 32768 → (out : List ℕ) → print_expression 2 text (sum-words n) SingleLine out ≡ stored (sum-print n) out
   unfolding computed print_of
   sum-stored n h out =
-      prints (expressions 2 text SingleLine) text (sum-words n) out (expression-laws 2 text SingleLine) (sum n h) refl (omega arith) (lit≤ tt) (lit≤ tt)
+      prints (expressions 2 text SingleLine) text (sum-words n) out (expression-laws text) (sum n h) refl (omega arith) (lit≤ tt) (lit≤ tt)
       ∙ ap (λ (p : List ℕ). stored p out) (simp append-nil)
 
   print-65536 : (out : List ℕ) → 65536 ≤ length out

@@ -21,9 +21,10 @@ use Rattle.std.specs.Prelude.{Result, Ok}
 use Rattle.layout.specs.declared.format.ExprFormatOption.{ExprFormatOption}
 use Rattle.layout.specs.PrintUtil.{Init}
 use Rattle.layout.specs.Printer.{Expression}
-use Rattle.rendering.specs.Tables.{name_in, expressions, print_of, Holds}
+use Rattle.tree.specs.Held.{Holds}
+use Rattle.rendering.specs.Tables.{name_in, expressions, print_of}
 use Rattle.printing.specs.Entries.{PrintAnswered}
-use Rattle.rendering.specs.TableLaws.{same-tree, expression-laws}
+use Rattle.tree.specs.HeldLaws.{same-tree, expression-laws}
 use Rattle.printing.specs.Claims.{tree-printed, written-tree}
 use Rattle.roundtrip.specs.Nesting.{nesting}
 use Rattle.roundtrip.specs.Derived.{printed-derives}
@@ -67,10 +68,10 @@ module _ (text words out out' : List ℕ) (format : ExprFormatOption) (n : ℕ) 
   is-print : print 2 format (tree_in text e) ≡ take n out'
   unfolding print_of print
   is-print =
-      let w = written-tree (expressions 2 text format) (expression-laws 2 text format) text words out (Ok n) out' a n refl in
+      let w = written-tree (expressions 2 text format) (expression-laws text) text words out (Ok n) out' a n refl in
       let t : Expr (NameIn (length text)) = w.1.0 in
       let p = print_of 2 text format t in
-      let q = tree-printed (expressions 2 text format) (expression-laws 2 text format) text words out (Ok n) out' a t w.1.1.0 w.0 w.1.1.1 in
+      let q = tree-printed (expressions 2 text format) (expression-laws text) text words out (Ok n) out' a t w.1.1.0 w.0 w.1.1.1 in
       let k : length p ≡ n = cc q.0 in
       let same : t ≡ e = same-tree text words t e w.1.1.0 holds in
       sym (print-named (name_in text) 2 e Init format [])
@@ -101,7 +102,7 @@ module _ (text words out out' : List ℕ) (format : ExprFormatOption) (n : ℕ) 
     keeps m h =
         let t = tree_in text e in
         let c : word_count t ≡ length words = counted in
-        let few : length words ≤ most_words = (written-tree (expressions 2 text format) (expression-laws 2 text format) text words out (Ok n) out' a n refl).0.words-fit in
+        let few : length words ≤ most_words = (written-tree (expressions 2 text format) (expression-laws text) text words out (Ok n) out' a n refl).0.words-fit in
         let k : length (print 2 format t) ≤ most_text = rw is-print (omega (arith, length-take n out')) in
         subst (λ p. DerivesWithin m p t) is-print
         (print-keeps 2 format m t x (words_small (name_in text) e [] (subst Words32 (sym holds) w)) k flat (omega arith) (omega arith))

@@ -13,7 +13,7 @@ use Rattle.rendering.specs.declared.PrintError.{PrintError}
 use Rattle.rendering.specs.Errors.{Refuses}
 use Rattle.rendering.specs.Tables.{most_indent, Printable, Within, programs}
 use Rattle.printing.specs.Entries.{Answered, ProgramAnswered}
-use Rattle.rendering.specs.TableLaws.{Lawful, program-laws}
+use Rattle.tree.specs.HeldLaws.{Lawful, program-laws}
 use Rattle.printing.specs.Claims as Printer
 
 -- an answer that is no refusal by 6 and none by 7
@@ -31,10 +31,10 @@ read_fits words_of text a n {k} {l} p = by_length (leb (length text) most_text) 
     by_length false q p = impossible cc
 
 -- a table that the check accepts, over a text that is not too long
-pub accepted-unrefused : (P : Printable) (L : Lawful P) (text table out out' : List ℕ) (r : Result ℕ PrintError) → Answered P text table out r out' → length text ≤ most_text → P.indent ≤ most_indent
-    → P.refused table ≡ none → Unrefused r
+pub accepted-unrefused : (P : Printable) (L : Lawful P.kind) (text table out out' : List ℕ) (r : Result ℕ PrintError) → Answered P text table out r out' → length text ≤ most_text → P.indent ≤ most_indent
+    → P.kind.refused table ≡ none → Unrefused r
 accepted-unrefused P L text table out out' r a t i e =
-    let w : Within P text table = record { text-fits = t; words-fit = ((P.unrefused table).0 e).0; indent-fits = i } in
+    let w : Within P text table = record { text-fits = t; words-fit = ((P.kind.unrefused table).0 e).0; indent-fits = i } in
     record {
       within = λ h. (Printer.refused-6 P L text table out r out' a).0 h w;
       one-tree = λ place h. let g = ((Printer.refused-7-place P L text table out r out' a place).0 h).1 in impossible cc;
@@ -45,5 +45,5 @@ pub program-unrefused : (text : List ℕ) (n k : ℕ) (table out out' : List ℕ
     → Unrefused r
 unfolding read_program read_tree_of_program
 program-unrefused text n k table out out' r e a =
-    accepted-unrefused (programs 2 text) (program-laws 2 text) text (take k table) out out' r a
+    accepted-unrefused (programs 2 text) (program-laws text) text (take k table) out out' r a
     (read_fits (λ p. program_words (λ s. s) p []) text (parse_program text) n e) (lit≤ tt) (Grammar.read-program-accepted text n k table e)

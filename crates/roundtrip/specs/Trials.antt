@@ -17,7 +17,7 @@ use Rattle.rendering.specs.Tables.{expressions, print_of}
 use Rattle.printing.specs.Entries.{written, stored, print_expression}
 use Rattle.printing.specs.Entries as Printing
 use Rattle.printing.specs.EntryLaws as Entry
-use Rattle.rendering.specs.TableLaws.{expression-laws}
+use Rattle.tree.specs.HeldLaws.{expression-laws}
 
 -- a row of the list
 pub data Trial : Type 0 where
@@ -67,7 +67,7 @@ c = name 2 (lit≤ tt)
 
 printed : (e : Expr (NameIn 3)) (ws : List ℕ) → expr_words (λ n. n.span) e [] ≡ ws → length ws ≤ 16384
     → print_expression 2 (bytes "abc") ws SingleLine (bytes "~~~~~~~~~~~~~~~~") ≡ stored (print_of 2 (bytes "abc") SingleLine e) (bytes "~~~~~~~~~~~~~~~~")
-printed e ws h l = Entry.prints (expressions 2 (bytes "abc") SingleLine) (bytes "abc") ws (bytes "~~~~~~~~~~~~~~~~") (expression-laws 2 (bytes "abc") SingleLine) e h (lit≤ tt) l (lit≤ tt)
+printed e ws h l = Entry.prints (expressions 2 (bytes "abc") SingleLine) (bytes "abc") ws (bytes "~~~~~~~~~~~~~~~~") (expression-laws (bytes "abc")) e h (lit≤ tt) l (lit≤ tt)
 
 -- the theorem
 pub trials-given : Given trials

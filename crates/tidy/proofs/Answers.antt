@@ -17,7 +17,7 @@ use Rattle.grammar.proofs.Claims.{read-program-accepted, program-table-long}
 use Rattle.reading.specs.TreeRead.{ProgramAnswered}
 use Rattle.rendering.specs.Errors.{print_error_number, print_error_place}
 use Rattle.rendering.specs.Tables.{programs}
-use Rattle.rendering.specs.TableLaws.{program-laws}
+use Rattle.tree.specs.HeldLaws.{program-laws}
 use Rattle.rendering.specs.declared.PrintError.{PrintError}
 use Rattle.printing.specs.Entries.{written, refusal as unprinted, print_program}
 use Rattle.printing.specs.Entries.{ProgramAnswered as ProgramPrinted}
@@ -39,8 +39,8 @@ module _ (text ws out : List ℕ) (r : Result ℕ PrintError) (out' : List ℕ) 
   pub print-gives : {n : ℕ} → r ≡ Ok n → Gives (of_print (print_program 2 text ws out)) (Ok n) out'
   print-gives {n} e =
       let o : written n out' ≡ print_program 2 text ws out = rw e at a in
-      let w = written-tree (programs 2 text) (program-laws 2 text) text ws out r out' a n e in
-      let p = tree-printed (programs 2 text) (program-laws 2 text) text ws out r out' a w.1.0 w.1.1.0 w.0 w.1.1.1 in
+      let w = written-tree (programs 2 text) (program-laws text) text ws out r out' a n e in
+      let p = tree-printed (programs 2 text) (program-laws text) text ws out r out' a w.1.0 w.1.1.0 w.0 w.1.1.1 in
       let h : ◌≡◌ {A = Result ℕ PrintError} (Ok n) (Ok (length ((programs 2 text).print w.1.0))) = sym e ∙ p.0 in
       let k : n ≡ length ((programs 2 text).print w.1.0) = cc in
       let l : n ≤ length out' = omega (arith, k, simp length-append at (ap length p.1)) in

@@ -12,7 +12,7 @@ use Rattle.tree.specs.Check.{NameIn, program_refusal}
 use Rattle.grammar.specs.Reading.{Outcome, words, refusal, read_program}
 use Rattle.grammar.proofs.Tables.{gist, short, program-gist}
 use Rattle.rendering.specs.Tables.{programs, program_print_of}
-use Rattle.rendering.specs.TableLaws.{program-laws}
+use Rattle.tree.specs.HeldLaws.{program-laws}
 use Rattle.printing.specs.Entries.{most_print, Outcome as PrintOutcome, written, refusal as unprinted, stored, print_program}
 use Rattle.printing.specs.EntryLaws.{prints}
 use Rattle.tidy.specs.Tidy.{Answered, refusal_number, of_print, of_reading, tidied}
@@ -57,7 +57,7 @@ module _ (text ws out : List ℕ) (short : length text ≤ most_text) (accepted 
   pub print-stores : Stores text ws out
   print-stores =
       let a = (program-unrefused ws (length text)).0 accepted in
-      record { tree = a.1.0; holds = a.1.1; stores = prints (programs 2 text) text ws out (program-laws 2 text) a.1.0 a.1.1 short a.0 (omega arith) }
+      record { tree = a.1.0; holds = a.1.1; stores = prints (programs 2 text) text ws out (program-laws text) a.1.0 a.1.1 short a.0 (omega arith) }
 
   pub print-limited : Limited out (print_program 2 text ws out)
   print-limited = subst (Limited out) (sym print-stores.stores) (stored-limited _ out)

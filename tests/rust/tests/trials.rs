@@ -1,20 +1,28 @@
-//! The stored cases of the program `trials` (crates/trials): what it is to answer about readings and prints, by this
-//! implementation. crates/trials/src/main.rt says what a case's line has, crates/trials/src/pieces.rt what a text or
-//! a table of pieces is.
+//! The stored cases of the program `trials` (crates/trials): what it is to answer about outlines, numbers of names,
+//! readings and prints, by this implementation. crates/trials/src/main.rt says what a case's line has,
+//! crates/trials/src/pieces.rt what a text or a table of pieces is.
 
 use b3_compare::escape::{escape, unescape};
+use b3_compare::numbering::number_spans;
 use b3_compare::print::check_print_input;
 use b3_compare::refusal::{OUTPUT_LIMIT, TABLE_LIMIT};
-use b3_compare::words::{decode_expression, decode_program, encode_expression, encode_program};
+use b3_compare::words::{
+    decode_expression, decode_program, encode_expression, encode_program, outline_program,
+};
 use b3_compare::{on_deep_stack, print_expression, print_program, read_expression, read_program};
 use b3_compare::{Format, Refusal};
 use std::{fs, path::PathBuf};
 
-/// What the program has room for: a text's bytes, a table's words.
+/// What the program has room for: a text's bytes, a table's words, and of names the text's bytes, the words of spans
+/// and the numbers.
 const TEXT: usize = 32_772;
 const WORDS: usize = 16_400;
-/// A longer print is shown by its checksum.
+const LONG_TEXT: usize = 65_540;
+const SPANS: usize = 65_540;
+const NUMBERS: usize = 32_772;
+/// A longer print is shown by its checksum, and so are more numbers.
 const MOST_SHOWN: usize = 4_096;
+const MOST_NUMBERS: usize = 256;
 
 fn lines(file: &str) -> Vec<String> {
     let path = PathBuf::from(env!("CARGO_MANIFEST_DIR")).join("../../crates/trials").join(file);
@@ -29,23 +37,23 @@ fn number(line: &str) -> (usize, &str) {
     (value as usize, line.get(digits + 1..).unwrap_or(""))
 }
 
-fn text(pieces: &str) -> Vec<u8> {
+fn text(pieces: &str, most: usize) -> Vec<u8> {
     let mut text = Vec::new();
     for piece in pieces.split_terminator(';') {
         let (count, bytes) = number(piece);
         let bytes = unescape(bytes).expect("a piece's escapes are whole");
         (0..count).for_each(|_| text.extend_from_slice(&bytes));
     }
-    text.truncate(TEXT);
+    text.truncate(most);
     text
 }
 
-fn table(pieces: &str) -> Vec<u32> {
+fn table(pieces: &str, most: usize) -> Vec<u32> {
     let digits: String =
         pieces.split_terminator(';').map(number).map(|(count, digits)| digits.repeat(count)).collect();
     let mut words = Vec::new();
     let mut rest = digits.as_str();
-    while !rest.is_empty() && words.len() < WORDS {
+    while !rest.is_empty() && words.len() < most {
         let (word, after) = number(rest);
         words.push(word as u32);
         rest = after;
@@ -53,20 +61,84 @@ fn table(pieces: &str) -> Vec<u32> {
     words
 }
 
-/// The answer to a line; none where it is no case of reading or printing.
+/// The answer to a line; none where it is no case of these.
 fn answer(line: &str) -> Option<String> {
-    let entry = line.chars().next().filter(|entry| "rRpmP".contains(*entry))?;
+    let entry = line.chars().next().filter(|entry| "oarRpmP".contains(*entry))?;
     let digits = line[1..].bytes().take_while(u8::is_ascii_digit).count();
-    let counted = digits > 0;
-    let (indent, rest) = if entry == 'm' { number(&line[digits + 2..]) } else { (0, &line[digits + 2..]) };
-    let (size, rest) = number(rest);
-    if "rR".contains(entry) {
-        return Some(shown(read(entry, &text(rest), size), counted, "words", shown_words));
+    let (counted, rest) = (digits > 0, &line[digits + 2..]);
+    Some(match entry {
+        'o' => outline(rest, counted),
+        'a' => numbers(rest, counted),
+        'r' | 'R' => {
+            let (size, rest) = number(rest);
+            shown(read(entry, &text(rest, TEXT), size), counted, "words", shown_words)
+        }
+        _ => shown(print_case(entry, rest), counted, "bytes", shown_print),
+    })
+}
+
+fn outline(rest: &str, counted: bool) -> String {
+    let (kinds, rest) = number(rest);
+    let (ends, rest) = number(rest);
+    let (text_len, rest) = number(rest);
+    let words = table(rest, WORDS);
+    if counted {
+        return format!("{} words", words.len());
     }
+    let mut kinds = vec![u16::from(u8::MAX); kinds.min(WORDS)];
+    let mut ends = vec![u16::MAX; ends.min(WORDS)];
+    let check = if words.len() > TABLE_LIMIT {
+        "too long".to_string()
+    } else {
+        match outline_program(text_len, &words) {
+            Ok(outline) => {
+                fill(&mut kinds, &outline.kinds);
+                fill(&mut ends, &outline.ends);
+                "tree".to_string()
+            }
+            Err(refusal) => format!("misfit {}", refusal.place),
+        }
+    };
+    let shown_kinds = shown_numbers(&kinds, "kinds", &pairs(&kinds));
+    let shown_ends = shown_numbers(&ends, "ends", &pairs(&ends));
+    format!("{check} /{shown_kinds} /{shown_ends}")
+}
+
+fn numbers(rest: &str, counted: bool) -> String {
+    let (size, rest) = number(rest);
+    let (spans, pieces) = rest.split_once('/').unwrap_or((rest, ""));
+    let (found, count) = number_spans(&text(pieces, LONG_TEXT), &table(spans, SPANS));
+    if counted {
+        return format!("{count} names");
+    }
+    let mut numbers = vec![u16::MAX; size.min(NUMBERS)];
+    fill(&mut numbers, &found);
+    format!("{count} /{}", shown_numbers(&numbers, "numbers", &pairs(&numbers)))
+}
+
+/// Puts numbers at the start of a slice, as far as it goes.
+fn fill<T: Copy>(slice: &mut [T], numbers: &[T]) {
+    slice.iter_mut().zip(numbers).for_each(|(place, number)| *place = *number);
+}
+
+/// Each number's two bytes, the high one first.
+fn pairs(numbers: &[u16]) -> Vec<u8> {
+    numbers.iter().flat_map(|number| number.to_be_bytes()).collect()
+}
+
+fn shown_numbers<T: ToString>(numbers: &[T], unit: &str, bytes: &[u8]) -> String {
+    if numbers.len() > MOST_NUMBERS {
+        return format!(" {} {unit}, CRC-32 {}", numbers.len(), crc32(bytes));
+    }
+    numbers.iter().map(|number| format!(" {}", number.to_string())).collect()
+}
+
+fn print_case(entry: char, rest: &str) -> Result<Vec<u8>, Refusal> {
+    let (indent, rest) = if entry == 'm' { number(rest) } else { (0, rest) };
+    let (size, rest) = number(rest);
     let (words, pieces) = rest.split_once('/').unwrap_or((rest, ""));
     let format = if entry == 'm' { Format::MultipleLines(indent) } else { Format::SingleLine };
-    let print = print(entry, format, &text(pieces), &table(words), size.min(OUTPUT_LIMIT));
-    Some(shown(print, counted, "bytes", |print| shown_print(print)))
+    print(entry, format, &text(pieces, TEXT), &table(words, WORDS), size.min(OUTPUT_LIMIT))
 }
 
 fn read(entry: char, text: &[u8], size: usize) -> Result<Vec<u32>, Refusal> {
