@@ -5,16 +5,18 @@
 //   s SIGN TEXT                  a sign
 //   u SIGN LONGER TEXT           a sign unless the longer one stands there
 //   c C LENGTH TABLE             `tree`: the check of an expression's and of a program's table, over a text of so many bytes
-//   o KINDS ENDS LENGTH TABLE    the outline of a program's table, into so many kinds and ends, over a text of so many bytes
+//   o KINDS ENDS LENGTH TABLE    the outline of a program's table, into so many kinds, each 255 before, and so many ends, each 65535 before, over
+//                                a text of so many bytes
 //   w v PLACE TABLE              the word and the natural at a place
 //   x START LENGTH TEXT          the part of the text that a name occupies
-//   a NUMBERS SPANS/TEXT         `names`: the numbers of spans, into so many numbers
+//   a NUMBERS SPANS/TEXT         `names`: the numbers of spans, into so many numbers, each 65535 before
 //   r R WORDS TEXT               `reading`: an expression's and a program's reading, into a table of so many words
 //   p BYTES TABLE/TEXT           `printing`: an expression's print on one line, into so many bytes
 //   m INDENT BYTES TABLE/TEXT    its print on several lines, from a start indent on
 //   P BYTES TABLE/TEXT           a program's print
 // A TABLE and SPANS are given by pieces, from `a` on a TEXT too (`pieces`); before, it is the rest of the line, in the cases of `lexing` with the
-// escapes of `lines`. A line that begins otherwise has no answer.
+// escapes of `lines`. A line that begins otherwise has no answer. More numbers than 256 are answered by how many they are and the CRC-32 of two
+// bytes each, the high one first.
 //
 // A number at once after `o`, `a`, `r`, `R`, `p`, `m` or `P` says how often the entry is run, for measuring; the answer is then only how much the
 // last run gave: of an outline the table's words, of spans the distinct names.
