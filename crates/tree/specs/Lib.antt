@@ -21,6 +21,7 @@ mod Examples
 mod WordExamples
 mod TallyExamples
 mod OutlineExamples
+mod HeldExamples
 -- what the code notes, its rows and its stack
 pub mod Notes
 pub mod Rows

@@ -44,6 +44,44 @@ procedure-ends : end_places (within 10) (seq of_procedure ∷ []) 0
 unfolding end_places extent
 procedure-ends = refl
 
+-- words that are cut off, words that are too many, and a name past the text at its length: as far as the words fit. The word that misfits is
+-- noted, and ends where it stands.
+cut-extent : extent (within 5) (expr ∷ []) (5 ∷ 10 ∷ 1 ∷ 4 ∷ 0 ∷ []) ≡ 5
+unfolding extent
+cut-extent = refl
+
+surplus-extent : extent (within 5) (expr ∷ []) (1 ∷ 1 ∷ 1 ∷ []) ≡ 2
+unfolding extent
+surplus-extent = refl
+
+past-extent : extent (within 1) (expr ∷ expr ∷ []) (4 ∷ 0 ∷ 2 ∷ 0 ∷ 1 ∷ 1 ∷ []) ≡ 2
+unfolding extent
+past-extent = refl
+
+cut-kinds : kind_numbers (within 5) (expr ∷ []) (5 ∷ 10 ∷ 1 ∷ 4 ∷ 0 ∷ []) ≡ 4 ∷ 2 ∷ 12 ∷ 4 ∷ 27 ∷ []
+unfolding kind_numbers
+cut-kinds = refl
+
+surplus-kinds : kind_numbers (within 5) (expr ∷ []) (1 ∷ 1 ∷ 1 ∷ []) ≡ 4 ∷ 1 ∷ []
+unfolding kind_numbers
+surplus-kinds = refl
+
+past-kinds : kind_numbers (within 1) (expr ∷ expr ∷ []) (4 ∷ 0 ∷ 2 ∷ 0 ∷ 1 ∷ 1 ∷ []) ≡ 4 ∷ 27 ∷ 0 ∷ []
+unfolding kind_numbers
+past-kinds = refl
+
+cut-ends : end_places (within 5) (expr ∷ []) 3 (5 ∷ 10 ∷ 1 ∷ 4 ∷ 0 ∷ []) ≡ 8 ∷ 5 ∷ 8 ∷ 8 ∷ 8 ∷ []
+unfolding end_places extent
+cut-ends = refl
+
+surplus-ends : end_places (within 5) (expr ∷ []) 3 (1 ∷ 1 ∷ 1 ∷ []) ≡ 5 ∷ 5 ∷ []
+unfolding end_places extent
+surplus-ends = refl
+
+past-ends : end_places (within 1) (expr ∷ expr ∷ []) 3 (4 ∷ 0 ∷ 2 ∷ 0 ∷ 1 ∷ 1 ∷ []) ≡ 5 ∷ 5 ∷ 5 ∷ []
+unfolding end_places extent
+past-ends = refl
+
 -- a shorter slice is filled as far as it goes, a longer one keeps what lies past the words
 short-kinds : program_kinds (1 ∷ 0 ∷ 1 ∷ 0 ∷ 0 ∷ 0 ∷ 0 ∷ 0 ∷ []) 1 (99 ∷ 99 ∷ []) ≡ 11 ∷ 27 ∷ []
 unfolding program_kinds program_refusal check_program run kind_numbers
@@ -73,3 +111,7 @@ missing = refl
 outside : program_kinds (1 ∷ 0 ∷ 2 ∷ 0 ∷ 0 ∷ 0 ∷ 0 ∷ 0 ∷ []) 1 (replicate 8 99) ≡ replicate 8 99
 unfolding program_kinds program_refusal check_program run kind_numbers
 outside = refl
+
+outside-ends : program_ends (1 ∷ 0 ∷ 2 ∷ 0 ∷ 0 ∷ 0 ∷ 0 ∷ 0 ∷ []) 1 (replicate 8 99) ≡ replicate 8 99
+unfolding program_ends program_refusal check_program run end_places extent
+outside-ends = refl
