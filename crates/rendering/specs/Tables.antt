@@ -37,10 +37,10 @@ program_print_of step text p = Program (name_in text) step p []
 -- the expressions over a text in a format, and the programs
 abbrev pub expressions : (step : ℕ) (text : List ℕ) → ExprFormatOption → Printable
 expressions step text format =
-    record { kind = expression_tables (length text); print = print_of step text format; indent = start_indent format; }
+    record { kind = expression_tables (length text); print = print_of step text format; indent = start_indent format }
 
 abbrev pub programs : (step : ℕ) (text : List ℕ) → Printable
-programs step text = record { kind = program_tables (length text); print = program_print_of step text; indent = 0; }
+programs step text = record { kind = program_tables (length text); print = program_print_of step text; indent = 0 }
 
 -- ---- what is printed of a table
 
