@@ -1,6 +1,7 @@
 -- The prints of B3: PrintUtil.dfy and Printer.dfy.
 pub mod Text
 pub mod PrintUtil
+pub mod Settings
 pub mod Indents
 pub mod Printer
 pub mod Statements
@@ -11,3 +12,4 @@ pub mod FormExamples
 pub mod ContextExamples
 pub mod StatementExamples
 pub mod ProgramExamples
+pub mod SettingsExamples

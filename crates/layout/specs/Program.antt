@@ -1,12 +1,14 @@
--- Printer.dfy, the prints of programs and their declarations, method by method, as in `Statements`.
+-- Printer.dfy, the prints of programs and their declarations, method by method, as in `Statements`. The form says how the expressions of
+-- function bodies and axioms are printed; upstream's is `Broken`.
 use Rattle.std.specs.Prelude.{ℕ, Bool, true, false, List, []}
 use Prim.Native.String.{String}
 use Rattle.lexing.specs.Bytes.{bytes}
 use Rattle.tree.specs.Ast.{Exprs, no_exprs, ◌then◌, Stmt}
 use Rattle.tree.specs.Ast.{Tagger, FParameter, FunctionDefinition, Function, Axiom, PParameter, Procedure as Proc, Program as Tree}
-use Rattle.layout.specs.declared.format.ExprFormatOption.TheVariants.{MultipleLines}
+use Rattle.layout.specs.declared.settings.Form.{Form}
 use Rattle.layout.specs.Text.{◌▹◌, ◌▸◌}
 use Rattle.layout.specs.PrintUtil.{Indent, Init}
+use Rattle.layout.specs.Settings.{format_at}
 use Rattle.layout.specs.Printer.{Expression}
 use Rattle.layout.specs.Statements.{Before, separated, optional, mode_text, inline, OptionalAutoInvariant, shown, StmtAsBlock, PrintAExprs}
 
@@ -34,9 +36,10 @@ module _ {N : Type 0} (name : N → List ℕ) (step : ℕ) where
   when_clauses no_exprs rest = rest
   when_clauses (◌then◌ e es) rest = Indent step ▹ "when " ▸ inline name step e ("\n" ▸ when_clauses es rest)
 
+module _ {N : Type 0} (name : N → List ℕ) (step : ℕ) (form : Form) where
   abbrev pub definition : FunctionDefinition N → Before
   definition d rest =
-      when_clauses d.when ("{\n" ▸ Indent step ▹ Expression name step d.body Init (MultipleLines step) ("\n}\n" ▸ rest))
+      when_clauses name step d.when ("{\n" ▸ Indent step ▹ Expression name step d.body Init (format_at form step) ("\n}\n" ▸ rest))
 
   abbrev pub FunctionDecl : Function N → Before
   FunctionDecl f rest =
@@ -48,8 +51,9 @@ module _ {N : Type 0} (name : N → List ℕ) (step : ℕ) where
   AxiomDecl a rest =
       "axiom"
       ▸ separated (λ n r. name n ▹ r) (bytes " explains ") (bytes ", ") a.explains
-      ("\n" ▸ Indent step ▹ Expression name step a.expr Init (MultipleLines step) ("\n" ▸ rest))
+      ("\n" ▸ Indent step ▹ Expression name step a.expr Init (format_at form step) ("\n" ▸ rest))
 
+module _ {N : Type 0} (name : N → List ℕ) (step : ℕ) where
   -- a procedure's parameter
   abbrev pub parameter : PParameter N → Before
   parameter p rest = mode_text p.mode ▸ name p.name ▹ ": " ▸ name p.typ ▹ OptionalAutoInvariant name step p.optional_auto_inv rest
@@ -63,9 +67,11 @@ module _ {N : Type 0} (name : N → List ℕ) (step : ℕ) where
       ▸ separated parameter [] (bytes ", ") p.parameters
       (")\n" ▸ PrintAExprs name step p.pre (bytes "requires") step (PrintAExprs name step p.post (bytes "ensures") step (optional body [] p.body rest)))
 
+module _ {N : Type 0} (name : N → List ℕ) (step : ℕ) (form : Form) where
   unfoldable pub Program : Tree N → Before
   Program p rest =
       "// B3 program\n"
       ▸ declarations (TypeDecl name) p.types
       (declarations (TaggerDecl name) p.taggers
-      (declarations FunctionDecl p.functions (declarations AxiomDecl p.axioms (declarations Procedure p.procedures rest))))
+      (declarations (FunctionDecl name step form) p.functions
+      (declarations (AxiomDecl name step form) p.axioms (declarations (Procedure name step) p.procedures rest))))

@@ -6,6 +6,7 @@ use Rattle.lexing.specs.Bytes.{bytes}
 use Rattle.tree.specs.Ast.{In, InOut, Out, OperatorExpr, IfThenElse, LogicalAnd, Exit, a_expr, AAssertion, Check, no_a_exprs, a_exprs, no_exprs}
 use Rattle.layout.specs.Examples.{list as exprs}
 use Rattle.layout.specs.StatementExamples.{statements-computed, v, both, block}
+use Rattle.layout.specs.declared.settings.Form.TheVariants.{Broken}
 use Rattle.layout.specs.Program.{TypeDecl, TaggerDecl, when_clauses, FunctionDecl, AxiomDecl, Procedure, Program}
 
 -- `unfolding program-computed` opens the prints of programs too
@@ -20,7 +21,7 @@ tagger-decl : TaggerDecl bytes (record { name = "a"; typ = "b" }) [] ≡ bytes "
 tagger-decl = refl
 
 -- two parameters, the second injective; a tag; two `when` clauses, each on its line; the body on broken lines
-function-decl : FunctionDecl bytes 3
+function-decl : FunctionDecl bytes 3 Broken
     (record {
       name = "a";
       parameters = record { name = "b"; injective = false; typ = "c" } ∷ record { name = "d"; injective = true; typ = "e" } ∷ [];
@@ -32,23 +33,23 @@ function-decl : FunctionDecl bytes 3
 unfolding program-computed
 function-decl = refl
 
-bare-function : FunctionDecl bytes 2 (record { name = "a"; parameters = []; result_type = "b"; tag = none; definition = none }) [] ≡ bytes "function a(): b\n"
+bare-function : FunctionDecl bytes 2 Broken (record { name = "a"; parameters = []; result_type = "b"; tag = none; definition = none }) [] ≡ bytes "function a(): b\n"
 unfolding program-computed
 bare-function = refl
 
 -- a definition without `when`
-function-body : FunctionDecl bytes 2
+function-body : FunctionDecl bytes 2 Broken
     (record { name = "a"; parameters = []; result_type = "b"; tag = none; definition = some (record { when = no_exprs; body = v "c" }) }) []
     ≡ bytes "function a(): b\n{\n  c\n}\n"
 unfolding program-computed
 function-body = refl
 
-axiom-decl : AxiomDecl bytes 3 (record { explains = "a" ∷ "b" ∷ []; expr = OperatorExpr LogicalAnd (exprs (v "c" ∷ v "d" ∷ [])) }) []
+axiom-decl : AxiomDecl bytes 3 Broken (record { explains = "a" ∷ "b" ∷ []; expr = OperatorExpr LogicalAnd (exprs (v "c" ∷ v "d" ∷ [])) }) []
     ≡ bytes "axiom explains a, b\n   c &&\n   d\n"
 unfolding program-computed
 axiom-decl = refl
 
-bare-axiom : AxiomDecl bytes 2 (record { explains = []; expr = v "a" }) [] ≡ bytes "axiom\n  a\n"
+bare-axiom : AxiomDecl bytes 2 Broken (record { explains = []; expr = v "a" }) [] ≡ bytes "axiom\n  a\n"
 unfolding program-computed
 bare-axiom = refl
 
@@ -79,7 +80,7 @@ unfolding program-computed
 procedure-body = refl
 
 -- the step inside a body, an axiom, and the assertions and the body of a procedure
-function-steps : FunctionDecl bytes 3
+function-steps : FunctionDecl bytes 3 Broken
     (record {
       name = "a";
       parameters = [];
@@ -91,7 +92,7 @@ function-steps : FunctionDecl bytes 3
 unfolding program-computed
 function-steps = refl
 
-axiom-steps : AxiomDecl bytes 3 (record { explains = []; expr = OperatorExpr IfThenElse (exprs (v "a" ∷ v "b" ∷ v "c" ∷ [])) }) []
+axiom-steps : AxiomDecl bytes 3 Broken (record { explains = []; expr = OperatorExpr IfThenElse (exprs (v "a" ∷ v "b" ∷ v "c" ∷ [])) }) []
     ≡ bytes "axiom\n   if a\n      b\n   else\n      c\n"
 unfolding program-computed
 axiom-steps = refl
@@ -109,7 +110,7 @@ unfolding program-computed
 procedure-steps = refl
 
 -- the five kinds in upstream's order, the declarations of a kind in their own
-program : Program bytes 2
+program : Program bytes 2 Broken
     (record {
       types = "a" ∷ "b" ∷ [];
       taggers = record { name = "c"; typ = "d" } ∷ record { name = "e"; typ = "f" } ∷ [];
@@ -127,6 +128,6 @@ unfolding program-computed
 program = refl
 
 -- 14 bytes
-empty-program : Program bytes 2 (record { types = []; taggers = []; functions = []; axioms = []; procedures = [] }) [] ≡ bytes "// B3 program\n"
+empty-program : Program bytes 2 Broken (record { types = []; taggers = []; functions = []; axioms = []; procedures = [] }) [] ≡ bytes "// B3 program\n"
 unfolding program-computed
 empty-program = refl

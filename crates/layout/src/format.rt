@@ -3,8 +3,6 @@ ghost use Rattle.std.specs.Prelude.{◌≡◌};
 ghost use Rattle.lexing.specs.Answer.{pick};
 ghost use Rattle.layout.specs.PrintUtil.{start_indent, deeper_by, Deeper};
 
-pub const INDENT_AMOUNT: usize = 2;
-
 #[derive(Clone, Copy, PartialEq, Eq, Debug)]
 pub enum ExprFormatOption {
     SingleLine,

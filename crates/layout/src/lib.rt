@@ -4,6 +4,8 @@
 
 mod format;
 mod power;
+mod settings;
 
-pub use format::{ExprFormatOption, INDENT_AMOUNT, deeper};
+pub use format::{ExprFormatOption, deeper};
 pub use power::{BindingPower, Side, TieBreaker};
+pub use settings::{Form, INDENT_AMOUNT, Settings};
