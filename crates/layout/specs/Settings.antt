@@ -10,6 +10,10 @@ use Rattle.layout.specs.declared.settings.Settings.{Settings}
 abbrev pub defaults : Settings
 defaults = record { step = 2; form = Broken }
 
+-- its step, and every expression on one line
+abbrev pub one_line : Settings
+one_line = record { step = 2; form = OneLine }
+
 -- the format of an expression whose lines start from an indent
 abbrev pub format_at : Form → (indent : ℕ) → ExprFormatOption
 format_at OneLine indent = SingleLine

@@ -41,4 +41,10 @@ impl Settings {
         step: INDENT_AMOUNT,
         form: Form::Broken,
     };
+
+    // Its step, and every expression on one line.
+    pub const ONE_LINE: Settings = Settings {
+        form: Form::OneLine,
+        ..Settings::DEFAULT
+    };
 }

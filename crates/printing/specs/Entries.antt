@@ -1,7 +1,7 @@
 -- Print an expression or a program (REFERENCE, "The entries"): what is answered, and the output afterwards, once for whatever is printed.
 use Rattle.std.specs.Prelude.{ℕ, ◌≤◌, ◌≡◌, ◌&&◌, List, ◌++◌, length, drop, leb}
 use Rattle.lexing.specs.Answer.{pick}
-use Rattle.layout.specs.declared.format.ExprFormatOption.{ExprFormatOption}
+use Rattle.layout.specs.declared.settings.Settings.{Settings}
 use Rattle.tree.specs.Held.{Held, held, refused}
 use Rattle.rendering.specs.Tables.{Printable, expressions, programs, held_for}
 use Rattle.rendering.specs.Errors.{print_too_long, print_error_number, print_error_place}
@@ -42,21 +42,22 @@ module _ (P : Printable) where
   abbrev pub Answered : (text words out : List ℕ) → Result ℕ PrintError → (out' : List ℕ) → Type 0
   Answered text words out r out' = outcome_of r out' ≡ print_table text words out
 
--- print expression
-abbrev pub print_expression : ℕ → List ℕ → List ℕ → ExprFormatOption → List ℕ → Outcome
-print_expression step text words format out = print_table (expressions step text format) text words out
+-- print expression, by settings and from a start indent on
+abbrev pub print_expression : Settings → (text words : List ℕ) (indent : ℕ) (out : List ℕ) → Outcome
+print_expression settings text words indent out = print_table (expressions settings text indent) text words out
 
--- print program
-abbrev pub print_program : ℕ → List ℕ → List ℕ → List ℕ → Outcome
-print_program step text words out = print_table (programs step text) text words out
+-- print program, by settings
+abbrev pub print_program : Settings → (text words out : List ℕ) → Outcome
+print_program settings text words out = print_table (programs settings text) text words out
 
--- The contract of `print_expression` (one line) and of `print_expression_lines` (broken lines from a start indent).
-abbrev pub PrintAnswered : (text words : List ℕ) → ExprFormatOption → (out : List ℕ) → Result ℕ PrintError → (out' : List ℕ) → Type 0
-PrintAnswered text words format out r out' = Answered (expressions 2 text format) text words out r out'
+-- The contract of the prints of an expression: by `one_line` and from 0 on that of `print_expression`, by `defaults` that of
+-- `print_expression_lines`.
+abbrev pub PrintAnswered : Settings → (text words : List ℕ) (indent : ℕ) (out : List ℕ) → Result ℕ PrintError → (out' : List ℕ) → Type 0
+PrintAnswered settings text words indent out r out' = Answered (expressions settings text indent) text words out r out'
 
--- The contract of `print_program`.
-abbrev pub ProgramAnswered : (text words out : List ℕ) → Result ℕ PrintError → (out' : List ℕ) → Type 0
-ProgramAnswered text words out r out' = Answered (programs 2 text) text words out r out'
+-- The contract of the prints of a program: by `defaults` that of `print_program`.
+abbrev pub ProgramAnswered : Settings → (text words out : List ℕ) → Result ℕ PrintError → (out' : List ℕ) → Type 0
+ProgramAnswered settings text words out r out' = Answered (programs settings text) text words out r out'
 
 -- the limits that refusal 8 is about
 pub record Fits (print out : List ℕ) : Type 0 where

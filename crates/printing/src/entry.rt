@@ -1,11 +1,11 @@
 // Print expression and print program (REFERENCE, "The entries"): the print before the output's old bytes, once for whatever tree a table holds.
 ghost use Rattle.std.specs.Prelude.{◌≤◌, min, ◌≡◌, length};
-ghost use Rattle.layout.specs.declared.format.ExprFormatOption.TheVariants.{SingleLine, MultipleLines};
+ghost use Rattle.layout.specs.Settings.{defaults, one_line};
 ghost use Rattle.rendering.specs.Render.{rooted};
 ghost use Rattle.printing.specs.Entries.{most_print, outcome_of, Answered, PrintAnswered, ProgramAnswered};
 ghost use Rattle.printing.specs.Delivery.{delivered};
 
-use layout::ExprFormatOption;
+use layout::Settings;
 use rendering::{PrintError, Root, render};
 
 // The most bytes of a print.
@@ -15,14 +15,9 @@ pub const MOST_PRINT: usize = 65536;
 
 // Prints the expression that a table holds over a text on one line.
 pub fn print_expression(text: &[u8], words: &[u32], out: &mut [u8]) -> Result<usize, PrintError>
-    ensures { PrintAnswered text.now words.now SingleLine out.old result out.new }
+    ensures { PrintAnswered one_line text.now words.now 0 out.old result out.new }
 {
-    print(
-        text,
-        words,
-        Root::AnExpression(ExprFormatOption::SingleLine),
-        out,
-    )
+    print(text, words, Root::AnExpression(0), Settings::ONE_LINE, out)
 }
 
 // The same on several lines, from a start indent on.
@@ -33,12 +28,13 @@ pub fn print_expression_lines(
     indent: usize,
     out: &mut [u8],
 ) -> Result<usize, PrintError>
-    ensures { PrintAnswered text.now words.now (MultipleLines indent) out.old result out.new }
+    ensures { PrintAnswered defaults text.now words.now indent out.old result out.new }
 {
     print(
         text,
         words,
-        Root::AnExpression(ExprFormatOption::MultipleLines(indent)),
+        Root::AnExpression(indent),
+        Settings::DEFAULT,
         out,
     )
 }
@@ -46,20 +42,26 @@ pub fn print_expression_lines(
 // Prints the program that a table holds over a text.
 // Kept: as `print_expression`.
 pub fn print_program(text: &[u8], words: &[u32], out: &mut [u8]) -> Result<usize, PrintError>
-    ensures { ProgramAnswered text.now words.now out.old result out.new }
+    ensures { ProgramAnswered defaults text.now words.now out.old result out.new }
 {
-    print(text, words, Root::AProgram, out)
+    print(text, words, Root::AProgram, Settings::DEFAULT, out)
 }
 
 // A small output takes a small buffer.
 // Kept: a struct of the text and the words would be made in the three entries and taken apart again in the call of `render`.
-fn print(text: &[u8], words: &[u32], root: Root, out: &mut [u8]) -> Result<usize, PrintError>
-    ensures { Answered (rooted 2 text.now root) text.now words.now out.old result out.new }
+fn print(
+    text: &[u8],
+    words: &[u32],
+    root: Root,
+    settings: Settings,
+    out: &mut [u8],
+) -> Result<usize, PrintError>
+    ensures { Answered (rooted settings text.now root) text.now words.now out.old result out.new }
 {
     if out.len() <= 1024 {
-        return print_through::<1024>(text, words, root, out);
+        return print_through::<1024>(text, words, root, settings, out);
     }
-    print_through::<MOST_PRINT>(text, words, root, out)
+    print_through::<MOST_PRINT>(text, words, root, settings, out)
 }
 
 // The print through a buffer of so many bytes, so that one that does not fit leaves the output as it was.
@@ -68,13 +70,14 @@ fn print_through<const SIZE: usize>(
     text: &[u8],
     words: &[u32],
     root: Root,
+    settings: Settings,
     out: &mut [u8],
 ) -> Result<usize, PrintError>
     requires { (SIZE ≤ most_print) × (min (length out.old) most_print ≤ SIZE) }
-    ensures { Answered (rooted 2 text.now root) text.now words.now out.old result out.new }
+    ensures { Answered (rooted settings text.now root) text.now words.now out.old result out.new }
 {
     let mut buffer = [0u8; SIZE];
-    let n = render(text, words, root, &mut buffer)?;
+    let n = render(text, words, root, settings, &mut buffer)?;
     deliver(&buffer[..n], out)
 }
 

@@ -21,14 +21,19 @@ use Rattle.rendering.specs.declared.PrintError.TheVariants.{Oversized, Misfit, T
 use Rattle.rendering.specs.Errors.{of_check}
 use Rattle.rendering.specs.declared.Root.{Root}
 use Rattle.rendering.specs.declared.Root.TheVariants.{AnExpression, AProgram}
-use Rattle.tree.specs.Held.{Held, held, refused}
+use Rattle.tree.specs.Held.{TableKind, Held, held, refused}
 use Rattle.tree.specs.HeldLaws.{Lawful, expression-laws, program-laws, refuses, long-text, past-limit}
 use Rattle.rendering.specs.Tables.{most_indent, Printable, print_of, program_print_of, held_for, Within}
 use Rattle.rendering.specs.TableLaws.{holds}
 use Rattle.rendering.specs.Wrote.{Wrote}
 use Rattle.rendering.specs.Parts.{Prints}
-use Rattle.rendering.specs.ExprParts.{most_step}
-use Rattle.rendering.specs.Render.{rooted, root_indent, root_counts, root_part, RootCounted, Numbered, Made, Gives, Renders, Makes}
+use Rattle.rendering.specs.ExprParts.{most_step, an_expr}
+use Rattle.rendering.specs.DeclParts.{a_program}
+use Rattle.layout.specs.PrintUtil.{Init}
+use Rattle.layout.specs.Settings.{format_at}
+use Rattle.rendering.specs.Render.{root_kind, root_print, root_indent, rooted, root_counts, settings_in, root_part, RootCounted, Numbered, Made, Gives, Renders, Makes}
+use Rattle.layout.specs.declared.settings.Settings.{Settings}
+use Rattle.layout.specs.Indents.{format-start}
 
 -- ---- from a write to a print
 
@@ -58,63 +63,71 @@ longer {X} {b} w h =
 -- ---- the print of a table's tree
 
 -- an accepted table is no longer than a table may be
-few : (P : Printable) (words : List ℕ) → P.kind.refused words ≡ none → length words ≤ most_words
-few P words e = ((P.kind.unrefused words).0 e).0
+few : (K : TableKind) (words : List ℕ) → K.refused words ≡ none → length words ≤ most_words
+few K words e = ((K.unrefused words).0 e).0
 
 -- what the check that accepts a table notes are the numbers of items
-pub numbered : (text words before : List ℕ) (step : ℕ) (root : Root) {after : List ℕ} → (length words ≤ most_words → length words ≤ length before)
-    → (rooted step text root).kind.refused words ≡ none → after ≡ root_counts root words (length text) before → Numbered text words after step root
-numbered text words before step root {after} h e f =
-    let l : length words ≤ most_words = few (rooted step text root) words e in
-    record { few = l; counted = λ t d. subst (λ (c : List ℕ). RootCounted text words c step root t) (sym f) (by-root root t d l (h l)) }
+pub numbered : (text words before : List ℕ) (root : Root) {after : List ℕ} → (length words ≤ most_words → length words ≤ length before)
+    → (root_kind text root).refused words ≡ none → after ≡ root_counts root words (length text) before → Numbered text words after root
+numbered text words before root {after} h e f =
+    let l : length words ≤ most_words = few (root_kind text root) words e in
+    record { few = l; counted = λ t d. subst (λ (c : List ℕ). RootCounted text words c root t) (sym f) (by-root root t d l (h l)) }
   where
-    by-root : (r : Root) (t : (rooted step text r).kind.Tree) → (rooted step text r).kind.words t ≡ words → length words ≤ most_words → length words ≤ length before
-        → RootCounted text words (root_counts r words (length text) before) step r t
-    by-root (AnExpression format) t d l m = expression-counted words (length text) before t d l m
+    by-root : (r : Root) (t : (root_kind text r).Tree) → (root_kind text r).words t ≡ words → length words ≤ most_words → length words ≤ length before
+        → RootCounted text words (root_counts r words (length text) before) r t
+    by-root (AnExpression indent) t d l m = expression-counted words (length text) before t d l m
     by-root AProgram t d l m = program-counted words (length text) before t d l m
 
 -- the write of a tree's print, by what follows from every write of it
 written : (root : Root) {s s' : Printer} {r : Result ℕ PrintError} → s.at ≡ 0 → s.pos ≡ 0 → s.source.step ≤ most_step → root_indent root ≤ most_indent
     → length s.source.words.now ≤ most_words → Prints (root_part root) s s'
     → ((X : List ℕ → List ℕ) → Wrote X s.out.now 0 s'.out.now s'.pos → Made (X []) s.out.now r s'.out.now)
-    → (t : (rooted s.source.step s.source.text.now root).kind.Tree) → RootCounted s.source.text.now s.source.words.now s.source.counts.now s.source.step root t
-    → (rooted s.source.step s.source.text.now root).kind.words t ≡ s.source.words.now → Made ((rooted s.source.step s.source.text.now root).print t) s.out.now r s'.out.now
+    → (t : (root_kind s.source.text.now root).Tree) → RootCounted s.source.text.now s.source.words.now s.source.counts.now root t
+    → (root_kind s.source.text.now root).words t ≡ s.source.words.now → Made (root_print (settings_in s.source) s.source.text.now root t) s.out.now r s'.out.now
 unfolding print_of program_print_of
-written (AnExpression format) {s} e p m i l x k t c f = k _ (rw p at (x.prints t [] (record { few = l; short = m; room = omega arith }, c) (rw e (sym f))).wrote)
+written (AnExpression indent) {s} e p m i l x k t c f =
+    let j = format-start s.source.form indent in
+    k _ (rw p at (x.prints t [] (record { few = l; short = m; room = omega arith }, c) (rw e (sym f))).wrote)
 written AProgram {s} e p m i l x k t c f = k _ (rw p at (x.prints t [] (record { few = l; short = m; room = omega arith }, c) (rw e (sym f))).wrote)
 
 module _ (root : Root) {s s' : Printer} (e : s.at ≡ 0) (p : s.pos ≡ 0) (m : s.source.step ≤ most_step) (i : root_indent root ≤ most_indent)
-    (n : Numbered s.source.text.now s.source.words.now s.source.counts.now s.source.step root) (x : Prints (root_part root) s s') where
+    (n : Numbered s.source.text.now s.source.words.now s.source.counts.now root) (x : Prints (root_part root) s s') where
   -- a print that fits the buffer b', and one that is longer
-  pub fits : {b' : List ℕ} → b' ≡ s'.out.now → s'.pos ≤ length s.out.now → Makes (rooted s.source.step s.source.text.now root) s.source.words.now s.out.now (Ok s'.pos) b'
+  pub fits : {b' : List ℕ} → b' ≡ s'.out.now → s'.pos ≤ length s.out.now → Makes (rooted (settings_in s.source) s.source.text.now root) s.source.words.now s.out.now (Ok s'.pos) b'
   fits q h = rw q (record { made = λ t f. written root e p m i n.few x (λ X w. fitting w (let k = w.same in omega arith)) t (n.counted t f) f })
 
-  pub passes : {b' : List ℕ} → b' ≡ s'.out.now → length s.out.now < s'.pos → Makes (rooted s.source.step s.source.text.now root) s.source.words.now s.out.now (Err TooLong) b'
+  pub passes : {b' : List ℕ} → b' ≡ s'.out.now → length s.out.now < s'.pos → Makes (rooted (settings_in s.source) s.source.text.now root) s.source.words.now s.out.now (Err TooLong) b'
   passes q h = rw q (record { made = λ t f. written root e p m i n.few x (λ X w. longer w (let k = w.same in omega arith)) t (n.counted t f) f })
 
 -- ---- by the root
 
--- each root's trees are lawful, and have its start indent
-pub root_laws : (step : ℕ) (text : List ℕ) (root : Root) → Lawful (rooted step text root).kind
-root_laws step text (AnExpression format) = expression-laws text
-root_laws step text AProgram = program-laws text
+-- each root's trees are lawful
+pub root_laws : (text : List ℕ) (root : Root) → Lawful (root_kind text root)
+root_laws text (AnExpression indent) = expression-laws text
+root_laws text AProgram = program-laws text
 
-root-indent : (step : ℕ) (text : List ℕ) (root : Root) → (rooted step text root).indent ≡ root_indent root
-root-indent step text (AnExpression format) = refl
-root-indent step text AProgram = refl
+-- the print of a tree by its root
+pub prints-by : {s s' : Printer} {root k : Root} → root ≡ k → Prints (root_part k) s s' → Prints (root_part root) s s'
+prints-by {s} {s'} e x = subst (λ (r : Root). Prints (root_part r) s s') (sym e) x
+
+pub prints-expression : {s s' : Printer} {indent : ℕ} → Prints (an_expr Init (format_at s.source.form indent)) s s' → Prints (root_part (AnExpression indent)) s s'
+prints-expression x = record { source = x.source; output = x.output; forward = x.forward; prints = x.prints }
+
+pub prints-program : {s s' : Printer} → Prints a_program s s' → Prints (root_part AProgram) s s'
+prints-program x = record { source = x.source; output = x.output; forward = x.forward; prints = x.prints }
 
 -- the check of a table by its root
-pub checked-by : (text words before : List ℕ) (step : ℕ) {root k : Root} {q : Option Refusal} {after : List ℕ} → root ≡ k
-    → (q ≡ (rooted step text k).kind.refused words) × (after ≡ root_counts k words (length text) before)
-    → (q ≡ (rooted step text root).kind.refused words) × (after ≡ root_counts root words (length text) before)
-checked-by text words before step {q = q} {after = after} e x =
-    subst (λ (r : Root). (q ≡ (rooted step text r).kind.refused words) × (after ≡ root_counts r words (length text) before)) (sym e) x
+pub checked-by : (text words before : List ℕ) {root k : Root} {q : Option Refusal} {after : List ℕ} → root ≡ k
+    → (q ≡ (root_kind text k).refused words) × (after ≡ root_counts k words (length text) before)
+    → (q ≡ (root_kind text root).refused words) × (after ≡ root_counts root words (length text) before)
+checked-by text words before {q = q} {after = after} e x =
+    subst (λ (r : Root). (q ≡ (root_kind text r).refused words) × (after ≡ root_counts r words (length text) before)) (sym e) x
 
 -- ---- the refusals, and the print of an accepted table
 
-module _ (step : ℕ) (root : Root) (text words b b' : List ℕ) where
+module _ (settings : Settings) (root : Root) (text words b b' : List ℕ) where
   abbrev P : Printable
-  P = rooted step text root
+  P = rooted settings text root
 
   -- what the table is refused by
   by-held : {r : Result ℕ PrintError} (h : Held P.kind.Tree) → held_for P text words ≡ h → Gives P b r b' h → Renders P text words b r b'
@@ -125,19 +138,19 @@ module _ (step : ℕ) (root : Root) (text words b b' : List ℕ) where
   over-text h = by-held (refused oversized 0) (long-text P.kind text words (leb P.indent most_indent) h) (record { error = Oversized; answers = refl; numbered = refl; placed = refl })
 
   pub over-indent : most_indent < root_indent root → Renders P text words b (Err Oversized) b'
-  over-indent h = by-held (refused oversized 0) (past-limit P.kind text words (lt-leb _ _ (rw (root-indent step text root) h))) (record { error = Oversized; answers = refl; numbered = refl; placed = refl })
+  over-indent h = by-held (refused oversized 0) (past-limit P.kind text words (lt-leb _ _ h)) (record { error = Oversized; answers = refl; numbered = refl; placed = refl })
 
   module _ (t : length text ≤ most_text) (i : root_indent root ≤ most_indent) where
     -- the check's refusal is the answer
     pub refused-table : (e : CheckError) → P.kind.refused words ≡ check_refusal (Err e) → Renders P text words b (Err (of_check e)) b'
     refused-table (CheckMisfit place) e =
-        by-held (refused misfitting place) (refuses P.kind text words t (le-leb _ _ (rw (root-indent step text root) i)) _ e) (record { error = Misfit place; answers = refl; numbered = refl; placed = refl })
+        by-held (refused misfitting place) (refuses P.kind text words t (le-leb _ _ i) _ e) (record { error = Misfit place; answers = refl; numbered = refl; placed = refl })
     refused-table CheckTooManyWords e =
-        by-held (refused oversized 0) (refuses P.kind text words t (le-leb _ _ (rw (root-indent step text root) i)) _ e) (record { error = Oversized; answers = refl; numbered = refl; placed = refl })
+        by-held (refused oversized 0) (refuses P.kind text words t (le-leb _ _ i) _ e) (record { error = Oversized; answers = refl; numbered = refl; placed = refl })
 
     -- the print of an unrefused table's tree is the answer
     pub accepted : {r : Result ℕ PrintError} → P.kind.refused words ≡ none → Makes P words b r b' → Renders P text words b r b'
     accepted e x =
         let a = (P.kind.unrefused words).0 e in
-        let w : Within P text words = record { text-fits = t; words-fit = a.0; indent-fits = rw (root-indent step text root) i } in
-        by-held (held a.1.0) (holds P (root_laws step text root) text words a.1.0 a.1.1 w) (x.made a.1.0 a.1.1)
+        let w : Within P text words = record { text-fits = t; words-fit = a.0; indent-fits = i } in
+        by-held (held a.1.0) (holds P (root_laws text root) text words a.1.0 a.1.1 w) (x.made a.1.0 a.1.1)

@@ -3,9 +3,9 @@ use Rattle.std.specs.Prelude.{length}
 use Rattle.tree.specs.Ast.{Expr, Stmt, Tagger, FunctionDefinition, Function, Axiom, Procedure as Proc}
 use Rattle.tree.specs.Words.{name_words, expr_words, exprs_words, stmt_words, tagger_words, function_definition_words, function_words, axiom_words, procedure_words, program_words}
 use Rattle.tree.specs.Counted.{CountedExprs, CountedDefinition, CountedFunction, CountedAxiom, CountedProcedure, CountedProgram}
-use Rattle.layout.specs.declared.format.ExprFormatOption.TheVariants.{MultipleLines}
 use Rattle.layout.specs.Text.{◌▹◌, ◌▸◌}
 use Rattle.layout.specs.PrintUtil.{Indent, Init}
+use Rattle.layout.specs.Settings.{format_at}
 use Rattle.layout.specs.Printer.{Expression}
 use Rattle.layout.specs.Statements.{inline}
 use Rattle.layout.specs.Program.{TypeDecl, TaggerDecl, when_clauses, definition, FunctionDecl, AxiomDecl, body, Procedure, Program}
@@ -16,11 +16,11 @@ use Rattle.rendering.specs.StmtParts.{NumberedStmt}
 
 -- ---- parts of declarations
 
--- an expression on broken lines from the first indent on
-abbrev pub broken : Parts
-broken =
+-- an expression in the source's form at the first indent
+abbrev pub indented : Parts
+indented =
     counted Numbered (λ S. expr_words {N = N S} (λ n. n.span))
-    (λ S e rest. Indent S.step ▹ Expression (named S) S.step e Init (MultipleLines S.step) rest) (λ S. S.step)
+    (λ S e rest. Indent S.step ▹ Expression (named S) S.step e Init (format_at S.form S.step) rest) (λ S. S.step)
 
 -- a `when` clause, on a line of its own
 abbrev pub a_when : Kind
@@ -44,7 +44,7 @@ a_definition =
       Tree = λ S. FunctionDefinition (N S);
       numbers = λ S. CountedDefinition {N = N S} (λ n. n.span) S.counts.now (length S.words.now);
       words = λ S. function_definition_words (λ n. n.span);
-      print = λ S d rest. definition (named S) S.step d rest;
+      print = λ S d rest. definition (named S) S.step S.form d rest;
       indent = λ S. S.step;
     }
 
@@ -86,7 +86,7 @@ a_function_decl =
       Tree = λ S. Function (N S);
       numbers = λ S. CountedFunction {N = N S} (λ n. n.span) S.counts.now (length S.words.now);
       words = λ S. function_words (λ n. n.span);
-      print = λ S. FunctionDecl (named S) S.step;
+      print = λ S. FunctionDecl (named S) S.step S.form;
       indent = λ S. S.step;
     }
 
@@ -96,7 +96,7 @@ an_axiom_decl =
       Tree = λ S. Axiom (N S);
       numbers = λ S. CountedAxiom {N = N S} (λ n. n.span) S.counts.now (length S.words.now);
       words = λ S. axiom_words (λ n. n.span);
-      print = λ S. AxiomDecl (named S) S.step;
+      print = λ S. AxiomDecl (named S) S.step S.form;
       indent = λ S. S.step;
     }
 
@@ -113,4 +113,4 @@ a_procedure =
 abbrev pub a_program : Parts
 a_program =
     counted (λ S. CountedProgram {N = N S} (λ n. n.span) S.counts.now (length S.words.now)) (λ S. program_words (λ n. n.span))
-    (λ S p rest. Program (named S) S.step p rest) (λ S. S.step)
+    (λ S p rest. Program (named S) S.step S.form p rest) (λ S. S.step)

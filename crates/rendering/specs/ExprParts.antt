@@ -28,9 +28,9 @@ operand S e = record { print = λ c f r. Expression (named S) S.step e c f r; is
 pub record IsIf (s : Printer) (r : Bool) : Type 0 where
   pub tells : (t : Expr (N s.source)) (rest : List ℕ) → drop s.at s.source.words.now ≡ expr_words (λ n. n.span) t rest → r ≡ is_if t
 
--- the greatest indent step that the prints are proved for
+-- the greatest indent step that the prints are proved for: that of one byte
 abbrev pub most_step : ℕ
-most_step = 8
+most_step = 255
 
 -- what the prints need beside the numbers of items: a table no longer than a checked one, a step that is not too great, and an indent that
 -- grows no faster than the place

@@ -1,4 +1,4 @@
--- What is printed: the prints of expressions and programs over a text, once for both. What a table holds over its text, a tree or refusal 6 or 7
+-- What is printed: the prints of expressions and programs over a text by settings, once for both. What a table holds over its text, a tree or refusal 6 or 7
 -- (REFERENCE, "The refusals"), is tree's `held_by`.
 use Rattle.std.specs.Prelude.{ℕ, ◌≤◌, List, [], length, leb}
 use Rattle.tree.specs.Limits.{most_text, most_words}
@@ -6,8 +6,9 @@ use Rattle.tree.specs.Ast.{Expr, Program as Tree}
 use Rattle.tree.specs.Resolve.{bytes_of}
 use Rattle.tree.specs.Check.{NameIn}
 use Rattle.tree.specs.Held.{TableKind, expression_tables, program_tables, Held, held_by}
-use Rattle.layout.specs.declared.format.ExprFormatOption.{ExprFormatOption}
-use Rattle.layout.specs.PrintUtil.{start_indent, Init}
+use Rattle.layout.specs.declared.settings.Settings.{Settings}
+use Rattle.layout.specs.PrintUtil.{Init}
+use Rattle.layout.specs.Settings.{format_at}
 use Rattle.layout.specs.Printer.{Expression}
 use Rattle.layout.specs.Program.{Program}
 
@@ -27,20 +28,20 @@ pub record Printable : Type 1 where
 abbrev pub name_in : (text : List ℕ) → NameIn (length text) → List ℕ
 name_in text n = bytes_of text n.span
 
--- the print of an expression in a format, and that of a program, without what follows
-unfoldable pub print_of : (step : ℕ) (text : List ℕ) → ExprFormatOption → Expr (NameIn (length text)) → List ℕ
-print_of step text format e = Expression (name_in text) step e Init format []
+-- the print of an expression from a start indent on, and that of a program, without what follows
+unfoldable pub print_of : Settings → (text : List ℕ) (indent : ℕ) → Expr (NameIn (length text)) → List ℕ
+print_of settings text indent e = Expression (name_in text) settings.step e Init (format_at settings.form indent) []
 
-unfoldable pub program_print_of : (step : ℕ) (text : List ℕ) → Tree (NameIn (length text)) → List ℕ
-program_print_of step text p = Program (name_in text) step p []
+unfoldable pub program_print_of : Settings → (text : List ℕ) → Tree (NameIn (length text)) → List ℕ
+program_print_of settings text p = Program (name_in text) settings.step settings.form p []
 
--- the expressions over a text in a format, and the programs
-abbrev pub expressions : (step : ℕ) (text : List ℕ) → ExprFormatOption → Printable
-expressions step text format =
-    record { kind = expression_tables (length text); print = print_of step text format; indent = start_indent format }
+-- the expressions over a text from a start indent on, and the programs
+abbrev pub expressions : Settings → (text : List ℕ) (indent : ℕ) → Printable
+expressions settings text indent =
+    record { kind = expression_tables (length text); print = print_of settings text indent; indent = indent }
 
-abbrev pub programs : (step : ℕ) (text : List ℕ) → Printable
-programs step text = record { kind = program_tables (length text); print = program_print_of step text; indent = 0 }
+abbrev pub programs : Settings → (text : List ℕ) → Printable
+programs settings text = record { kind = program_tables (length text); print = program_print_of settings text; indent = 0 }
 
 -- ---- what is printed of a table
 

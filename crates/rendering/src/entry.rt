@@ -5,12 +5,12 @@ ghost use Rattle.tree.specs.Check.{refusal};
 ghost use Rattle.rendering.specs.Tables.{most_indent};
 ghost use Rattle.rendering.specs.Parts.{Prints};
 ghost use Rattle.rendering.specs.ExprParts.{most_step};
-ghost use Rattle.rendering.specs.Render.{rooted, root_indent, root_counts, root_part, Numbered, Renders, Makes};
+ghost use Rattle.rendering.specs.Render.{root_kind, root_indent, rooted, root_counts, root_part, settings_in, Numbered, Renders, Makes};
 
 use crate::printer::{Printer, Source};
 use crate::setting::Setting;
 use crate::{PrintError, Root};
-use layout::INDENT_AMOUNT;
+use layout::Settings;
 use tree::{CheckError, MOST_TEXT, MOST_WORDS, count_expression, count_program};
 
 const MOST_INDENT: usize = 255;
@@ -18,16 +18,17 @@ const MOST_INDENT: usize = 255;
 // A table of so many words takes a small table of numbers.
 const SMALL_TABLE: usize = 256;
 
-// Prints the tree that a table holds over a text at a buffer's start. The buffer's bytes that no print occupies are free afterwards, after a
+// Prints the tree that a table holds over a text by settings, at a buffer's start. The buffer's bytes that no print occupies are free afterwards, after a
 // refusal all of them.
 // Kept: the text and the words are what callers have; a `Source` is made where the check has filled the numbers.
 pub fn render(
     text: &[u8],
     words: &[u32],
     root: Root,
+    settings: Settings,
     buffer: &mut [u8],
 ) -> Result<usize, PrintError>
-    ensures { Renders (rooted 2 text.now root) text.now words.now buffer.old result buffer.new }
+    ensures { Renders (rooted settings text.now root) text.now words.now buffer.old result buffer.new }
 {
     if MOST_TEXT < text.len() {
         return Err(PrintError::Oversized);
@@ -36,9 +37,9 @@ pub fn render(
         return Err(PrintError::Oversized);
     }
     if words.len() <= SMALL_TABLE {
-        return render_in::<SMALL_TABLE>(text, words, root, buffer);
+        return render_in::<SMALL_TABLE>(text, words, root, settings, buffer);
     }
-    render_in::<MOST_WORDS>(text, words, root, buffer)
+    render_in::<MOST_WORDS>(text, words, root, settings, buffer)
 }
 
 // The check, which counts the items of the sequences of a table of at most SIZE words, and then the print.
@@ -47,13 +48,14 @@ fn render_in<const SIZE: usize>(
     text: &[u8],
     words: &[u32],
     root: Root,
+    settings: Settings,
     buffer: &mut [u8],
 ) -> Result<usize, PrintError>
     requires text { length text.now ≤ most_text }
     requires indent { root_indent root ≤ most_indent }
     requires words { length words.now ≤ most_words → length words.now ≤ SIZE }
     requires size { SIZE ≤ most_words }
-    ensures { Renders (rooted 2 text.now root) text.now words.now buffer.old result buffer.new }
+    ensures { Renders (rooted settings text.now root) text.now words.now buffer.old result buffer.new }
 {
     let mut counts = [0; SIZE];
     root.count(text, words, &mut counts)?;
@@ -61,15 +63,16 @@ fn render_in<const SIZE: usize>(
         text,
         words,
         counts: &counts,
-        step: INDENT_AMOUNT,
+        step: usize::from(settings.step),
+        form: settings.form,
     };
     render_by(source, root, buffer)
 }
 
 // The print of a checked table's tree, by the numbers of items.
 fn render_by(source: Source, root: Root, buffer: &mut [u8]) -> Result<usize, PrintError>
-    requires { (source.step ≤ most_step) × (root_indent root ≤ most_indent) × Numbered source.text.now source.words.now source.counts.now source.step root }
-    ensures { Makes (rooted source.entry.step source.entry.text.now root) source.entry.words.now buffer.old result buffer.new }
+    requires { (source.step ≤ most_step) × (root_indent root ≤ most_indent) × Numbered source.text.now source.words.now source.counts.now root }
+    ensures { Makes (rooted (settings_in source.entry) source.entry.text.now root) source.entry.words.now buffer.old result buffer.new }
 {
     let room = buffer.len();
     let mut printer = Printer {
@@ -92,7 +95,7 @@ impl Root {
         ensures { result ≡ root_indent self }
     {
         match self {
-            Root::AnExpression(format) => format.start_indent(),
+            Root::AnExpression(indent) => indent,
             Root::AProgram => 0,
         }
     }
@@ -100,7 +103,7 @@ impl Root {
     // The check of a table, with the numbers of its sequences' items.
     // Kept: as `render`, before there is a `Source`.
     fn count(self, text: &[u8], words: &[u32], counts: &mut [u16]) -> Result<(), CheckError>
-        ensures { (refusal result ≡ (rooted 2 text.now self).kind.refused words.now) × (counts.new ≡ root_counts self words.now (length text.now) counts.old) }
+        ensures { (refusal result ≡ (root_kind text.now self).refused words.now) × (counts.new ≡ root_counts self words.now (length text.now) counts.old) }
     {
         match self {
             Root::AnExpression(_) => count_expression(words, text.len(), counts),
@@ -113,7 +116,9 @@ impl Root {
         ensures { Prints (root_part self) printer.old printer.new }
     {
         match self {
-            Root::AnExpression(format) => printer.expr(Setting::outermost(format)),
+            Root::AnExpression(indent) => {
+                printer.expr(Setting::outermost(printer.source.form.at(indent)))
+            }
             Root::AProgram => printer.program(),
         }
     }

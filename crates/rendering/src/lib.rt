@@ -17,15 +17,14 @@ ghost use Rattle.std.specs.Prelude.{◌≡◌};
 ghost use Rattle.rendering.specs.Errors.{print_error_number, print_error_place, of_check};
 
 pub use entry::render;
-use layout::ExprFormatOption;
 use tree::CheckError;
 
 // The tree that a table is to hold.
-// Kept: beside parsing's `Whole`, of which this crate knows nothing, and with the format of an expression.
+// Kept: beside parsing's `Whole`, of which this crate knows nothing, and with the start indent of an expression.
 #[derive(Clone, Copy, PartialEq, Eq, Debug)]
 pub enum Root {
-    // An expression, printed in a format.
-    AnExpression(ExprFormatOption),
+    // An expression, whose lines start from an indent.
+    AnExpression(usize),
     AProgram,
 }
 

@@ -5,11 +5,11 @@ ghost use Rattle.layout.specs.Text.{decimal};
 ghost use Rattle.rendering.specs.Wrote.{Puts, Takes, Stores};
 ghost use Rattle.rendering.specs.Parts.{Reads, Looks, Ends, Counts};
 
-use layout::{BindingPower, ExprFormatOption, Side};
+use layout::{BindingPower, ExprFormatOption, Form, Side};
 use tree::word::NO_MORE;
 use tree::{get, item_or};
 
-// What is printed: the words of a table over a text, how many items each of their sequences has, and the indent step.
+// What is printed: the words of a table over a text, how many items each of their sequences has, the indent step, and the form of expressions.
 #[derive(Clone, Copy)]
 pub(crate) struct Source<'a> {
     pub(crate) text: &'a [u8],
@@ -17,6 +17,7 @@ pub(crate) struct Source<'a> {
     // At the place where a sequence begins, the number of its items.
     pub(crate) counts: &'a [u16],
     pub(crate) step: usize,
+    pub(crate) form: Form,
 }
 
 #[derive(Drop)]

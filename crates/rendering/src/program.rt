@@ -1,11 +1,10 @@
 // Printer.dfy's `Program` and the declarations. Each method prints the words from the next one on, and passes them.
 ghost use Rattle.rendering.specs.Parts.{Prints};
 ghost use Rattle.rendering.specs.Sequences.{one};
-ghost use Rattle.rendering.specs.DeclParts.{a_program, a_type_decl, a_tagger_decl, a_function_decl, an_axiom_decl, a_procedure, broken, a_when, when_list, a_definition, a_body};
+ghost use Rattle.rendering.specs.DeclParts.{a_program, a_type_decl, a_tagger_decl, a_function_decl, an_axiom_decl, a_procedure, indented, a_when, when_list, a_definition, a_body};
 
 use crate::printer::Printer;
 use crate::setting::Setting;
-use layout::ExprFormatOption;
 
 impl Printer<'_> {
     // `Program`: the declarations of each kind, an empty line before each.
@@ -54,7 +53,7 @@ impl Printer<'_> {
     {
         self.whens();
         self.put(b"{\n");
-        self.broken_lines();
+        self.indented();
         self.put(b"\n}\n");
     }
 
@@ -73,13 +72,14 @@ impl Printer<'_> {
         self.put(b"\n");
     }
 
-    // An expression on broken lines from the first indent on.
-    fn broken_lines(&mut self)
-        ensures { Prints broken self.old self.new }
+    // An expression in the source's form at the first indent.
+    fn indented(&mut self)
+        ensures { Prints indented self.old self.new }
     {
         let step = self.source.step;
+        let format = self.source.form.at(step);
         self.indent(step);
-        self.expr(Setting::outermost(ExprFormatOption::MultipleLines(step)));
+        self.expr(Setting::outermost(format));
     }
 
     fn axiom_decl(&mut self)
@@ -88,7 +88,7 @@ impl Printer<'_> {
         self.put(b"axiom");
         self.separated(b" explains ", b", ", |p| p.name());
         self.put(b"\n");
-        self.broken_lines();
+        self.indented();
         self.put(b"\n");
     }
 

@@ -10,7 +10,7 @@ use Rattle.lexing.specs.Bytes.{bytes}
 use Rattle.tree.specs.Ast.{Expr, IdExpr, OperatorExpr, Plus, no_exprs, ◌then◌}
 use Rattle.tree.specs.Check.{NameIn}
 use Rattle.tree.specs.Resolve.{part}
-use Rattle.layout.specs.declared.format.ExprFormatOption.TheVariants.{SingleLine, MultipleLines}
+use Rattle.layout.specs.Settings.{defaults, one_line}
 use Rattle.layout.specs.Examples.{computed}
 use Rattle.tree.specs.Held.{held_by}
 use Rattle.rendering.specs.Tables.{expressions, print_of}
@@ -24,15 +24,20 @@ use Rattle.printing.specs.EntryLaws.{prints}
 abbrev name-words : List ℕ
 name-words = 4 ∷ 0 ∷ 1 ∷ 0 ∷ []
 
-indent-255 : print_expression 2 (bytes "a") name-words (MultipleLines 255) (bytes "~~") ≡ written 1 (bytes "a~")
+indent-255 : print_expression defaults (bytes "a") name-words 255 (bytes "~~") ≡ written 1 (bytes "a~")
 unfolding computed print_of stored part
 indent-255 =
-    prints (expressions 2 (bytes "a") (MultipleLines 255)) (bytes "a") name-words (bytes "~~") (expression-laws (bytes "a"))
+    prints (expressions defaults (bytes "a") 255) (bytes "a") name-words (bytes "~~") (expression-laws (bytes "a"))
     (IdExpr (record { span = record { start = 0; len = 1 }; inside = lit≤ tt }) false) refl (lit≤ tt) (lit≤ tt) (lit≤ tt)
 
-indent-256 : print_expression 2 (bytes "a") name-words (MultipleLines 256) (bytes "~~") ≡ refusal 6 0 (bytes "~~")
+indent-256 : print_expression defaults (bytes "a") name-words 256 (bytes "~~") ≡ refusal 6 0 (bytes "~~")
 unfolding print_table held_by
 indent-256 = refl
+
+-- the limit stands on one line too
+one-line-256 : print_expression one_line (bytes "a") name-words 256 (bytes "~~") ≡ refusal 6 0 (bytes "~~")
+unfolding print_table held_by
+one-line-256 = refl
 
 -- ---- the bytes of a print
 
@@ -73,17 +78,17 @@ module _ (text : List ℕ) (full : length text ≡ 32768) where
   sum-length n h = simp (length-append, length-take, length-drop) (omega arith)
 
   -- the sum's print is stored
-  sum-stored : (n : ℕ) → n ≤ 32768 → (out : List ℕ) → print_expression 2 text (sum-words n) SingleLine out ≡ stored (sum-print n) out
+  sum-stored : (n : ℕ) → n ≤ 32768 → (out : List ℕ) → print_expression one_line text (sum-words n) 0 out ≡ stored (sum-print n) out
   unfolding computed print_of
   sum-stored n h out =
-      prints (expressions 2 text SingleLine) text (sum-words n) out (expression-laws text) (sum n h) refl (omega arith) (lit≤ tt) (lit≤ tt)
+      prints (expressions one_line text 0) text (sum-words n) out (expression-laws text) (sum n h) refl (omega arith) (lit≤ tt) (lit≤ tt)
       ∙ ap (λ (p : List ℕ). stored p out) (simp append-nil)
 
   print-65536 : (out : List ℕ) → 65536 ≤ length out
-      → print_expression 2 text (sum-words 32765) SingleLine out ≡ written 65536 (sum-print 32765 ++ drop 65536 out)
+      → print_expression one_line text (sum-words 32765) 0 out ≡ written 65536 (sum-print 32765 ++ drop 65536 out)
   print-65536 out h = sum-stored 32765 (lit≤ tt) out ∙ fits _ out 65536 (sum-length 32765 (lit≤ tt)) h (lit≤ tt)
 
-  print-65537 : (out : List ℕ) → print_expression 2 text (sum-words 32766) SingleLine out ≡ refusal 8 0 out
+  print-65537 : (out : List ℕ) → print_expression one_line text (sum-words 32766) 0 out ≡ refusal 8 0 out
   print-65537 out = sum-stored 32766 (lit≤ tt) out ∙ too_long _ out 65537 (sum-length 32766 (lit≤ tt)) (lit< tt)
 
 -- there is such a text

@@ -19,7 +19,9 @@ use Rattle.reading.specs.Claims.{read-expression-exact}
 use Rattle.lexing.specs.declared.refusal.Refusal.{Refusal}
 use Rattle.std.specs.Prelude.{Result, Ok}
 use Rattle.layout.specs.declared.format.ExprFormatOption.{ExprFormatOption}
+use Rattle.layout.specs.declared.settings.Settings.{Settings}
 use Rattle.layout.specs.PrintUtil.{Init}
+use Rattle.layout.specs.Settings.{format_at}
 use Rattle.layout.specs.Printer.{Expression}
 use Rattle.tree.specs.Held.{Holds}
 use Rattle.rendering.specs.Tables.{name_in, expressions, print_of}
@@ -62,34 +64,38 @@ module _ (step : ℕ) (format : ExprFormatOption) where
 abbrev pub tree_in : (text : List ℕ) → Expr (NameIn (length text)) → Tree
 tree_in text e = map_expr (name_in text) e
 
-module _ (text words out out' : List ℕ) (format : ExprFormatOption) (n : ℕ) (e : Expr (NameIn (length text))) (holds : Holds text words e)
-    (x : Faithful (tree_in text e)) (a : PrintAnswered text words format out (Ok n) out') where
+module _ (text words out out' : List ℕ) (settings : Settings) (indent n : ℕ) (e : Expr (NameIn (length text))) (holds : Holds text words e)
+    (x : Faithful (tree_in text e)) (a : PrintAnswered settings text words indent out (Ok n) out') where
+  -- the format that the settings give it
+  abbrev format : ExprFormatOption
+  format = format_at settings.form indent
+
   -- what was written is the print of the tree that the table holds, with its names as bytes
-  is-print : print 2 format (tree_in text e) ≡ take n out'
+  is-print : print settings.step format (tree_in text e) ≡ take n out'
   unfolding print_of print
   is-print =
-      let w = written-tree (expressions 2 text format) (expression-laws text) text words out (Ok n) out' a n refl in
+      let w = written-tree (expressions settings text indent) (expression-laws text) text words out (Ok n) out' a n refl in
       let t : Expr (NameIn (length text)) = w.1.0 in
-      let p = print_of 2 text format t in
-      let q = tree-printed (expressions 2 text format) (expression-laws text) text words out (Ok n) out' a t w.1.1.0 w.0 w.1.1.1 in
+      let p = print_of settings text indent t in
+      let q = tree-printed (expressions settings text indent) (expression-laws text) text words out (Ok n) out' a t w.1.1.0 w.0 w.1.1.1 in
       let k : length p ≡ n = cc q.0 in
       let same : t ≡ e = same-tree text words t e w.1.1.0 holds in
-      sym (print-named (name_in text) 2 e Init format [])
-      ∙ ap (print_of 2 text format) (sym same)
+      sym (print-named (name_in text) settings.step e Init format [])
+      ∙ ap (print_of settings text indent) (sym same)
       ∙ sym (take-append_seam p (drop (length p) out))
       ∙ ap (λ m. take m (p ++ drop (length p) out)) k
       ∙ ap (take n) (sym q.1)
 
   -- what was written is derived
   pub written-derives : (d : ℕ) → nesting (tree_in text e) Init < d → Derives d (take n out') (tree_in text e)
-  written-derives d h = subst (λ p. Derives d p (tree_in text e)) is-print (print-derives 2 format (tree_in text e) d x h)
+  written-derives d h = subst (λ p. Derives d p (tree_in text e)) is-print (print-derives settings.step format (tree_in text e) d x h)
 
   -- and is read back where it keeps the reading limits
   pub written_read : (m : ℕ) (t : Tree) → DerivesWithin m (take n out') t → (r : Result ℕ Refusal) (table : List ℕ) → Answered (take n out') m r table
       → Leaves (take n out') m (tree_in text e) r table
   written_read m t y r table b =
-      let z : DerivesWithin m (print 2 format (tree_in text e)) t = rw is-print y in
-      let w : DerivesWithin m (take n out') (tree_in text e) = subst (λ p. DerivesWithin m p (tree_in text e)) is-print (print-within 2 format m (tree_in text e) t x z) in
+      let z : DerivesWithin m (print settings.step format (tree_in text e)) t = rw is-print y in
+      let w : DerivesWithin m (take n out') (tree_in text e) = subst (λ p. DerivesWithin m p (tree_in text e)) is-print (print-within settings.step format m (tree_in text e) t x z) in
       ((read-expression-exact (take n out') m r table (tree_in text e) b).1 w).0
 
   -- The same from plain limits: those on the print's length and nesting. The tree's words are the table's, so they fit where these fit, and the
@@ -102,10 +108,10 @@ module _ (text words out out' : List ℕ) (format : ExprFormatOption) (n : ℕ) 
     keeps m h =
         let t = tree_in text e in
         let c : word_count t ≡ length words = counted in
-        let few : length words ≤ most_words = (written-tree (expressions 2 text format) (expression-laws text) text words out (Ok n) out' a n refl).0.words-fit in
-        let k : length (print 2 format t) ≤ most_text = rw is-print (omega (arith, length-take n out')) in
+        let few : length words ≤ most_words = (written-tree (expressions settings text indent) (expression-laws text) text words out (Ok n) out' a n refl).0.words-fit in
+        let k : length (print settings.step format t) ≤ most_text = rw is-print (omega (arith, length-take n out')) in
         subst (λ p. DerivesWithin m p t) is-print
-        (print-keeps 2 format m t x (words_small (name_in text) e [] (subst Words32 (sym holds) w)) k flat (omega arith) (omega arith))
+        (print-keeps settings.step format m t x (words_small (name_in text) e [] (subst Words32 (sym holds) w)) k flat (omega arith) (omega arith))
 
     pub written-read-plainly : (m : ℕ) → length words ≤ m → (r : Result ℕ Refusal) (table : List ℕ) → Answered (take n out') m r table
         → Leaves (take n out') m (tree_in text e) r table

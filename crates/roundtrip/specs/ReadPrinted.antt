@@ -11,6 +11,7 @@ use Rattle.grammar.specs.Reading.{words, unless_long, outcome_by, read_tree_of_p
 use Rattle.grammar.proofs.Claims as Grammar
 use Rattle.rendering.specs.declared.PrintError.{PrintError}
 use Rattle.rendering.specs.Errors.{Refuses}
+use Rattle.layout.specs.declared.settings.Settings.{Settings}
 use Rattle.rendering.specs.Tables.{most_indent, Printable, Within, programs}
 use Rattle.printing.specs.Entries.{Answered, ProgramAnswered}
 use Rattle.tree.specs.HeldLaws.{Lawful, program-laws}
@@ -41,9 +42,9 @@ accepted-unrefused P L text table out out' r a t i e =
     }
 
 -- the table of a program
-pub program-unrefused : (text : List ℕ) (n k : ℕ) (table out out' : List ℕ) (r : Result ℕ PrintError) → read_program text n ≡ words k table → ProgramAnswered text (take k table) out r out'
+pub program-unrefused : (settings : Settings) (text : List ℕ) (n k : ℕ) (table out out' : List ℕ) (r : Result ℕ PrintError) → read_program text n ≡ words k table → ProgramAnswered settings text (take k table) out r out'
     → Unrefused r
 unfolding read_program read_tree_of_program
-program-unrefused text n k table out out' r e a =
-    accepted-unrefused (programs 2 text) (program-laws text) text (take k table) out out' r a
+program-unrefused settings text n k table out out' r e a =
+    accepted-unrefused (programs settings text) (program-laws text) text (take k table) out out' r a
     (read_fits (λ p. program_words (λ s. s) p []) text (parse_program text) n e) (lit≤ tt) (Grammar.read-program-accepted text n k table e)

@@ -14,6 +14,7 @@ use Rattle.grammar.specs.Reading as Reading
 use Rattle.layout.specs.declared.format.ExprFormatOption.TheVariants.{SingleLine}
 use Rattle.layout.specs.Examples.{computed as print-computed}
 use Rattle.rendering.specs.Tables.{expressions, print_of}
+use Rattle.layout.specs.Settings.{one_line}
 use Rattle.printing.specs.Entries.{written, stored, print_expression}
 use Rattle.printing.specs.Entries as Printing
 use Rattle.printing.specs.EntryLaws as Entry
@@ -30,7 +31,7 @@ abbrev pub Given : List Trial → Type 0
 Given [] = Unit {0}
 Given (reads s n o ∷ ts) = (read_expression (bytes s) n ≡ o) × Given ts
 Given (reads_program s n o ∷ ts) = (read_program (bytes s) n ≡ o) × Given ts
-Given (prints s ws out o ∷ ts) = (print_expression 2 (bytes s) ws SingleLine (bytes out) ≡ o) × Given ts
+Given (prints s ws out o ∷ ts) = (print_expression one_line (bytes s) ws 0 (bytes out) ≡ o) × Given ts
 
 -- the list
 abbrev pub trials : List Trial
@@ -66,8 +67,8 @@ abbrev c : Expr (NameIn 3)
 c = name 2 (lit≤ tt)
 
 printed : (e : Expr (NameIn 3)) (ws : List ℕ) → expr_words (λ n. n.span) e [] ≡ ws → length ws ≤ 16384
-    → print_expression 2 (bytes "abc") ws SingleLine (bytes "~~~~~~~~~~~~~~~~") ≡ stored (print_of 2 (bytes "abc") SingleLine e) (bytes "~~~~~~~~~~~~~~~~")
-printed e ws h l = Entry.prints (expressions 2 (bytes "abc") SingleLine) (bytes "abc") ws (bytes "~~~~~~~~~~~~~~~~") (expression-laws (bytes "abc")) e h (lit≤ tt) l (lit≤ tt)
+    → print_expression one_line (bytes "abc") ws 0 (bytes "~~~~~~~~~~~~~~~~") ≡ stored (print_of one_line (bytes "abc") 0 e) (bytes "~~~~~~~~~~~~~~~~")
+printed e ws h l = Entry.prints (expressions one_line (bytes "abc") 0) (bytes "abc") ws (bytes "~~~~~~~~~~~~~~~~") (expression-laws (bytes "abc")) e h (lit≤ tt) l (lit≤ tt)
 
 -- the theorem
 pub trials-given : Given trials

@@ -19,6 +19,7 @@ use Rattle.rendering.specs.Errors.{print_error_number, print_error_place}
 use Rattle.rendering.specs.Tables.{programs}
 use Rattle.tree.specs.HeldLaws.{program-laws}
 use Rattle.rendering.specs.declared.PrintError.{PrintError}
+use Rattle.layout.specs.Settings.{defaults}
 use Rattle.printing.specs.Entries.{written, refusal as unprinted, print_program}
 use Rattle.printing.specs.Entries.{ProgramAnswered as ProgramPrinted}
 use Rattle.printing.specs.Claims.{written-tree, tree-printed}
@@ -36,13 +37,13 @@ gives-same {r = r} {out = out} e g = subst (λ (x : Answered). Gives x r out) e 
 
 module _ (text ws out : List ℕ) (r : Result ℕ PrintError) (out' : List ℕ) (a : ProgramPrinted text ws out r out') where
   -- what is written is no longer than the output
-  pub print-gives : {n : ℕ} → r ≡ Ok n → Gives (of_print (print_program 2 text ws out)) (Ok n) out'
+  pub print-gives : {n : ℕ} → r ≡ Ok n → Gives (of_print (print_program defaults text ws out)) (Ok n) out'
   print-gives {n} e =
-      let o : written n out' ≡ print_program 2 text ws out = rw e at a in
-      let w = written-tree (programs 2 text) (program-laws text) text ws out r out' a n e in
-      let p = tree-printed (programs 2 text) (program-laws text) text ws out r out' a w.1.0 w.1.1.0 w.0 w.1.1.1 in
-      let h : ◌≡◌ {A = Result ℕ PrintError} (Ok n) (Ok (length ((programs 2 text).print w.1.0))) = sym e ∙ p.0 in
-      let k : n ≡ length ((programs 2 text).print w.1.0) = cc in
+      let o : written n out' ≡ print_program defaults text ws out = rw e at a in
+      let w = written-tree (programs defaults text) (program-laws text) text ws out r out' a n e in
+      let p = tree-printed (programs defaults text) (program-laws text) text ws out r out' a w.1.0 w.1.1.0 w.0 w.1.1.1 in
+      let h : ◌≡◌ {A = Result ℕ PrintError} (Ok n) (Ok (length ((programs defaults text).print w.1.0))) = sym e ∙ p.0 in
+      let k : n ≡ length ((programs defaults text).print w.1.0) = cc in
       let l : n ≤ length out' = omega (arith, k, simp length-append at (ap length p.1)) in
       record {
         answered = ap of_print o;
@@ -51,9 +52,9 @@ module _ (text ws out : List ℕ) (r : Result ℕ PrintError) (out' : List ℕ) 
       }
 
   pub print-fails : {e : PrintError} → r ≡ Err e → (length text ≤ most_text) × (program_refusal ws (length text) ≡ none)
-      → Gives (of_print (print_program 2 text ws out)) (Err (Print e)) out'
+      → Gives (of_print (print_program defaults text ws out)) (Err (Print e)) out'
   print-fails {e} q h =
-      let o : unprinted (print_error_number e) (print_error_place e) out' ≡ print_program 2 text ws out = rw q at a in
+      let o : unprinted (print_error_number e) (print_error_place e) out' ≡ print_program defaults text ws out = rw q at a in
       let l : Limited out (unprinted (print_error_number e) (print_error_place e) out') = subst (Limited out) (sym o) (print-limited text ws out h.0 h.1) in
       record {
         answered = ap of_print o;
@@ -77,7 +78,7 @@ module _ (text table : List ℕ) (m : ℕ) (read : Result ℕ Refusal) (a : Prog
     pub words-printable : (length text ≤ most_text) × (program_refusal (take n table) (length text) ≡ none)
     words-printable = (held.short, read-program-accepted text m n table read-words)
 
-    pub words-answered : (out : List ℕ) → of_print (print_program 2 text (take n table) out) ≡ of_reading text out (read_program text m)
+    pub words-answered : (out : List ℕ) → of_print (print_program defaults text (take n table) out) ≡ of_reading text out (read_program text m)
     words-answered out = sym (ap (of_reading text out) read-words)
 
   pub reading-fails : {e : Refusal} → read ≡ Err e → (out : List ℕ) → Gives (of_reading text out (read_program text m)) (Err (Read e)) out

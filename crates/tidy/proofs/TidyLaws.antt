@@ -13,13 +13,14 @@ use Rattle.grammar.specs.Reading.{Outcome, words, refusal, read_program}
 use Rattle.grammar.proofs.Tables.{gist, short, program-gist}
 use Rattle.rendering.specs.Tables.{programs, program_print_of}
 use Rattle.tree.specs.HeldLaws.{program-laws}
+use Rattle.layout.specs.Settings.{defaults}
 use Rattle.printing.specs.Entries.{most_print, Outcome as PrintOutcome, written, refusal as unprinted, stored, print_program}
 use Rattle.printing.specs.EntryLaws.{prints}
 use Rattle.tidy.specs.Tidy.{Answered, refusal_number, of_print, of_reading, tidied}
 
 -- what tidy answers by the words alone
 abbrev of_gist : List ℕ → List ℕ → Outcome → Answered
-of_gist text out (words n ws) = of_print (print_program 2 text ws out)
+of_gist text out (words n ws) = of_print (print_program defaults text ws out)
 of_gist text out (refusal number place table) = record { answer = refusal_number number place; output = out }
 
 by-gist : (text out : List ℕ) (o : Outcome) → of_reading text out o ≡ of_gist text out (gist o)
@@ -51,13 +52,13 @@ stored-limited print out = by-fit (leb (length print) (length out) && leb (lengt
 pub record Stores (text ws out : List ℕ) : Type 0 where
   pub tree : Program (NameIn (length text))
   pub holds : program_words (λ n. n.span) tree [] ≡ ws
-  pub stores : print_program 2 text ws out ≡ stored (program_print_of 2 text tree) out
+  pub stores : print_program defaults text ws out ≡ stored (program_print_of defaults text tree) out
 
 module _ (text ws out : List ℕ) (short : length text ≤ most_text) (accepted : program_refusal ws (length text) ≡ none) where
   pub print-stores : Stores text ws out
   print-stores =
       let a = (program-unrefused ws (length text)).0 accepted in
-      record { tree = a.1.0; holds = a.1.1; stores = prints (programs 2 text) text ws out (program-laws text) a.1.0 a.1.1 short a.0 (omega arith) }
+      record { tree = a.1.0; holds = a.1.1; stores = prints (programs defaults text) text ws out (program-laws text) a.1.0 a.1.1 short a.0 (omega arith) }
 
-  pub print-limited : Limited out (print_program 2 text ws out)
+  pub print-limited : Limited out (print_program defaults text ws out)
   print-limited = subst (Limited out) (sym print-stores.stores) (stored-limited _ out)

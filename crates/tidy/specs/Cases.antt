@@ -7,6 +7,7 @@ use Rattle.tree.specs.Words.{program_words}
 use Rattle.grammar.specs.Reading.{words, refusal, read_program}
 use Rattle.grammar.proofs.Refusals.Entries.{Refused}
 use Rattle.rendering.specs.Tables.{program_print_of}
+use Rattle.layout.specs.Settings.{defaults}
 use Rattle.printing.specs.Entries.{Fits}
 use Rattle.tidy.specs.Tidy.{Answered, refusal_number}
 
@@ -20,7 +21,7 @@ pub record ReadsAs (text : List ℕ) (t : Program (NameIn (length text))) : Type
 module _ (text : List ℕ) where
   -- the print of a program over the text
   abbrev pub print_of : Program (NameIn (length text)) → List ℕ
-  print_of t = program_print_of 2 text t
+  print_of t = program_print_of defaults text t
 
   -- what tidy answers
   pub data Cases (out : List ℕ) : Answered → Type 0 where

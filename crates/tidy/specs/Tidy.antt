@@ -2,6 +2,7 @@
 use Rattle.std.specs.Prelude.{ℕ, ◌+◌, ◌*◌, ◌≡◌, List, take}
 use Rattle.tree.specs.Limits.{most_words}
 use Rattle.grammar.specs.Reading.{Outcome, words, refusal, read_program}
+use Rattle.layout.specs.Settings.{defaults}
 use Rattle.printing.specs.Entries.{Outcome as PrintOutcome, written, refusal as unprinted, print_program}
 
 -- what tidy answers, and the output afterwards
@@ -20,7 +21,7 @@ of_print (unprinted number place out) = record { answer = refusal_number number 
 
 -- a reading: the print of the words read, or the refusal, which leaves the output as it was
 abbrev pub of_reading : List ℕ → List ℕ → Outcome → Answered
-of_reading text out (words n table) = of_print (print_program 2 text (take n table) out)
+of_reading text out (words n table) = of_print (print_program defaults text (take n table) out)
 of_reading text out (refusal number place table) = record { answer = refusal_number number place; output = out }
 
 -- tidy of a text, with an output's bytes before the call

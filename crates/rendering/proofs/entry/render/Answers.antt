@@ -5,9 +5,9 @@ use Rattle.rendering.proofs.entry.render.Goals as goal
 
 pub returns-then-text-gt-MOST_TEXT : goal.returns-then-text-gt-MOST_TEXT
 returns-then-text-gt-MOST_TEXT c =
-    over-text 2 c.args.root c.args.text.now c.args.words.now c.args.buffer.now c.args.buffer.now c.if-text-gt-MOST_TEXT.true
+    over-text c.args.settings c.args.root c.args.text.now c.args.words.now c.args.buffer.now c.args.buffer.now c.if-text-gt-MOST_TEXT.true
 
 pub returns-then-start_indent-gt-MOST_INDENT : goal.returns-then-start_indent-gt-MOST_INDENT
 returns-then-start_indent-gt-MOST_INDENT c =
-    over-indent 2 c.args.root c.args.text.now c.args.words.now c.args.buffer.now
+    over-indent c.args.settings c.args.root c.args.text.now c.args.words.now c.args.buffer.now
     c.args.buffer.now (omega arith)

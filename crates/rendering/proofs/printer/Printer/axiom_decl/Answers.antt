@@ -18,4 +18,4 @@ returns c =
     (λ a rest g d.
     let names = part list a.explains (ready g.0 (omega arith) (omega arith), names-counted (name_words (λ n. n.span)) _ a.explains) (text (begin d) c.put.ensures) in
     let f = list.forward in
-    done (text (part c.broken_lines.ensures a.expr (ready g.0 (omega arith) (omega arith), g.1.1) (text names c.put-2.ensures)) c.put-3.ensures))
+    done (text (part c.indented.ensures a.expr (ready g.0 (omega arith) (omega arith), g.1.1) (text names c.put-2.ensures)) c.put-3.ensures))

@@ -8,4 +8,4 @@ returns c =
     prints (cc) (cc) (omega arith)
     (λ a rest g d.
     let clauses = part c.whens.ensures a.when (ready g.0 (omega arith) (omega arith), g.1.1) (begin d) in
-    done (text (part c.broken_lines.ensures a.body (ready g.0 (omega arith) (omega arith), g.1.2) (text clauses c.put.ensures)) c.put-2.ensures))
+    done (text (part c.indented.ensures a.body (ready g.0 (omega arith) (omega arith), g.1.2) (text clauses c.put.ensures)) c.put-2.ensures))
