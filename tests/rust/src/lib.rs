@@ -14,14 +14,17 @@ pub mod random;
 pub mod read;
 pub mod readback;
 pub mod refusal;
+pub mod settings;
 pub mod shorten;
 mod tidy;
 pub mod tree;
+pub mod trials;
 pub mod words;
 
-pub use print::{print_expression, print_program, Format};
+pub use print::{print_expression, print_expression_by, print_program, print_program_by, Format};
 pub use read::{read_expression, read_program};
 pub use refusal::Refusal;
+pub use settings::{write_settings, Form, Settings};
 pub use tidy::tidy;
 
 /// Runs `work` on a thread whose stack holds every tree of 16,384 words: printing, comparing and encoding

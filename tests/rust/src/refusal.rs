@@ -14,8 +14,11 @@ pub const SHORT_TABLE: u32 = 5;
 pub const LONG_PRINT_INPUT: u32 = 6;
 pub const MISFIT: u32 = 7;
 pub const SHORT_OUTPUT: u32 = 8;
+pub const LAYOUT: u32 = 9;
+pub const VERSION: u32 = 10;
+pub const RANGE: u32 = 11;
 
-/// A refusal's number, 1 to 8, and its place.
+/// A refusal's number, 1 to 11, and its place.
 #[derive(Clone, Copy, Debug, PartialEq, Eq)]
 pub struct Refusal {
     pub number: u32,

@@ -1,13 +1,15 @@
 //! Seeded cases: nothing overflows or panics, the reader's word count is the tree's, and what isn't read back
 //! has a known cause.
 
-use b3_compare::generate::{case, random_expression, random_program, NAMES, ROOMY};
+use b3_compare::generate::{case, expression_text, random_expression, random_program, random_settings};
+use b3_compare::generate::{random_record, random_writing, NAMES, ROOMY};
 use b3_compare::outcome::Outcome;
 use b3_compare::random::Random;
 use b3_compare::readback::{exception, Cause};
-use b3_compare::refusal::{OUTPUT_LIMIT, TABLE_LIMIT};
+use b3_compare::refusal::{INDENT_LIMIT, OUTPUT_LIMIT, TABLE_LIMIT, TEXT_LIMIT};
 use b3_compare::words::{decode_expression, decode_program, encode_expression, encode_program};
-use b3_compare::{on_deep_stack, print_expression, print_program, read_program, tidy, Format};
+use b3_compare::{on_deep_stack, print_expression, print_expression_by, print_program, print_program_by};
+use b3_compare::{read_expression, read_program, tidy, write_settings, Form, Format, Refusal, Settings};
 
 const CASES: u64 = 2000;
 const SEED: u64 = 7;
@@ -69,6 +71,148 @@ fn random_expressions_are_printed() {
             assert!(lines.len() >= line.len());
             let words = encode_expression(NAMES, &expr);
             assert_eq!(decode_expression(NAMES, &words), Ok(expr));
+        }
+    });
+}
+
+/// The plain definition of reading a record: its nine fixed bytes one by one, its length, then the three others.
+fn read_plainly(bytes: &[u8]) -> Result<(u8, u8), Refusal> {
+    const FIXED: [(usize, u8); 9] = [(0, 1), (1, 0), (2, 1), (4, 2), (5, 0), (6, 1), (8, 3), (9, 0), (10, 1)];
+    for (place, byte) in FIXED {
+        if place < bytes.len() && bytes[place] != byte {
+            return Err(Refusal::new(9, place));
+        }
+    }
+    match *bytes {
+        [_, _, _, version, _, _, _, step, _, _, _, form] => match (version, step, form) {
+            (1, 1..=8, 0 | 1) => Ok((step, form)),
+            (1, 1..=8, _) => Err(Refusal::new(11, 11)),
+            (1, _, _) => Err(Refusal::new(11, 7)),
+            _ => Err(Refusal::new(10, 0)),
+        },
+        _ => Err(Refusal::new(9, bytes.len().min(12))),
+    }
+}
+
+#[test]
+fn records_are_read_as_the_plain_definition_has_it() {
+    for index in 0..10 * CASES {
+        let record = random_record(&mut Random::new(SEED, index), 2);
+        let read = Settings::read(&record).map(|settings| (settings.step as u8, settings.form as u8));
+        assert_eq!(read, read_plainly(&record), "{record:?}");
+    }
+}
+
+#[test]
+fn settings_are_read_as_they_were_written() {
+    for index in 0..CASES {
+        let random = &mut Random::new(SEED, index);
+        let Settings { step, form } = random_settings(random);
+        let record = write_settings(step as u64, form as u64, ROOMY).expect("they are in range");
+        assert_eq!(Settings::read(&record), Ok(Settings { step, form }));
+        let [step, form, room] = random_writing(random);
+        let refusal = match (step, form, room) {
+            (0 | 9.., _, _) => Some(Refusal::new(11, 7)),
+            (_, 2.., _) => Some(Refusal::new(11, 11)),
+            (_, _, 0..=11) => Some(Refusal::new(8, 0)),
+            _ => None,
+        };
+        assert_eq!(write_settings(step as u64, form as u64, room).err(), refusal, "{step} {form} {room}");
+    }
+}
+
+/// A print by a step of 2 with each indent beyond the start made of so many spaces a step.
+fn stretched(print: &[u8], start: usize, step: usize) -> Vec<u8> {
+    let mut lines = Vec::new();
+    for (index, line) in print.split(|&byte| byte == b'\n').enumerate() {
+        let spaces = line.iter().take_while(|&&byte| byte == b' ').count();
+        let beyond = if index == 0 || line.is_empty() { 0 } else { spaces - start };
+        let mut stretched = vec![b' '; spaces - beyond + beyond / 2 * step];
+        stretched.extend_from_slice(&line[spaces..]);
+        lines.push(stretched);
+    }
+    lines.join(&b'\n')
+}
+
+/// What stands between blanks.
+fn words_of(print: &[u8]) -> Vec<&[u8]> {
+    print.split(u8::is_ascii_whitespace).filter(|word| !word.is_empty()).collect()
+}
+
+/// By every step a program's print is the default one stretched; on one line it has the same between blanks. Both are
+/// read back as the default one is.
+#[test]
+fn programs_are_printed_by_settings() {
+    on_deep_stack(|| {
+        for index in 0..CASES {
+            let text = case(SEED, index).text;
+            let Ok(program) = read_program(&text, TABLE_LIMIT) else { continue };
+            let Ok(default) = print_program(&program, OUTPUT_LIMIT) else { continue };
+            let settings = random_settings(&mut Random::new(SEED, index));
+            let Ok(print) = print_program_by(&program, settings, OUTPUT_LIMIT) else {
+                assert!(settings.step > 2, "a smaller step makes no longer print");
+                continue;
+            };
+            match settings.form {
+                Form::Broken => assert_eq!(print, stretched(&default, 0, settings.step)),
+                Form::OneLine => assert_eq!(words_of(&print), words_of(&default)),
+            }
+            let cause = exception(&program, &print).map(|exception| exception.cause);
+            assert_ne!(cause, Some(Cause::Unexplained));
+            if cause != Some(Cause::LongPrint) && print.len().max(default.len()) <= TEXT_LIMIT {
+                let [read, read_default] = [&print, &default].map(|print| read_program(print, TABLE_LIMIT));
+                assert_eq!(read.ok(), read_default.ok());
+            }
+        }
+    });
+}
+
+#[test]
+fn expressions_are_printed_by_settings() {
+    on_deep_stack(|| {
+        for index in 0..CASES {
+            let random = &mut Random::new(SEED, index);
+            let text = expression_text(random);
+            let Ok(expr) = read_expression(&text, TABLE_LIMIT) else { continue };
+            let settings = random_settings(random);
+            let indent = random.below(INDENT_LIMIT + 1);
+            let by = print_expression_by(&expr, settings, indent, OUTPUT_LIMIT).expect("it fits");
+            let lines = print_expression(&expr, Format::MultipleLines(indent), OUTPUT_LIMIT);
+            let default = lines.expect("it fits");
+            match settings.form {
+                Form::Broken => assert_eq!(by, stretched(&default, indent, settings.step)),
+                Form::OneLine => assert_eq!(words_of(&by), words_of(&default)),
+            }
+            assert_eq!(read_expression(&by, TABLE_LIMIT).ok(), read_expression(&default, TABLE_LIMIT).ok());
+        }
+    });
+}
+
+#[test]
+fn random_trees_are_printed_by_settings() {
+    let without_spaces =
+        |print: Vec<u8>| -> Vec<u8> { print.into_iter().filter(|&byte| byte != b' ').collect() };
+    on_deep_stack(|| {
+        for index in 0..CASES {
+            let random = &mut Random::new(SEED, index);
+            let program = random_program(random, index as usize % 60);
+            let expr = random_expression(random, index as usize % 40);
+            let Settings { step, form } = random_settings(random);
+            let indent = random.below(INDENT_LIMIT + 1);
+            let programs = [step, 2].map(|step| {
+                print_program_by(&program, Settings { step, form }, OUTPUT_LIMIT).expect("it fits")
+            });
+            let exprs = [step, 2].map(|step| {
+                print_expression_by(&expr, Settings { step, form }, indent, OUTPUT_LIMIT).expect("it fits")
+            });
+            for [by, other] in [programs, exprs].map(|prints| prints.map(without_spaces)) {
+                assert_eq!(by, other);
+            }
+            let line = Settings { step, form: Form::OneLine };
+            assert_eq!(
+                print_expression_by(&expr, line, indent, OUTPUT_LIMIT),
+                print_expression(&expr, Format::SingleLine, OUTPUT_LIMIT)
+            );
         }
     });
 }

@@ -39,6 +39,10 @@ fn text(field: &str) -> Vec<u8> {
     unescape(field).expect("a text's escapes are whole")
 }
 
+fn natural(field: &str) -> usize {
+    field.parse().expect("it is a natural")
+}
+
 fn words(field: &str) -> Vec<u32> {
     field.split_whitespace().map(|word| word.parse().expect("a word is a natural")).collect()
 }
@@ -77,12 +81,12 @@ fn read_programs() {
 fn print_expressions() {
     check("print-expression.txt", |given| {
         let (text, words) = (text(given[0]), words(given[1]));
-        let format = match given[2] {
-            "-" => Format::SingleLine,
-            indent => Format::MultipleLines(indent.parse().expect("an indent is a natural")),
+        let (format, indent) = match given[2] {
+            "-" => (Format::SingleLine, 0),
+            indent => (Format::MultipleLines(natural(indent)), natural(indent)),
         };
         shown_print(
-            check_print_input(&text, &words, format)
+            check_print_input(&text, &words, indent)
                 .and_then(|()| decode_expression(&text, &words))
                 .and_then(|expr| print_expression(&expr, format, OUTPUT_LIMIT)),
         )
@@ -94,7 +98,7 @@ fn print_programs() {
     check("print-program.txt", |given| {
         let (text, words) = (text(given[0]), words(given[1]));
         shown_print(
-            check_print_input(&text, &words, Format::SingleLine)
+            check_print_input(&text, &words, 0)
                 .and_then(|()| decode_program(&text, &words))
                 .and_then(|program| print_program(&program, OUTPUT_LIMIT)),
         )

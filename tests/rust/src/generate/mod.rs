@@ -1,5 +1,5 @@
-//! Seeded cases: whole programs, damaged ones, runs of tokens, texts at each limit, and trees that no reading
-//! gives.
+//! Seeded cases: whole programs, damaged ones, runs of tokens, texts at each limit, trees that no reading gives, and
+//! print settings.
 
 mod blanks;
 mod damage;
@@ -8,6 +8,7 @@ mod depth;
 mod expr;
 mod limits;
 mod names;
+mod settings;
 mod source;
 mod starts;
 mod stmt;
@@ -16,6 +17,7 @@ mod trees;
 use crate::random::Random;
 use crate::refusal::{OUTPUT_LIMIT, TABLE_LIMIT};
 use crate::{print_program, read_program};
+pub use settings::{random_record, random_settings, random_writing};
 pub use source::Source;
 pub use trees::{random_expression, random_program, NAMES};
 

@@ -1,6 +1,6 @@
 //! Programs and their declarations.
 
-use super::{Format, Printer, INDENT_AMOUNT};
+use super::Printer;
 use crate::refusal::Result;
 use crate::tree::{Axiom, Expr, Function, FunctionDefinition, Procedure, Program, Tagger};
 
@@ -48,7 +48,8 @@ impl Printer {
 
     fn function_definition(&mut self, definition: &FunctionDefinition) -> Result<()> {
         for when in &definition.when {
-            self.put(b"  when ")?;
+            self.indent(self.deeper(0))?;
+            self.put(b"when ")?;
             self.line_expression(when)?;
             self.put(b"\n")?;
         }
@@ -58,8 +59,9 @@ impl Printer {
     }
 
     fn indented_expression(&mut self, expr: &Expr) -> Result<()> {
-        self.indent(INDENT_AMOUNT)?;
-        self.free_expression(expr, Format::MultipleLines(INDENT_AMOUNT))
+        let indent = self.deeper(0);
+        self.indent(indent)?;
+        self.free_expression(expr, self.settings.format(indent))
     }
 
     fn axiom(&mut self, axiom: &Axiom) -> Result<()> {
@@ -81,8 +83,8 @@ impl Printer {
             printer.optional_auto_invariant(&param.auto_inv)
         })?;
         self.put(b")\n")?;
-        self.aexprs(INDENT_AMOUNT, b"requires ", &procedure.pre)?;
-        self.aexprs(INDENT_AMOUNT, b"ensures ", &procedure.post)?;
+        self.aexprs(self.deeper(0), b"requires ", &procedure.pre)?;
+        self.aexprs(self.deeper(0), b"ensures ", &procedure.post)?;
         match &procedure.body {
             Some(body) => self.stmt_as_block(body, 0, b"\n"),
             None => Ok(()),

@@ -119,7 +119,7 @@ impl Printer {
         power: BindingPower,
         format: Format,
     ) -> Result<()> {
-        let more = format.more();
+        let more = self.more(format);
         self.put(b"if ")?;
         self.line_expression(guard)?;
         self.space(more)?;
@@ -168,7 +168,7 @@ impl Printer {
             self.put(if node.univ { b"forall " } else { b"exists " })?;
             self.bindings(&node.bindings)?;
         }
-        let more = format.more();
+        let more = self.more(format);
         for pattern in &node.patterns {
             self.space(more)?;
             self.put(b"pattern ")?;

@@ -8,8 +8,8 @@ mod stmt;
 use crate::refusal::{
     Refusal, Result, INDENT_LIMIT, LONG_PRINT_INPUT, OUTPUT_LIMIT, SHORT_OUTPUT, TABLE_LIMIT, TEXT_LIMIT,
 };
+use crate::settings::Settings;
 use crate::tree::{Expr, Program};
-use power::BindingPower;
 
 /// Where an expression's lines break.
 #[derive(Clone, Copy, Debug, PartialEq, Eq)]
@@ -18,19 +18,9 @@ pub enum Format {
     MultipleLines(usize),
 }
 
-impl Format {
-    fn more(self) -> Format {
-        match self {
-            Format::SingleLine => self,
-            Format::MultipleLines(indent) => Format::MultipleLines(indent + INDENT_AMOUNT),
-        }
-    }
-}
-
-/// Refusal 6: what a print takes at most.
-pub fn check_print_input(text: &[u8], words: &[u32], format: Format) -> Result<()> {
-    let far = matches!(format, Format::MultipleLines(indent) if indent > INDENT_LIMIT);
-    if text.len() > TEXT_LIMIT || words.len() > TABLE_LIMIT || far {
+/// Refusal 6: what a print takes at most, its start indent 0 where none is handed in.
+pub fn check_print_input(text: &[u8], words: &[u32], indent: usize) -> Result<()> {
+    if text.len() > TEXT_LIMIT || words.len() > TABLE_LIMIT || indent > INDENT_LIMIT {
         return Err(Refusal::new(LONG_PRINT_INPUT, 0));
     }
     Ok(())
@@ -38,28 +28,53 @@ pub fn check_print_input(text: &[u8], words: &[u32], format: Format) -> Result<(
 
 /// The print of a program, of at most `limit` bytes.
 pub fn print_program(program: &Program, limit: usize) -> Result<Vec<u8>> {
-    let mut printer = Printer::new(limit);
+    print_program_by(program, Settings::DEFAULT, limit)
+}
+
+/// The print of a program by settings, of at most `limit` bytes.
+pub fn print_program_by(program: &Program, settings: Settings, limit: usize) -> Result<Vec<u8>> {
+    let mut printer = Printer::new(settings, limit);
     printer.program(program)?;
     Ok(printer.bytes)
 }
 
 /// The print of an expression, of at most `limit` bytes.
 pub fn print_expression(expr: &Expr, format: Format, limit: usize) -> Result<Vec<u8>> {
-    let mut printer = Printer::new(limit);
-    printer.expression(expr, BindingPower::INIT, format)?;
+    let mut printer = Printer::new(Settings::DEFAULT, limit);
+    printer.free_expression(expr, format)?;
     Ok(printer.bytes)
 }
 
-const INDENT_AMOUNT: usize = 2;
+/// The print of an expression by settings, broken from a start indent on where their form is, of at most `limit`
+/// bytes.
+pub fn print_expression_by(expr: &Expr, settings: Settings, indent: usize, limit: usize) -> Result<Vec<u8>> {
+    let mut printer = Printer::new(settings, limit);
+    printer.free_expression(expr, settings.format(indent))?;
+    Ok(printer.bytes)
+}
 
 struct Printer {
     bytes: Vec<u8>,
     limit: usize,
+    settings: Settings,
 }
 
 impl Printer {
-    fn new(limit: usize) -> Self {
-        Printer { bytes: Vec::new(), limit: limit.min(OUTPUT_LIMIT) }
+    fn new(settings: Settings, limit: usize) -> Self {
+        Printer { bytes: Vec::new(), limit: limit.min(OUTPUT_LIMIT), settings }
+    }
+
+    /// An indent one step deeper.
+    fn deeper(&self, indent: usize) -> usize {
+        indent + self.settings.step
+    }
+
+    /// The same of a format.
+    fn more(&self, format: Format) -> Format {
+        match format {
+            Format::SingleLine => format,
+            Format::MultipleLines(indent) => Format::MultipleLines(self.deeper(indent)),
+        }
     }
 
     fn put(&mut self, part: &[u8]) -> Result<()> {

@@ -1,7 +1,7 @@
 //! Statements. A variable declaration reaches to the end of its block, so it needs braces of its own where no
 //! closing brace follows.
 
-use super::{Printer, INDENT_AMOUNT};
+use super::Printer;
 use crate::refusal::Result;
 use crate::tree::{AExpr, CallArgument, Case, Expr, If, ParameterMode, Stmt, VarDecl};
 
@@ -12,8 +12,8 @@ impl Printer {
             Stmt::VarDecl(decl) if followed_by_end_curly => self.variable_declaration(decl, indent),
             Stmt::VarDecl(decl) => {
                 self.put(b"{\n")?;
-                self.indent(indent + INDENT_AMOUNT)?;
-                self.variable_declaration(decl, indent + INDENT_AMOUNT)?;
+                self.indent(self.deeper(indent))?;
+                self.variable_declaration(decl, self.deeper(indent))?;
                 self.indent(indent)?;
                 self.put(b"}\n")
             }
@@ -73,8 +73,8 @@ impl Printer {
     pub(super) fn stmt_as_block(&mut self, stmt: &Stmt, indent: usize, suffix: &[u8]) -> Result<()> {
         self.put(b"{\n")?;
         match stmt {
-            Stmt::Block(stmts) => self.statement_list(stmts, indent + INDENT_AMOUNT)?,
-            _ => self.indented_statement(stmt, indent + INDENT_AMOUNT, false)?,
+            Stmt::Block(stmts) => self.statement_list(stmts, self.deeper(indent))?,
+            _ => self.indented_statement(stmt, self.deeper(indent), false)?,
         }
         self.indent(indent)?;
         self.put_all([b"}", suffix])
@@ -181,7 +181,7 @@ impl Printer {
             self.put(b" ")?;
         } else {
             self.put(b"\n")?;
-            self.aexprs(indent + INDENT_AMOUNT, b"invariant ", invariants)?;
+            self.aexprs(self.deeper(indent), b"invariant ", invariants)?;
             self.indent(indent)?;
         }
         self.stmt_as_block(body, indent, b"\n")

@@ -7,13 +7,12 @@
 mod cases;
 mod question;
 
-use b3_compare::on_deep_stack;
+use b3_compare::{on_deep_stack, trials};
 use cases::{nested, prints, random_table, random_text, read_table, stored};
 use question::{Agreement, Question};
 use std::collections::BTreeMap;
 use std::env;
-use std::io::{Read, Write};
-use std::process::{Command, Stdio};
+use std::process::Command;
 
 /// Bytes of lines that one run of a program takes.
 const BATCH: usize = 1_000_000;
@@ -87,7 +86,7 @@ impl Comparison {
     }
 
     fn ask_batch(&mut self, source: &'static str, questions: &[Question], lines: &str) {
-        let answers = answers(&mut self.upstream, lines);
+        let answers = trials::answers(&mut self.upstream, lines);
         assert_eq!(answers.len(), questions.len(), "upstream answers every line");
         for ((question, line), answer) in questions.iter().zip(lines.lines()).zip(&answers) {
             let agreement = question.agrees(answer);
@@ -100,7 +99,7 @@ impl Comparison {
             }
         }
         if let Some(program) = &mut self.program {
-            let answers = crate::answers(program, lines);
+            let answers = trials::answers(program, lines);
             assert_eq!(answers.len(), questions.len(), "the program answers every line");
             for ((question, line), answer) in questions.iter().zip(lines.lines()).zip(&answers) {
                 // An entry that the program hasn't is answered by nothing.
@@ -137,22 +136,4 @@ impl Comparison {
         }
         self.differences + self.program_differences
     }
-}
-
-/// What a program answers to each line: what stands after the line and ` => `, or nothing.
-fn answers(program: &mut Command, lines: &str) -> Vec<String> {
-    let mut child = program.stdin(Stdio::piped()).stdout(Stdio::piped()).spawn().expect("the program starts");
-    let mut stdin = child.stdin.take().expect("it has an input");
-    let mut output = String::new();
-    std::thread::scope(|scope| {
-        scope.spawn(move || stdin.write_all(lines.as_bytes()).expect("it takes its input"));
-        let stdout = child.stdout.as_mut().expect("it has an output");
-        stdout.read_to_string(&mut output).expect("its output is ASCII");
-    });
-    assert!(child.wait().expect("it ends").success(), "the program ends well");
-    let answer = |(line, question): (&str, &str)| {
-        let rest = line.strip_prefix(question).expect("a line is printed as it stands");
-        rest.strip_prefix(" => ").unwrap_or("").to_string()
-    };
-    output.lines().zip(lines.lines()).map(answer).collect()
 }

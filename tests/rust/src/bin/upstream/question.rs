@@ -2,11 +2,9 @@
 
 use b3_compare::escape::{escape, unescape};
 use b3_compare::refusal::{LARGE_NATURAL, OUTPUT_LIMIT, SHORT_TABLE, TABLE_LIMIT, TOO_DEEP, UNUSABLE};
+use b3_compare::trials::{joined, piece, printed, source};
 use b3_compare::words::{decode_expression, decode_program, encode_expression, encode_program};
 use b3_compare::{print_expression, print_program, read_expression, read_program, Format, Refusal};
-
-/// A longer print is given by its length and checksum, as crates/trials gives it.
-const MOST_SHOWN: usize = 4096;
 
 /// What upstream and the others are asked.
 pub enum Question {
@@ -23,12 +21,12 @@ impl Question {
     pub fn line(&self) -> String {
         match self {
             PrintExpression { text, words, format: Format::SingleLine } => {
-                format!("p {OUTPUT_LIMIT} {}/{}", table(words), piece(text))
+                format!("p {OUTPUT_LIMIT} {}", source(words, text))
             }
             PrintExpression { text, words, format: Format::MultipleLines(indent) } => {
-                format!("m {indent} {OUTPUT_LIMIT} {}/{}", table(words), piece(text))
+                format!("m {indent} {OUTPUT_LIMIT} {}", source(words, text))
             }
-            PrintProgram { text, words } => format!("P {OUTPUT_LIMIT} {}/{}", table(words), piece(text)),
+            PrintProgram { text, words } => format!("P {OUTPUT_LIMIT} {}", source(words, text)),
             ReadExpression(text) => format!("r {TABLE_LIMIT} {}", piece(text)),
             ReadProgram(text) => format!("R {TABLE_LIMIT} {}", piece(text)),
         }
@@ -68,10 +66,7 @@ impl Question {
     pub fn answer(&self) -> String {
         let answer = match self {
             ReadExpression(_) | ReadProgram(_) => self.words().map(|words| joined(&words)),
-            PrintExpression { .. } | PrintProgram { .. } => self.print().map(|print| match print.len() {
-                0..=MOST_SHOWN => format!("\"{}\"", escape(&print)),
-                long => format!("{long} bytes, CRC-32 {}", crc32(&print)),
-            }),
+            PrintExpression { .. } | PrintProgram { .. } => self.print().map(|print| printed(&print)),
         };
         answer.unwrap_or_else(|refusal| refusal.to_string())
     }
@@ -143,29 +138,4 @@ fn reading_agrees<T>(
         }
         _ => Agreement::Different,
     }
-}
-
-fn table(words: &[u32]) -> String {
-    format!("1 {}", joined(words))
-}
-
-/// A text as one piece that stands once.
-fn piece(text: &[u8]) -> String {
-    format!("1 {}", escape(text).replace(';', "\\x3b"))
-}
-
-fn joined(words: &[u32]) -> String {
-    words.iter().map(u32::to_string).collect::<Vec<_>>().join(" ")
-}
-
-/// The checksum with the reflected polynomial 0xEDB88320, complemented before and after.
-fn crc32(bytes: &[u8]) -> u32 {
-    let mut sum = u32::MAX;
-    for &byte in bytes {
-        sum ^= u32::from(byte);
-        for _ in 0..8 {
-            sum = if sum & 1 == 1 { (sum >> 1) ^ 0xedb8_8320 } else { sum >> 1 };
-        }
-    }
-    !sum
 }
