@@ -11,7 +11,6 @@ use Rattle.lexing.specs.Bytes.{bytes}
 use Rattle.grammar.specs.ProgramExamples.{computed as read-computed}
 use Rattle.grammar.specs.Reading.{words, refusal, read_expression, read_program}
 use Rattle.grammar.specs.Reading as Reading
-use Rattle.layout.specs.declared.format.ExprFormatOption.TheVariants.{SingleLine}
 use Rattle.layout.specs.Examples.{computed as print-computed}
 use Rattle.rendering.specs.Tables.{expressions, print_of}
 use Rattle.layout.specs.Settings.{one_line}

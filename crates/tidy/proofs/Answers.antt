@@ -35,7 +35,7 @@ gives-same {r = r} {out = out} e g = subst (λ (x : Answered). Gives x r out) e 
 
 -- ---- the print
 
-module _ (text ws out : List ℕ) (r : Result ℕ PrintError) (out' : List ℕ) (a : ProgramPrinted text ws out r out') where
+module _ (text ws out : List ℕ) (r : Result ℕ PrintError) (out' : List ℕ) (a : ProgramPrinted defaults text ws out r out') where
   -- what is written is no longer than the output
   pub print-gives : {n : ℕ} → r ≡ Ok n → Gives (of_print (print_program defaults text ws out)) (Ok n) out'
   print-gives {n} e =
