@@ -1,5 +1,6 @@
 -- The prints of the entries: what each answers, and what is proved of that.
 pub mod Entries
+pub mod BySettings
 pub mod EntryLaws
 pub mod PrintCases
 pub mod Claims
