@@ -3,3 +3,4 @@ pub mod Errors
 pub mod Answers
 pub mod Fields
 pub mod Records
+pub mod Laid
