@@ -7,13 +7,13 @@ use crate::numbers::number;
 use crate::pieces::{DIGITS, TEXT, WORDS, build, with_words};
 use crate::show::{print, print_bytes, print_count, print_refusal, print_words};
 use crate::slices::{are, most};
-use printing::PrintError;
+use printing::PrintByError;
 use reading::Refusal;
 use std::io;
 use std::io::Write;
 
 // More bytes than an entry writes.
-const OUTPUT: usize = 65600;
+const BYTES: usize = 65600;
 
 // The answer of the last of so many runs, or of one, from an input into an output.
 pub(crate) fn repeated<I: Copy, T, R: Drop, F: FnMut(I, &mut [T]) -> R>(
@@ -33,14 +33,28 @@ pub(crate) fn repeated<I: Copy, T, R: Drop, F: FnMut(I, &mut [T]) -> R>(
 
 // What stands in an output before a case, what it is counted in, and the note where another item stands past what was given.
 #[derive(Clone, Copy)]
-struct Output<T> {
+pub(crate) struct Output<T> {
     blank: T,
     unit: &'static [u8],
     note: &'static [u8],
 }
 
+// That of a table.
+const TABLE: Output<u32> = Output {
+    blank: 0,
+    unit: b" words",
+    note: b" not cleared",
+};
+
+// That of bytes.
+pub(crate) const OUTPUT: Output<u8> = Output {
+    blank: b'~',
+    unit: b" bytes",
+    note: b" touched",
+};
+
 // Prints how much was given, and of one run what it is; or a refusal's number and place.
-fn answered<W: Write, T: PartialEq + Copy, F: FnOnce(&mut W, &[T]) -> io::Result<()>>(
+pub(crate) fn answered<W: Write, T: PartialEq + Copy, F: FnOnce(&mut W, &[T]) -> io::Result<()>>(
     to: &mut W,
     times: Option<u32>,
     answer: Result<usize, (u64, usize)>,
@@ -86,17 +100,12 @@ pub(crate) fn read_case<F: FnMut(&[u8], &mut [u32]) -> Result<usize, Refusal>>(
     let n = build(tail(rest, size.digits), &mut text);
     let table = most(size.value, &mut table);
     let answer = repeated(times, &text[..n], table, read);
-    let words = Output {
-        blank: 0,
-        unit: b" words",
-        note: b" not cleared",
-    };
     answered(
         to,
         times,
         answer.map_err(|refusal| (refusal.reason.number(), refusal.place)),
         table,
-        words,
+        TABLE,
         |to, words| print_words(to, words),
     )
 }
@@ -109,7 +118,7 @@ pub(crate) struct Source<'a> {
 }
 
 // The bytes of the output, the table, a slash, and the text.
-pub(crate) fn print_case<F: FnMut(Source, &mut [u8]) -> Result<usize, PrintError>>(
+pub(crate) fn print_case<F: FnMut(Source, &mut [u8]) -> Result<usize, PrintByError>>(
     to: &mut impl Write,
     times: Option<u32>,
     rest: &[u8],
@@ -124,7 +133,7 @@ pub(crate) fn print_case<F: FnMut(Source, &mut [u8]) -> Result<usize, PrintError
 
 // A table's print over the text of a line. The text and the output are made when the table is: they take the stack that making it took.
 #[inline(never)]
-fn print_over<F: FnMut(Source, &mut [u8]) -> Result<usize, PrintError>>(
+fn print_over<F: FnMut(Source, &mut [u8]) -> Result<usize, PrintByError>>(
     to: &mut impl Write,
     times: Option<u32>,
     size: u32,
@@ -135,7 +144,7 @@ fn print_over<F: FnMut(Source, &mut [u8]) -> Result<usize, PrintError>>(
     requires { F.IsAlwaysCallable print_tree }
 {
     let mut text = [0u8; TEXT];
-    let mut out = [b'~'; OUTPUT];
+    let mut out = [b'~'; BYTES];
     let n = build(line, &mut text);
     let out = most(size, &mut out);
     let source = Source {
@@ -143,17 +152,12 @@ fn print_over<F: FnMut(Source, &mut [u8]) -> Result<usize, PrintError>>(
         words,
     };
     let answer = repeated(times, source, out, print_tree);
-    let bytes = Output {
-        blank: b'~',
-        unit: b" bytes",
-        note: b" touched",
-    };
     answered(
         to,
         times,
         answer.map_err(|error| (error.number(), error.place())),
         out,
-        bytes,
+        OUTPUT,
         |to, bytes| print_bytes(to, bytes),
     )
 }

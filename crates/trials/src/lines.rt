@@ -1,5 +1,7 @@
 // Parts of a line, and the escapes in it.
-ghost use Rattle.std.specs.Prelude.{◌≤◌, ◌<◌, length};
+ghost use Rattle.std.specs.Prelude.{◌≤◌, length};
+
+use crate::hex::hex_byte;
 
 // How many bytes stand before the first `b`, or all.
 pub(crate) fn until(s: &[u8], b: u8) -> usize
@@ -28,7 +30,7 @@ pub(crate) struct Part<T> {
 fn escaped(s: &[u8]) -> Part<u8> {
     match s {
         [b'\\', b'x', high, low, ..] => Part {
-            value: hex_digit(*high) * 16 + hex_digit(*low),
+            value: hex_byte(*high, *low),
             width: 4,
         },
         [b'\\', b, ..] => Part {
@@ -48,16 +50,6 @@ fn control(b: u8) -> u8 {
         b't' => b'\t',
         b'r' => b'\r',
         _ => b,
-    }
-}
-
-fn hex_digit(b: u8) -> u8
-    ensures { result < 16 }
-{
-    match b {
-        b'0'..=b'9' => b - b'0',
-        b'a'..=b'f' => b - b'a' + 10,
-        _ => 0,
     }
 }
 

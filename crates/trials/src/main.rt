@@ -1,33 +1,39 @@
 // The executed trials. Each line of standard input is a case, and is printed with its answer after it. Its first byte chooses what is tried; a
 // space and the arguments follow, with a space between them:
-//   b i l n TEXT                 `lexing`: blanks, an identifier, a custom literal's text, a natural
-//   k WORD TEXT                  a keyword
-//   s SIGN TEXT                  a sign
-//   u SIGN LONGER TEXT           a sign unless the longer one stands there
-//   c C LENGTH TABLE             `tree`: the check of an expression's and of a program's table, over a text of so many bytes
-//   o KINDS ENDS LENGTH TABLE    the outline of a program's table, into so many kinds, each 255 before, and so many ends, each 65535 before, over
-//                                a text of so many bytes
-//   w v PLACE TABLE              the word and the natural at a place
-//   x START LENGTH TEXT          the part of the text that a name occupies
-//   a NUMBERS SPANS/TEXT         `names`: the numbers of spans, into so many numbers, each 65535 before
-//   r R WORDS TEXT               `reading`: an expression's and a program's reading, into a table of so many words
-//   p BYTES TABLE/TEXT           `printing`: an expression's print on one line, into so many bytes
-//   m INDENT BYTES TABLE/TEXT    its print on several lines, from a start indent on
-//   P BYTES TABLE/TEXT           a program's print
+//   b i l n TEXT                     `lexing`: blanks, an identifier, a custom literal's text, a natural
+//   k WORD TEXT                      a keyword
+//   s SIGN TEXT                      a sign
+//   u SIGN LONGER TEXT               a sign unless the longer one stands there
+//   c C LENGTH TABLE                 `tree`: the check of an expression's and of a program's table, over a text of so many bytes
+//   o KINDS ENDS LENGTH TABLE        the outline of a program's table, into so many kinds, each 255 before, and so many ends, each 65535 before,
+//                                    over a text of so many bytes
+//   w v PLACE TABLE                  the word and the natural at a place
+//   x START LENGTH TEXT              the part of the text that a name occupies
+//   a NUMBERS SPANS/TEXT             `names`: the numbers of spans, into so many numbers, each 65535 before
+//   r R WORDS TEXT                   `reading`: an expression's and a program's reading, into a table of so many words
+//   q HEX                            `settings`: reading, answered by the step and the form, or by the refusal and the step and the form after it
+//   Q STEP FORM BYTES                writing, into so many bytes
+//   p BYTES TABLE/TEXT               `printing`: an expression's print on one line, into so many bytes
+//   m INDENT BYTES TABLE/TEXT        its print on several lines, from a start indent on
+//   P BYTES TABLE/TEXT               a program's print
+//   e HEX INDENT BYTES TABLE/TEXT    an expression's print by settings, from a start indent on
+//   d HEX BYTES TABLE/TEXT           a program's print by settings
 // A TABLE and SPANS are given by pieces, from `a` on a TEXT too (`pieces`); before, it is the rest of the line, in the cases of `lexing` with the
-// escapes of `lines`. A line that begins otherwise has no answer. More numbers than 256 are answered by how many they are and the CRC-32 of two
-// bytes each, the high one first.
+// escapes of `lines`. HEX is the bytes of settings (`hex`). A line that begins otherwise has no answer. More numbers than 256 are answered by how
+// many they are and the CRC-32 of two bytes each, the high one first.
 //
-// A number at once after `o`, `a`, `r`, `R`, `p`, `m` or `P` says how often the entry is run, for measuring; the answer is then only how much the
-// last run gave: of an outline the table's words, of spans the distinct names.
+// A number at once after `o`, `a`, `r`, `R`, `Q` or a print's letter says how often the entry is run, for measuring; the answer is then only how much
+// the last run gave: of an outline the table's words, of spans the distinct names.
 
 #![tactic(auto)]
 
 mod entries;
+mod hex;
 mod lines;
 mod numbers;
 mod outlines;
 mod pieces;
+mod records;
 mod show;
 mod slices;
 mod spans;
@@ -35,12 +41,16 @@ mod tables;
 mod tokens;
 
 use entries::{print_case, read_case};
+use hex::with_hex;
 use lexing::{keyword, natural, parse_custom_literal, parse_id, sym, sym_not_prefix};
 use lines::tail;
 use numbers::number;
 use outlines::outline_case;
-use printing::{print_expression, print_expression_lines, print_program};
+use printing::{
+    print_expression, print_expression_by, print_expression_lines, print_program, print_program_by,
+};
 use reading::{read_expression, read_program};
+use records::{record_case, settings_case};
 use show::print;
 use spans::names_case;
 use std::io;
@@ -99,17 +109,30 @@ fn answer(to: &mut impl Write, entry: u8, line: &[u8]) -> io::Result<()> {
         b'a' => names_case(to, times, rest),
         b'r' => read_case(to, times, rest, |text, table| read_expression(text, table)),
         b'R' => read_case(to, times, rest, |text, table| read_program(text, table)),
+        b'q' => settings_case(to, rest),
+        b'Q' => record_case(to, times, rest),
         b'p' => print_case(to, times, rest, |s, out| {
-            print_expression(s.text, s.words, out)
+            Ok(print_expression(s.text, s.words, out)?)
         }),
         b'm' => {
             let indent = number(rest);
             print_case(to, times, tail(rest, indent.digits), |s, out| {
-                print_expression_lines(s.text, s.words, indent.value as usize, out)
+                Ok(print_expression_lines(s.text, s.words, indent.value as usize, out)?)
             })
         }
         b'P' => print_case(to, times, rest, |s, out| {
-            print_program(s.text, s.words, out)
+            Ok(print_program(s.text, s.words, out)?)
+        }),
+        b'e' => with_hex(rest, |settings, rest| {
+            let indent = number(rest);
+            print_case(to, times, tail(rest, indent.digits), |s, out| {
+                print_expression_by(settings, s.text, s.words, indent.value as usize, out)
+            })
+        }),
+        b'd' => with_hex(rest, |settings, rest| {
+            print_case(to, times, rest, |s, out| {
+                print_program_by(settings, s.text, s.words, out)
+            })
         }),
         _ => Ok(()),
     }

@@ -3,9 +3,10 @@
 use b3_compare::escape::{escape, unescape};
 use b3_compare::print::check_print_input;
 use b3_compare::refusal::{OUTPUT_LIMIT, TABLE_LIMIT};
+use b3_compare::trials::{bytes, hex};
 use b3_compare::words::{decode_expression, decode_program, encode_expression, encode_program};
-use b3_compare::{on_deep_stack, print_expression, print_program, read_expression, read_program, tidy};
-use b3_compare::{Format, Refusal};
+use b3_compare::{on_deep_stack, print_expression, print_expression_by, print_program, print_program_by};
+use b3_compare::{read_expression, read_program, tidy, write_settings, Format, Refusal, Settings};
 use std::{env, fs, path::PathBuf};
 
 fn folder() -> PathBuf {
@@ -102,6 +103,47 @@ fn print_programs() {
                 .and_then(|()| decode_program(&text, &words))
                 .and_then(|program| print_program(&program, OUTPUT_LIMIT)),
         )
+    });
+}
+
+#[test]
+fn read_settings() {
+    check("read-settings.txt", |given| match Settings::read(&bytes(given[0])) {
+        Ok(settings) => format!("{} {}", settings.step, settings.form as u8),
+        Err(refusal) => refusal.to_string(),
+    });
+}
+
+#[test]
+fn written_settings() {
+    check("write-settings.txt", |given| {
+        let [step, form, room] = [0, 1, 2].map(|index: usize| natural(given[index]));
+        match write_settings(step as u64, form as u64, room) {
+            Ok(bytes) => hex(&bytes),
+            Err(refusal) => refusal.to_string(),
+        }
+    });
+}
+
+#[test]
+fn print_expressions_by_settings() {
+    check("print-expression-by.txt", |given| {
+        let (text, words, indent) = (text(given[1]), words(given[2]), natural(given[3]));
+        shown_print(Settings::read(&bytes(given[0])).and_then(|settings| {
+            check_print_input(&text, &words, indent)?;
+            print_expression_by(&decode_expression(&text, &words)?, settings, indent, OUTPUT_LIMIT)
+        }))
+    });
+}
+
+#[test]
+fn print_programs_by_settings() {
+    check("print-program-by.txt", |given| {
+        let (text, words) = (text(given[1]), words(given[2]));
+        shown_print(Settings::read(&bytes(given[0])).and_then(|settings| {
+            check_print_input(&text, &words, 0)?;
+            print_program_by(&decode_program(&text, &words)?, settings, OUTPUT_LIMIT)
+        }))
     });
 }
 
