@@ -4,3 +4,4 @@ pub mod Answers
 pub mod Fields
 pub mod Records
 pub mod Laid
+pub mod Examples
