@@ -1,17 +1,24 @@
--- What is proved of the prints. `Answered (expressions 2 text format)` is the contract of `print_expression` (format `SingleLine`) and of
--- `print_expression_lines` (format `MultipleLines` of the start indent), `Answered (programs 2 text)` that of `print_program`: r is the answer,
--- out the output before the call and out' the output after it. A tree over the text is one whose names are of type `NameIn (length text)`, spans
--- that lie inside it. `expression-laws` and `program-laws` (tree's HeldLaws) are the L of the two.
-use Rattle.std.specs.Prelude.{ℕ, ◌≡◌, ◌↔◌, ◌⊎◌, List, ◌++◌, length, drop}
+-- What is proved of the prints. `Answered (expressions settings text indent)` is the contract of the prints of an expression (by `one_line` and
+-- from 0 on `print_expression`, by `defaults` `print_expression_lines`), `Answered (programs settings text)` that of the prints of a program (by
+-- `defaults` `print_program`): r is the answer, out the output before the call and out' the output after it. A tree over the text is one whose
+-- names are of type `NameIn (length text)`, spans that lie inside it. `expression-laws` and `program-laws` (tree's HeldLaws) are the L of the two.
+use Rattle.std.specs.Prelude.{ℕ, ◌≡◌, ◌↔◌, ◌⊎◌, List, ◌++◌, length, drop, Err}
 use Rattle.std.proofs.Math.Option.{some}
-use Rattle.tree.specs.Check.{oversized, misfitting}
+use Rattle.tree.specs.Check.{Refusal, oversized, misfitting}
 use Rattle.std.specs.Prelude.{Result, Ok}
+use Rattle.layout.specs.declared.settings.Settings.{Settings}
+use Rattle.layout.specs.Settings.{defaults}
+use Rattle.settings.specs.Records.{settings_bytes, settings_in}
 use Rattle.rendering.specs.declared.PrintError.{PrintError}
+use Rattle.printing.specs.declared.error.PrintByError.{PrintByError}
 use Rattle.tree.specs.HeldLaws.{Lawful}
 use Rattle.rendering.specs.Tables.{Printable, Within}
 use Rattle.rendering.specs.Errors.{print_too_long, Refuses}
-use Rattle.printing.specs.Entries.{Answered, Fits}
+use Rattle.printing.specs.Entries.{print_table, Answered, Fits}
 use Rattle.printing.specs.PrintCases as Cases
+use Rattle.printing.specs.BySettings.{print_by, AnsweredBy}
+use Rattle.printing.specs.ByCases as ByCases
+use Rattle.printing.specs.ByCases.{RefusesBy, of_print}
 
 module _ (P : Printable) (L : Lawful P.kind) (text words out : List ℕ) (r : Result ℕ PrintError) (out' : List ℕ) (a : Answered P text words out r out') where
   -- A table that holds the tree t, within the limits: where t's print fits, the answer is its length, and the output is the print followed by
@@ -43,3 +50,25 @@ module _ (P : Printable) (L : Lawful P.kind) (text words out : List ℕ) (r : Re
   -- There is no other refusal, and each leaves the output as it was.
   pub refusal-keeps : (number place : ℕ) → Refuses r number place → ((Refuses r oversized 0) ⊎ (Refuses r misfitting place) ⊎ (Refuses r print_too_long 0)) × (out' ≡ out)
   refusal-keeps = Cases.refusal-keeps P L text words out r out' a
+
+-- ---- by the bytes of settings
+
+-- `AnsweredBy (λ s. expressions s text indent)` is the contract of `print_expression_by`, `AnsweredBy (λ s. programs s text)` that of
+-- `print_program_by`.
+module _ (P : Settings → Printable) (bytes text words out : List ℕ) (r : Result ℕ PrintByError) (out' : List ℕ) (a : AnsweredBy P bytes text words out r out') where
+  -- Settings that are refused are refused so, whatever the table, and the output is as it was.
+  pub settings-refused : (x : Refusal) → settings_in bytes ≡ Err x → (RefusesBy r x) × (out' ≡ out)
+  settings-refused = ByCases.settings-refused P bytes text words out r out' a
+
+  -- By settings that are read, what is answered is what a print by them answers.
+  pub print-answered : (s : Settings) → settings_in bytes ≡ Ok s → Lawful (P s).kind
+      → (q : Result ℕ PrintError) × ((r ≡ of_print q) × Answered (P s) text words out q out')
+  print-answered = ByCases.print-answered P bytes text words out r out' a
+
+  -- So where something is printed, it is a print by settings that are read.
+  pub printed-by : (n : ℕ) → r ≡ Ok n → (s : Settings) × ((settings_in bytes ≡ Ok s) × Answered (P s) text words out (Ok n) out')
+  printed-by = ByCases.printed-by P bytes text words out r out' a
+
+-- By the bytes of the default settings a print is that by the defaults.
+pub print-by-default : (P : Settings → Printable) (text words out : List ℕ) → print_by P (settings_bytes defaults) text words out ≡ print_table (P defaults) text words out
+print-by-default = ByCases.print-by-default

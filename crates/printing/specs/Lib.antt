@@ -3,5 +3,6 @@ pub mod Entries
 pub mod BySettings
 pub mod EntryLaws
 pub mod PrintCases
+pub mod ByCases
 pub mod Claims
 pub mod Delivery

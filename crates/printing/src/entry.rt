@@ -48,7 +48,7 @@ pub fn print_program(text: &[u8], words: &[u32], out: &mut [u8]) -> Result<usize
 }
 
 // A small output takes a small buffer.
-// Kept: a struct of the text and the words would be made in the three entries and taken apart again in the call of `render`.
+// Kept: a struct of the text and the words would be made in each entry and taken apart again in the call of `render`.
 pub(crate) fn print(
     text: &[u8],
     words: &[u32],

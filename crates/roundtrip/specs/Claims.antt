@@ -1,7 +1,7 @@
 -- Demand 3, entire. The contracts of the functions are `Answered` (`read_expression`), `PrintAnswered` (the prints of an expression, by
 -- `one_line` that of `print_expression`, by `defaults` that of `print_expression_lines`) and `ProgramAnswered` (the prints of a program, by
--- `defaults` that of `print_program`).
-use Rattle.std.specs.Prelude.{ℕ, ◌≤◌, ◌<◌, ◌≡◌, ◌↔◌, List, length, take, Result, Ok}
+-- `defaults` that of `print_program`); `PrintAnsweredBy` that of `print_expression_by`.
+use Rattle.std.specs.Prelude.{ℕ, ◌≤◌, ◌<◌, ◌≡◌, ◌↔◌, refl, List, length, take, Result, Ok}
 use Rattle.tree.specs.Ast.{Expr}
 use Rattle.tree.specs.Limits.{most_text}
 use Rattle.tree.specs.Check.{NameIn}
@@ -16,7 +16,10 @@ use Rattle.layout.specs.declared.settings.Settings.{Settings}
 use Rattle.rendering.specs.declared.PrintError.{PrintError}
 use Rattle.layout.specs.PrintUtil.{Init}
 use Rattle.tree.specs.Held.{Holds}
+use Rattle.rendering.specs.Tables.{expressions}
 use Rattle.printing.specs.Entries.{PrintAnswered, ProgramAnswered}
+use Rattle.printing.specs.BySettings.{PrintAnsweredBy}
+use Rattle.printing.specs.Claims.{printed-by}
 use Rattle.roundtrip.specs.Nesting.{nesting}
 use Rattle.roundtrip.specs.SmallNaturals.{Words32}
 use Rattle.roundtrip.specs.ReadPrinted.{Unrefused, program-unrefused}
@@ -54,6 +57,23 @@ pub short-print-is-read-back : (text words out out' : List ℕ) (settings : Sett
     → (m : ℕ) → length words ≤ m → (r : Result ℕ Refusal) (table : List ℕ) → Answered (take n out') m r table
     → Leaves (take n out') m (tree_in text e) r table
 short-print-is-read-back = written-read-plainly
+
+-- The same of a print by the bytes of settings.
+pub print-by-is-derived : (bytes text words out out' : List ℕ) (indent n : ℕ) (e : Expr (NameIn (length text)))
+    → Holds text words e → Faithful (tree_in text e) → PrintAnsweredBy bytes text words indent out (Ok n) out'
+    → (d : ℕ) → nesting (tree_in text e) Init < d → Derives d (take n out') (tree_in text e)
+print-by-is-derived bytes text ws out out' indent n e h x a =
+    let p = printed-by (λ s. expressions s text indent) bytes text ws out (Ok n) out' a n refl in
+    written-derives text ws out out' p.0 indent n e h x p.1.1
+
+pub short-print-by-is-read-back : (bytes text words out out' : List ℕ) (indent n : ℕ) (e : Expr (NameIn (length text)))
+    → Holds text words e → Faithful (tree_in text e) → PrintAnsweredBy bytes text words indent out (Ok n) out'
+    → Words32 words → n ≤ most_text → nesting (tree_in text e) Init < most_depth
+    → (m : ℕ) → length words ≤ m → (r : Result ℕ Refusal) (table : List ℕ) → Answered (take n out') m r table
+    → Leaves (take n out') m (tree_in text e) r table
+short-print-by-is-read-back bytes text ws out out' indent n e h x a =
+    let p = printed-by (λ s. expressions s text indent) bytes text ws out (Ok n) out' a n refl in
+    written-read-plainly text ws out out' p.0 indent n e h x p.1.1
 
 -- What is read of a program's text is refused by its print neither by 6 nor by 7, by any settings and into any output: r is the answer over the k words read.
 pub read-program-unrefused : (settings : Settings) (text : List ℕ) (n k : ℕ) (table out out' : List ℕ) (r : Result ℕ PrintError) → read_program text n ≡ words k table
