@@ -40,15 +40,15 @@ impl PrintByError {
 impl From<RecordError> for PrintByError {
     ghost from_gives = { λ r e. e ≡ Settings r };
 
-    fn from(error: RecordError) -> PrintByError {
-        PrintByError::Settings(error)
+    fn from(cause: RecordError) -> PrintByError {
+        PrintByError::Settings(cause)
     }
 }
 
 impl From<PrintError> for PrintByError {
     ghost from_gives = { λ p e. e ≡ Print p };
 
-    fn from(error: PrintError) -> PrintByError {
-        PrintByError::Print(error)
+    fn from(cause: PrintError) -> PrintByError {
+        PrintByError::Print(cause)
     }
 }
