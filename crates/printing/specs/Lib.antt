@@ -4,5 +4,6 @@ pub mod BySettings
 pub mod EntryLaws
 pub mod PrintCases
 pub mod ByCases
+pub mod SettingsExamples
 pub mod Claims
 pub mod Delivery
