@@ -1,4 +1,4 @@
-// Bytes as two hexadecimal digits each, in lower case; `-` for none.
+// Bytes as two hexadecimal digits each, printed in lower case; `-` for none.
 ghost use Rattle.std.specs.Prelude.{◌<◌, ◌≤◌, length};
 
 use crate::lines::{Part, fill, tail, until};
@@ -20,6 +20,7 @@ fn hex_digit(b: u8) -> u8
     match b {
         b'0'..=b'9' => b - b'0',
         b'a'..=b'f' => b - b'a' + 10,
+        b'A'..=b'F' => b - b'A' + 10,
         _ => 0,
     }
 }
