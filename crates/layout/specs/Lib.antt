@@ -6,6 +6,7 @@ pub mod Indents
 pub mod Printer
 pub mod Statements
 pub mod Program
+pub mod LineLaws
 pub mod Examples
 pub mod BracketExamples
 pub mod FormExamples

@@ -2,23 +2,25 @@
 -- from 0 on `print_expression`, by `defaults` `print_expression_lines`), `Answered (programs settings text)` that of the prints of a program (by
 -- `defaults` `print_program`): r is the answer, out the output before the call and out' the output after it. A tree over the text is one whose
 -- names are of type `NameIn (length text)`, spans that lie inside it. `expression-laws` and `program-laws` (tree's HeldLaws) are the L of the two.
-use Rattle.std.specs.Prelude.{ℕ, ◌≡◌, ◌↔◌, ◌⊎◌, List, ◌++◌, length, drop, Err}
+use Rattle.std.specs.Prelude.{ℕ, ◌≤◌, ◌≡◌, ◌↔◌, ◌⊎◌, List, ◌++◌, length, drop, Err}
 use Rattle.std.proofs.Math.Option.{some}
 use Rattle.tree.specs.Check.{Refusal, oversized, misfitting}
 use Rattle.std.specs.Prelude.{Result, Ok}
+use Rattle.layout.specs.declared.settings.Form.TheVariants.{OneLine}
 use Rattle.layout.specs.declared.settings.Settings.{Settings}
-use Rattle.layout.specs.Settings.{defaults}
+use Rattle.layout.specs.Settings.{defaults, one_line}
 use Rattle.settings.specs.Records.{settings_bytes, settings_in}
 use Rattle.rendering.specs.declared.PrintError.{PrintError}
 use Rattle.printing.specs.declared.error.PrintByError.{PrintByError}
 use Rattle.tree.specs.HeldLaws.{Lawful}
-use Rattle.rendering.specs.Tables.{Printable, Within}
+use Rattle.rendering.specs.Tables.{most_indent, Printable, expressions, Within}
 use Rattle.rendering.specs.Errors.{print_too_long, Refuses}
 use Rattle.printing.specs.Entries.{print_table, Answered, Fits}
 use Rattle.printing.specs.PrintCases as Cases
 use Rattle.printing.specs.BySettings.{print_by, AnsweredBy}
 use Rattle.printing.specs.ByCases as ByCases
 use Rattle.printing.specs.ByCases.{RefusesBy, of_print}
+use Rattle.printing.specs.LinePrints
 
 module _ (P : Printable) (L : Lawful P.kind) (text words out : List ℕ) (r : Result ℕ PrintError) (out' : List ℕ) (a : Answered P text words out r out') where
   -- A table that holds the tree t, within the limits: where t's print fits, the answer is its length, and the output is the print followed by
@@ -72,3 +74,10 @@ module _ (P : Settings → Printable) (bytes text words out : List ℕ) (r : Res
 -- By the bytes of the default settings a print is that by the defaults.
 pub print-by-default : (P : Settings → Printable) (text words out : List ℕ) → print_by P (settings_bytes defaults) text words out ≡ print_table (P defaults) text words out
 print-by-default = ByCases.print-by-default
+
+-- ---- on one line
+
+-- By all settings of this form, and from every start indent within the limits, an expression's print is that by `one_line` and from 0 on.
+pub print-on-line : (s : Settings) (text words : List ℕ) (indent : ℕ) (out : List ℕ) → s.form ≡ OneLine → indent ≤ most_indent
+    → print_table (expressions s text indent) text words out ≡ print_table (expressions one_line text 0) text words out
+print-on-line = LinePrints.print-on-line

@@ -4,6 +4,7 @@ pub mod BySettings
 pub mod EntryLaws
 pub mod PrintCases
 pub mod ByCases
+pub mod LinePrints
 pub mod SettingsExamples
 pub mod Claims
 pub mod Delivery
