@@ -1,15 +1,21 @@
 -- What is proved of the definitions of prints. The prints themselves are Printer.dfy's and PrintUtil.dfy's methods, one definition each; that
 -- the functions in src/ give what the definitions give is their contract. These claims are about the definitions, each by citation: strengths
--- against PrintUtil.dfy's own conditions, and the indents of 64 bits against its naturals. Which operand of which operator has brackets stands
--- as a table in `BracketExamples`, and every form's print in the other closed examples.
-use Rattle.std.specs.Prelude.{ℕ, ◌+◌, ◌≤◌, ◌<◌, ◌≡◌, ◌↔◌, true, false}
+-- against PrintUtil.dfy's own conditions, the indents of 64 bits against its naturals, and what the form of settings is to a print. Which operand
+-- of which operator has brackets stands as a table in `BracketExamples`, and every form's print in the other closed examples.
+use Rattle.std.specs.Prelude.{ℕ, ◌+◌, ◌≤◌, ◌<◌, ◌≡◌, ◌↔◌, true, false, List}
+use Rattle.tree.specs.Ast.{Expr}
 use Rattle.lexing.specs.Answer.{pick}
 use Rattle.layout.specs.declared.power.TieBreaker.{TieBreaker}
 use Rattle.layout.specs.declared.power.Side.TheVariants.{Left, Right}
 use Rattle.layout.specs.declared.power.BindingPower.{BindingPower}
 use Rattle.layout.specs.declared.format.ExprFormatOption.{ExprFormatOption}
 use Rattle.layout.specs.PrintUtil.{More, start_indent, deeper_by, Deeper, BreakTieInFavorOfOperator, power, Init, EndlessOperator, WinsOver, SubexpressionPower}
+use Rattle.layout.specs.declared.format.ExprFormatOption.TheVariants.{SingleLine}
+use Rattle.layout.specs.declared.settings.Form.{Form}
+use Rattle.layout.specs.Settings.{format_at}
+use Rattle.layout.specs.Printer.{Expression}
 use Rattle.layout.specs.Indents as indents
+use Rattle.layout.specs.LineLaws as line
 use Rattle.layout.proofs.StrengthLaws as strengths
 use Rattle.layout.proofs.StrengthLaws.{Favored}
 
@@ -48,3 +54,14 @@ deeper-held = indents.held
 
 pub format-held : (step : ℕ) (format : ExprFormatOption) → start_indent format + step ≤ 18446744073709551615 → Deeper step format ≡ More step format
 format-held = indents.held-format
+
+-- ---- forms
+
+-- The format of a form starts from no greater indent than it is given.
+pub format-start : (form : Form) (indent : ℕ) → start_indent (format_at form indent) ≤ indent
+format-start = indents.format-start
+
+-- On one line an expression's print depends on no step.
+pub print-on-line : {N : Type 0} (name : N → List ℕ) (s t : ℕ) (e : Expr N) (context : BindingPower) (rest : List ℕ)
+    → Expression name s e context SingleLine rest ≡ Expression name t e context SingleLine rest
+print-on-line = line.print-on-line
