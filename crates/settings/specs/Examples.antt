@@ -3,6 +3,11 @@ use Rattle.std.specs.Prelude.{ℕ, List, [], ◌∷◌, ◌++◌, ◌≡◌, ref
 use Rattle.layout.specs.declared.settings.Form.{Form}
 use Rattle.layout.specs.declared.settings.Form.TheVariants.{OneLine, Broken}
 use Rattle.layout.specs.declared.settings.Settings.{Settings}
+use Rattle.tree.specs.Check.{Refusal}
+use Rattle.settings.specs.declared.error.ContentError.TheVariants.{Step, Form as FormOut}
+use Rattle.settings.specs.declared.error.RecordError.TheVariants.{Layout, Version, Content}
+use Rattle.settings.specs.declared.error.WriteError.TheVariants.{Content as WriteContent, TooShort}
+use Rattle.settings.specs.Errors.{record_refusal, write_refusal}
 use Rattle.settings.specs.Answers.{Outcome, done, refused}
 use Rattle.settings.specs.Fields.{field, misplaced}
 use Rattle.settings.specs.Records.{settings_of, settings_in, read_settings, write_settings}
@@ -16,11 +21,22 @@ computed = tt
 abbrev sample : List ℕ
 sample = 1 ∷ 0 ∷ 1 ∷ 1 ∷ 2 ∷ 0 ∷ 1 ∷ 5 ∷ 3 ∷ 0 ∷ 1 ∷ 0 ∷ []
 
+abbrev at : (number place : ℕ) → Refusal
+at number place = record { number = number; place = place }
+
 abbrev read : ℕ → Form → Outcome ⊤ Settings
 read step form = done tt (record { step = step; form = form })
 
 abbrev unread : (number place : ℕ) → Outcome ⊤ Settings
-unread number place = refused (record { number = number; place = place }) (record { step = 2; form = Broken })
+unread number place = refused (at number place) (record { step = 2; form = Broken })
+
+-- ---- errors
+
+errors : map record_refusal (Layout 5 ∷ Version ∷ Content Step ∷ Content FormOut ∷ []) ≡ at 9 5 ∷ at 10 0 ∷ at 11 7 ∷ at 11 11 ∷ []
+errors = refl
+
+write-errors : map write_refusal (WriteContent Step ∷ WriteContent FormOut ∷ TooShort ∷ []) ≡ at 11 7 ∷ at 11 11 ∷ at 8 0 ∷ []
+write-errors = refl
 
 -- ---- layout
 
@@ -38,7 +54,7 @@ fixed-byte : map (λ place. read_settings (set sample place 4)) fixed ≡ map (u
 unfolding computed
 fixed-byte = refl
 
--- the bytes before it are right
+-- the first of two that are wrong
 first-of_two : map (λ place. read_settings (set (set sample 10 0) place 4)) fixed ≡ map (unread 9) fixed
 unfolding computed
 first-of_two = refl
@@ -99,7 +115,7 @@ abbrev out : ℕ → List ℕ
 out room = replicate room 66
 
 abbrev unwritten : (number place room : ℕ) → Outcome ℕ (List ℕ)
-unwritten number place room = refused (record { number = number; place = place }) (out room)
+unwritten number place room = refused (at number place) (out room)
 
 rooms : map (λ room. write_settings 5 0 (out room)) (0 ∷ 11 ∷ 12 ∷ 13 ∷ 15 ∷ [])
     ≡ unwritten 8 0 0 ∷ unwritten 8 0 11 ∷ done 12 sample ∷ done 12 (sample ++ out 1) ∷ done 12 (sample ++ out 3) ∷ []

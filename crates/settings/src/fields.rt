@@ -23,19 +23,24 @@ const STEP_TAG: u8 = 2;
 
 const FORM_TAG: u8 = 3;
 
+// The length of each content.
+const LENGTH_HIGH: u8 = 0;
+
+const LENGTH_LOW: u8 = 1;
+
 // The bytes of a record; `None` stands for a content.
 pub(crate) const LAYOUT: [Option<u8>; RECORD_LENGTH] = [
     Some(VERSION_TAG),
-    Some(0),
-    Some(1),
+    Some(LENGTH_HIGH),
+    Some(LENGTH_LOW),
     None,
     Some(STEP_TAG),
-    Some(0),
-    Some(1),
+    Some(LENGTH_HIGH),
+    Some(LENGTH_LOW),
     None,
     Some(FORM_TAG),
-    Some(0),
-    Some(1),
+    Some(LENGTH_HIGH),
+    Some(LENGTH_LOW),
     None,
 ];
 
@@ -72,16 +77,16 @@ pub(crate) fn settings_bytes(settings: Settings) -> [u8; RECORD_LENGTH]
     let (step, form) = (settings.step, settings.form as u8);
     [
         VERSION_TAG,
-        0,
-        1,
+        LENGTH_HIGH,
+        LENGTH_LOW,
         VERSION,
         STEP_TAG,
-        0,
-        1,
+        LENGTH_HIGH,
+        LENGTH_LOW,
         step,
         FORM_TAG,
-        0,
-        1,
+        LENGTH_HIGH,
+        LENGTH_LOW,
         form,
     ]
 }
