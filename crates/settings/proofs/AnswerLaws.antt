@@ -7,7 +7,8 @@ use Rattle.layout.specs.declared.settings.Settings.{Settings}
 use Rattle.settings.specs.Errors.{refusal, output_too_short}
 use Rattle.settings.specs.Answers.{done, refused}
 use Rattle.settings.specs.Fields.{misplaced}
-use Rattle.settings.specs.Records.{record_length, settings_layout, of_layout, settings_of, settings_in, read, read_settings, stored, write, write_settings}
+use Rattle.settings.specs.Records.{record_length, settings_layout, of_layout, settings_of, settings_in, read, read_settings}
+use Rattle.settings.specs.Records.{stored, write, write_settings}
 
 -- ---- reading
 

@@ -6,8 +6,9 @@ use Rattle.layout.specs.declared.settings.Settings.{Settings}
 use Rattle.layout.specs.Settings.{defaults}
 use Rattle.settings.specs.declared.error.RecordError.{RecordError}
 use Rattle.settings.specs.declared.error.WriteError.{WriteError}
-use Rattle.settings.specs.Errors.{refusal, output_too_short, bad_layout, unknown_version, content_out_of_range, step_place, form_place, record_refusal, write_refusal}
-use Rattle.settings.specs.Answers.{answer_of, outcome_of}
+use Rattle.settings.specs.Errors.{output_too_short, bad_layout, unknown_version, content_out_of_range, step_place, form_place}
+use Rattle.settings.specs.Errors.{refusal, record_refusal, write_refusal}
+use Rattle.settings.specs.Answers.{Refuses, outcome_of}
 use Rattle.settings.specs.Fields.{misplaced}
 use Rattle.settings.specs.Records.{record_length, present_version, form_number, settings_record, read_settings, write_settings}
 use Rattle.settings.specs.Laid.{LaidOut, IsRecord, FirstBad, StepInRange, FormInRange, InRange}
@@ -19,7 +20,8 @@ use Rattle.settings.proofs.WriteLaws as writing
 -- ---- layouts
 
 -- Of any layout: the place that is found is the first bad byte's, and none is found exactly where the bytes are laid out.
-pub first-bad : (layout : List (Option ℕ)) (bytes : List ℕ) (place : ℕ) → (misplaced layout 0 bytes ≡ Some place) ↔ FirstBad (LaidOut layout) bytes place
+pub first-bad : (layout : List (Option ℕ)) (bytes : List ℕ) (place : ℕ)
+    → (misplaced layout 0 bytes ≡ Some place) ↔ FirstBad (LaidOut layout) bytes place
 first-bad = layouts.place
 
 pub none-bad : (layout : List (Option ℕ)) (bytes : List ℕ) → (misplaced layout 0 bytes ≡ None) ↔ LaidOut layout bytes
@@ -28,13 +30,10 @@ none-bad layout bytes = layouts.none-misplaced layout 0 bytes
 -- ---- reading
 
 module _ (bytes : List ℕ) (r : Result ⊤ RecordError) (settings : Settings) (a : outcome_of record_refusal r settings ≡ read_settings bytes) where
-  -- refusal by this number at this place
-  abbrev Unread : (number place : ℕ) → Type 0
-  Unread number place = answer_of record_refusal r ≡ Err (refusal number place)
-
   -- A step and a form are read exactly where the bytes are their record and they are in range.
   pub settings-read : (step form : ℕ)
-      → ((r ≡ Ok tt) × (settings.step ≡ step) × (form_number settings.form ≡ form)) ↔ ((bytes ≡ settings_record present_version step form) × InRange step form)
+      → ((r ≡ Ok tt) × (settings.step ≡ step) × (form_number settings.form ≡ form))
+      ↔ ((bytes ≡ settings_record present_version step form) × InRange step form)
   settings-read = reading.settings-read bytes r settings a
 
   -- After a refusal the settings are the defaults.
@@ -42,30 +41,29 @@ module _ (bytes : List ℕ) (r : Result ⊤ RecordError) (settings : Settings) (
   defaults-left = reading.defaults-left bytes r settings a
 
   -- Refusal 9: exactly where the bytes are no record, and at the first bad byte.
-  pub refused-9 : ((place : ℕ) × Unread bad_layout place) ↔ (IsRecord bytes → ⊥)
+  pub refused-9 : ((place : ℕ) × Refuses record_refusal r bad_layout place) ↔ (IsRecord bytes → ⊥)
   refused-9 = reading.refused-9 bytes r settings a
 
-  pub refused-9-place : (place : ℕ) → Unread bad_layout place ↔ FirstBad IsRecord bytes place
+  pub refused-9-place : (place : ℕ) → Refuses record_refusal r bad_layout place ↔ FirstBad IsRecord bytes place
   refused-9-place place = reading.through bytes r settings a (refusal bad_layout place) (records.layout-refused bytes place)
 
   -- Refusal 10: exactly where they are the record of another version.
-  pub refused-10 : Unread unknown_version 0 ↔ ((c : IsRecord bytes) × (c.version ≡ present_version → ⊥))
+  pub refused-10 : Refuses record_refusal r unknown_version 0 ↔ ((c : IsRecord bytes) × (c.version ≡ present_version → ⊥))
   refused-10 = reading.through bytes r settings a (refusal unknown_version 0) (records.version-refused bytes)
 
   -- Refusal 11: exactly where they are the record of a step out of range, or of one in range with a form out of range.
-  pub refused-11-step : Unread content_out_of_range step_place ↔ ((c : IsRecord bytes) × (c.version ≡ present_version) × (StepInRange c.step → ⊥))
+  pub refused-11-step : Refuses record_refusal r content_out_of_range step_place
+      ↔ ((c : IsRecord bytes) × (c.version ≡ present_version) × (StepInRange c.step → ⊥))
   refused-11-step = reading.refused-11-step bytes r settings a
 
-  pub refused-11-form : Unread content_out_of_range form_place
+  pub refused-11-form : Refuses record_refusal r content_out_of_range form_place
       ↔ ((c : IsRecord bytes) × (c.version ≡ present_version) × (StepInRange c.step × (FormInRange c.form → ⊥)))
   refused-11-form = reading.refused-11-form bytes r settings a
 
 -- ---- writing
 
-module _ (step form : ℕ) (out : List ℕ) (r : Result ℕ WriteError) (out' : List ℕ) (a : outcome_of write_refusal r out' ≡ write_settings step form out) where
-  abbrev Unwritten : (number place : ℕ) → Type 0
-  Unwritten number place = answer_of write_refusal r ≡ Err (refusal number place)
-
+module _ (step form : ℕ) (out : List ℕ) (r : Result ℕ WriteError) (out' : List ℕ)
+    (a : outcome_of write_refusal r out' ≡ write_settings step form out) where
   -- An answer is the record's length, and it is given exactly where step and form are in range and the output has room.
   pub settings-written : (n : ℕ) → (r ≡ Ok n) ↔ ((n ≡ record_length) × InRange step form × (record_length ≤ length out))
   settings-written = writing.writes step form out r out' a
@@ -75,14 +73,14 @@ module _ (step form : ℕ) (out : List ℕ) (r : Result ℕ WriteError) (out' : 
   record-written = writing.wrote step form out r out' a
 
   -- Refusal 11: exactly by the step out of range, or by the form where the step is in range.
-  pub refused-11-unwritten-step : Unwritten content_out_of_range step_place ↔ (StepInRange step → ⊥)
+  pub refused-11-unwritten-step : Refuses write_refusal r content_out_of_range step_place ↔ (StepInRange step → ⊥)
   refused-11-unwritten-step = writing.refused-11-step step form out r out' a
 
-  pub refused-11-unwritten-form : Unwritten content_out_of_range form_place ↔ (StepInRange step × (FormInRange form → ⊥))
+  pub refused-11-unwritten-form : Refuses write_refusal r content_out_of_range form_place ↔ (StepInRange step × (FormInRange form → ⊥))
   refused-11-unwritten-form = writing.refused-11-form step form out r out' a
 
   -- Refusal 8: exactly where both are in range and the output is shorter than a record.
-  pub refused-8 : Unwritten output_too_short 0 ↔ (InRange step form × (length out < record_length))
+  pub refused-8 : Refuses write_refusal r output_too_short 0 ↔ (InRange step form × (length out < record_length))
   refused-8 = writing.room-refused step form out r out' a
 
   -- A refusal leaves the output as it was.

@@ -20,16 +20,13 @@ laid_out_length (t ∷ layout) at (b ∷ s) e =
 
 -- ---- place by place
 
-module _ (layout : List (Option ℕ)) (bytes : List ℕ) where
-  -- the first i bytes are as laid out
-  pub record Passed (i : ℕ) : Type 0 where
-    pub inside : i ≤ length bytes
-    pub rest : misplaced (drop i layout) i (drop i bytes) ≡ misplaced layout 0 bytes
+-- the first i bytes are as laid out
+pub record Passed (layout : List (Option ℕ)) (bytes : List ℕ) (i : ℕ) : Type 0 where
+  pub inside : i ≤ length bytes
+  pub rest : misplaced (drop i layout) i (drop i bytes) ≡ misplaced layout 0 bytes
 
-  pub begin : Passed 0
-  begin = record { inside = omega arith; rest = refl }
-
-  module _ (i : ℕ) (p : Passed i) (l : i < length layout) where
+module _ {layout : List (Option ℕ)} {bytes : List ℕ} {i : ℕ} (p : Passed layout bytes i) where
+  module _ (l : i < length layout) where
     -- there is no byte i
     pub missing : i ≡ length bytes → Some i ≡ misplaced layout 0 bytes
     unfolding misplaced
@@ -44,14 +41,14 @@ module _ (layout : List (Option ℕ)) (bytes : List ℕ) where
       at-place = rw (drop-cons layout i d l, drop-cons bytes i 0 h) refl
 
       -- byte i is as laid out
-      pub passed : admits (get_or layout i d) (get_or bytes i 0) ≡ true → Passed (i + 1)
+      pub passed : admits (get_or layout i d) (get_or bytes i 0) ≡ true → Passed layout bytes (i + 1)
       passed e = record { inside = omega arith; rest = rw add-one (sym (rw e at at-place) ∙ p.rest) }
 
       -- byte i is not
       pub differs : admits (get_or layout i d) (get_or bytes i 0) ≡ false → Some i ≡ misplaced layout 0 bytes
       differs e = sym (rw e at at-place) ∙ p.rest
 
-  module _ {i : ℕ} (p : Passed i) (e : i ≡ length layout) where
+  module _ (e : i ≡ length layout) where
     at-end : misplaced [] i (drop i bytes) ≡ misplaced layout 0 bytes
     at-end = let d : drop i layout ≡ [] = drop_of_length-le layout (omega arith) in rw d at p.rest
 

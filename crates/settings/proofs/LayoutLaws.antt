@@ -99,7 +99,11 @@ finds [] at [] p h = elim h.bad [ inl n ↦ let l : p < 0 = n.0 in absurd (omega
 finds [] at (b ∷ s) zero h = ap Some (omega arith)
 finds [] at (b ∷ s) (suc p) h = absurd h.begins.1
 finds (t ∷ layout) at [] zero h = ap Some (omega arith)
-finds (t ∷ layout) at [] (suc p) h = elim h.bad [ inl n ↦ let l : suc p < 0 = n.0 in absurd (omega arith) | inr n ↦ let l : suc p ≡ 0 = n.0 in absurd (omega arith) ]
+finds (t ∷ layout) at [] (suc p) h =
+    elim h.bad [
+      | inl n ↦ let l : suc p < 0 = n.0 in absurd (omega arith)
+      | inr n ↦ let l : suc p ≡ 0 = n.0 in absurd (omega arith)
+    ]
 finds (t ∷ layout) at (b ∷ s) zero h = by-test (admits t b) refl
   where
     by-test : (i : Bool) → admits t b ≡ i → pick i (misplaced layout (suc at) s) (Some at) ≡ Some (at + 0)

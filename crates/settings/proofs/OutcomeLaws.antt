@@ -16,7 +16,8 @@ module _ {A E L : Type 0} (of : E → Refusal) (r : Result A E) where
   pub is-refused : {f : Refusal} {left given : L} → outcome_of of r left ≡ refused f given → (answer_of of r ≡ Err f) × (left ≡ given)
   is-refused e = by-answer r refl e
     where
-      by-answer : (x : Result A E) → r ≡ x → {f : Refusal} {left given : L} → outcome_of of x left ≡ refused f given → (answer_of of r ≡ Err f) × (left ≡ given)
+      by-answer : (x : Result A E) → r ≡ x → {f : Refusal} {left given : L} → outcome_of of x left ≡ refused f given
+          → (answer_of of r ≡ Err f) × (left ≡ given)
       by-answer (Ok b) k e = impossible cc
       by-answer (Err b) k e = (ap (answer_of of) k ∙ cc, cc)
 

@@ -5,15 +5,12 @@ use Rattle.tree.specs.Check.{Refusal}
 use Rattle.layout.specs.declared.settings.Settings.{Settings}
 use Rattle.layout.specs.Settings.{defaults}
 use Rattle.settings.specs.declared.error.RecordError.{RecordError}
-use Rattle.settings.specs.Errors.{refusal, content_out_of_range, record_refusal}
-use Rattle.settings.specs.Answers.{answer_of, outcome_of}
+use Rattle.settings.specs.Errors.{refusal, content_out_of_range, record_refusal, bad_layout, step_place, form_place}
+use Rattle.settings.specs.Answers.{answer_of, Refuses, outcome_of}
 use Rattle.settings.specs.Records.{present_version, form_number, settings_record, settings_of, settings_in, read, read_settings}
-use Rattle.settings.specs.Laid.{InRange}
-use Rattle.settings.proofs.ContentLaws.{in-range-given}
+use Rattle.settings.specs.Laid.{InRange, IsRecord, StepInRange, FormInRange}
+use Rattle.settings.proofs.ContentLaws.{in-range-given, step-refused, form-refused, some_settings}
 use Rattle.settings.proofs.AnswerLaws.{is-read}
-use Rattle.settings.specs.Errors.{bad_layout, step_place, form_place}
-use Rattle.settings.specs.Laid.{IsRecord, StepInRange, FormInRange}
-use Rattle.settings.proofs.ContentLaws.{step-refused, form-refused, some_settings}
 use Rattle.settings.proofs.RecordLaws as records
 use Rattle.settings.proofs.OutcomeLaws.{is-done, is-refused, not-both}
 
@@ -27,7 +24,9 @@ module _ (bytes : List ℕ) (r : Result ⊤ RecordError) (settings : Settings) (
       by-answer : (x : Result Settings Refusal) → settings_in bytes ≡ x → answer_of record_refusal r ≡ Err f → settings_in bytes ≡ Err f
       by-answer (Ok s) k e = not-both record_refusal (is-done record_refusal r (given k)).0 e
       by-answer (Err g) k e =
-          let h : ◌≡◌ {A = Result ⊤ Refusal} (Err g) (Err f) = sym (is-refused record_refusal r (given k)).0 ∙ e in let same : g ≡ f = cc in k ∙ ap Err same
+          let h : ◌≡◌ {A = Result ⊤ Refusal} (Err g) (Err f) = sym (is-refused record_refusal r (given k)).0 ∙ e in
+          let same : g ≡ f = cc in
+          k ∙ ap Err same
 
   pub reads : (s : Settings) → ((r ≡ Ok tt) × (settings ≡ s)) ↔ (settings_in bytes ≡ Ok s)
   reads s = (λ e. by-answer (settings_in bytes) refl e, λ e. is-done record_refusal r (given e))
@@ -48,7 +47,8 @@ module _ (bytes : List ℕ) (r : Result ⊤ RecordError) (settings : Settings) (
   through f i = (λ e. i.0 ((refuses f).0 e), λ p. (refuses f).1 (i.1 p))
 
   pub settings-read : (step form : ℕ)
-      → ((r ≡ Ok tt) × (settings.step ≡ step) × (form_number settings.form ≡ form)) ↔ ((bytes ≡ settings_record present_version step form) × InRange step form)
+      → ((r ≡ Ok tt) × (settings.step ≡ step) × (form_number settings.form ≡ form))
+      ↔ ((bytes ≡ settings_record present_version step form) × InRange step form)
   settings-read step form = (
     λ h.
         let (c, v, k) = (records.contents-read bytes settings).0 ((reads settings).0 (h.0, refl)) in
@@ -64,25 +64,26 @@ module _ (bytes : List ℕ) (r : Result ⊤ RecordError) (settings : Settings) (
         (d, ap (λ (x : Settings). x.step) l ∙ g, ap (λ (x : Settings). form_number x.form) l ∙ m),
   )
 
-  pub refused-9 : ((place : ℕ) × (answer_of record_refusal r ≡ Err (refusal bad_layout place))) ↔ (IsRecord bytes → ⊥)
+  pub refused-9 : ((place : ℕ) × (Refuses record_refusal r bad_layout place)) ↔ (IsRecord bytes → ⊥)
   refused-9 = (
     λ e. (records.layout-refuses bytes).0 (e.0, (refuses (refusal bad_layout e.0)).0 e.1),
     λ n. let e = (records.layout-refuses bytes).1 n in (e.0, (refuses (refusal bad_layout e.0)).1 e.1),
   )
 
   -- refusal 11, by its condition on the contents
-  by-contents : {P : ℕ → ℕ → Type 0} (place : ℕ) → ((step form : ℕ) → (settings_of step form ≡ Err (refusal content_out_of_range place)) ↔ P step form)
-      → (answer_of record_refusal r ≡ Err (refusal content_out_of_range place)) ↔ ((c : IsRecord bytes) × (c.version ≡ present_version) × P c.step c.form)
+  by-contents : {P : ℕ → ℕ → Type 0} (place : ℕ)
+      → ((step form : ℕ) → (settings_of step form ≡ Err (refusal content_out_of_range place)) ↔ P step form)
+      → Refuses record_refusal r content_out_of_range place ↔ ((c : IsRecord bytes) × (c.version ≡ present_version) × P c.step c.form)
   by-contents place i =
       through (refusal content_out_of_range place) (
         λ e. let h = (records.contents-refused bytes place).0 e in (h.0, h.1, (i h.0.step h.0.form).0 h.2),
         λ h. (records.contents-refused bytes place).1 (h.0, h.1, (i h.0.step h.0.form).1 h.2),
       )
 
-  pub refused-11-step : (answer_of record_refusal r ≡ Err (refusal content_out_of_range step_place))
+  pub refused-11-step : Refuses record_refusal r content_out_of_range step_place
       ↔ ((c : IsRecord bytes) × (c.version ≡ present_version) × (StepInRange c.step → ⊥))
   refused-11-step = by-contents {P = λ step form. StepInRange step → ⊥} step_place step-refused
 
-  pub refused-11-form : (answer_of record_refusal r ≡ Err (refusal content_out_of_range form_place))
+  pub refused-11-form : Refuses record_refusal r content_out_of_range form_place
       ↔ ((c : IsRecord bytes) × (c.version ≡ present_version) × (StepInRange c.step × (FormInRange c.form → ⊥)))
   refused-11-form = by-contents {P = λ step form. StepInRange step × (FormInRange form → ⊥)} form_place form-refused

@@ -9,7 +9,8 @@ use Rattle.tree.specs.Check.{Refusal}
 use Rattle.layout.specs.declared.settings.Settings.{Settings}
 use Rattle.settings.specs.Errors.{refusal, bad_layout, unknown_version, content_out_of_range}
 use Rattle.settings.specs.Fields.{field, misplaced}
-use Rattle.settings.specs.Records.{version_tag, step_tag, form_tag, present_version, settings_layout, settings_record, settings_of, of_contents, of_layout, settings_in}
+use Rattle.settings.specs.Records.{version_tag, step_tag, form_tag}
+use Rattle.settings.specs.Records.{present_version, settings_layout, settings_record, settings_of, of_contents, of_layout, settings_in}
 use Rattle.settings.specs.Laid.{LaidOut, IsRecord, FirstBad}
 use Rattle.settings.proofs.RefusalLaws.{one_refusal}
 use Rattle.settings.proofs.ContentLaws.{only-11}
@@ -129,7 +130,8 @@ module _ (bytes : List ℕ) where
   )
 
   -- any other answer, by that to the contents
-  contents-answered : (a : Result Settings Refusal) → ((place : ℕ) → a ≡ Err (refusal bad_layout place) → ⊥) → (a ≡ Err (refusal unknown_version 0) → ⊥)
+  contents-answered : (a : Result Settings Refusal)
+      → ((place : ℕ) → a ≡ Err (refusal bad_layout place) → ⊥) → (a ≡ Err (refusal unknown_version 0) → ⊥)
       → (settings_in bytes ≡ a) ↔ ((c : IsRecord bytes) × (c.version ≡ present_version) × (settings_of c.step c.form ≡ a))
   contents-answered a m n = (
     λ e. elim case [

@@ -5,16 +5,13 @@ use borrow.Author.Tests.{leb-true, leb-false}
 use Rattle.tree.specs.Check.{Refusal}
 use Rattle.layout.specs.declared.settings.Settings.{Settings}
 use Rattle.settings.specs.declared.error.WriteError.{WriteError}
-use Rattle.settings.specs.Errors.{refusal, output_too_short, content_out_of_range, write_refusal}
-use Rattle.settings.specs.Answers.{answer_of, done, refused, outcome_of}
+use Rattle.settings.specs.Errors.{refusal, output_too_short, content_out_of_range, write_refusal, step_place, form_place}
+use Rattle.settings.specs.Answers.{answer_of, Refuses, done, refused, outcome_of}
 use Rattle.settings.specs.Records.{record_length, present_version, settings_record, settings_of, settings_bytes, write_settings}
-use Rattle.settings.specs.Laid.{InRange}
+use Rattle.settings.specs.Laid.{InRange, StepInRange, FormInRange}
 use Rattle.settings.proofs.RefusalLaws.{one_refusal}
-use Rattle.settings.proofs.ContentLaws.{only-11, refused-out-of-range, in-range-given}
+use Rattle.settings.proofs.ContentLaws.{only-11, refused-out-of-range, in-range-given, step-refused, form-refused}
 use Rattle.settings.proofs.AnswerLaws.{is-written, is-stored, is-too-long}
-use Rattle.settings.specs.Errors.{step_place, form_place}
-use Rattle.settings.specs.Laid.{StepInRange, FormInRange}
-use Rattle.settings.proofs.ContentLaws.{step-refused, form-refused}
 use Rattle.settings.proofs.OutcomeLaws.{is-done, is-refused, not-both}
 
 -- the record of settings of a step and a form is that of their numbers
@@ -67,7 +64,7 @@ module _ (step form : ℕ) (out : List ℕ) where
         ]
 
     pub contents-refused : (place : ℕ)
-        → (answer_of write_refusal r ≡ Err (refusal content_out_of_range place)) ↔ (settings_of step form ≡ Err (refusal content_out_of_range place))
+        → Refuses write_refusal r content_out_of_range place ↔ (settings_of step form ≡ Err (refusal content_out_of_range place))
     contents-refused place = (
       λ e. elim case [
         | content f k w ↦
@@ -79,7 +76,7 @@ module _ (step form : ℕ) (out : List ℕ) where
       λ k. (is-refused write_refusal r (a ∙ sym (is-written out step form (sym k)))).0,
     )
 
-    pub room-refused : (answer_of write_refusal r ≡ Err (refusal output_too_short 0)) ↔ (InRange step form × (length out < record_length))
+    pub room-refused : Refuses write_refusal r output_too_short 0 ↔ (InRange step form × (length out < record_length))
     room-refused = (
       λ e. elim case [
         | content f k w ↦
@@ -105,11 +102,11 @@ module _ (step form : ℕ) (out : List ℕ) where
           | fits i l w ↦ not-both write_refusal (is-done write_refusal r (a ∙ w)).0 (ap (answer_of write_refusal) e)
         ]
 
-    pub refused-11-step : (answer_of write_refusal r ≡ Err (refusal content_out_of_range step_place)) ↔ (StepInRange step → ⊥)
+    pub refused-11-step : Refuses write_refusal r content_out_of_range step_place ↔ (StepInRange step → ⊥)
     refused-11-step =
         let i = contents-refused step_place in let j = step-refused step form in (λ e. j.0 (i.0 e), λ n. i.1 (j.1 n))
 
-    pub refused-11-form : (answer_of write_refusal r ≡ Err (refusal content_out_of_range form_place)) ↔ (StepInRange step × (FormInRange form → ⊥))
+    pub refused-11-form : Refuses write_refusal r content_out_of_range form_place ↔ (StepInRange step × (FormInRange form → ⊥))
     refused-11-form =
         let i = contents-refused form_place in let j = form-refused step form in (λ e. j.0 (i.0 e), λ n. i.1 (j.1 n))
 

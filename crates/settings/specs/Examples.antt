@@ -82,7 +82,8 @@ wrong-and_too_many = refl
 abbrev contents : (version step form : ℕ) → List ℕ
 contents version step form = set (set (set sample 3 version) 7 step) 11 form
 
-versions : map (λ version. read_settings (contents version 5 0)) (0 ∷ 1 ∷ 2 ∷ 3 ∷ 255 ∷ []) ≡ unread 10 0 ∷ read 5 OneLine ∷ unread 10 0 ∷ unread 10 0 ∷ unread 10 0 ∷ []
+versions : map (λ version. read_settings (contents version 5 0)) (0 ∷ 1 ∷ 2 ∷ 3 ∷ 255 ∷ [])
+    ≡ unread 10 0 ∷ read 5 OneLine ∷ unread 10 0 ∷ unread 10 0 ∷ unread 10 0 ∷ []
 unfolding computed
 versions = refl
 
@@ -97,7 +98,8 @@ unfolding computed
 forms = refl
 
 -- layout before version, version before step, step before form
-layout-first : map read_settings (set (contents 2 0 2) 10 0 ∷ take 11 (contents 2 0 2) ∷ (contents 2 0 2 ++ 1 ∷ []) ∷ []) ≡ unread 9 10 ∷ unread 9 11 ∷ unread 9 12 ∷ []
+layout-first : map read_settings (set (contents 2 0 2) 10 0 ∷ take 11 (contents 2 0 2) ∷ (contents 2 0 2 ++ 1 ∷ []) ∷ [])
+    ≡ unread 9 10 ∷ unread 9 11 ∷ unread 9 12 ∷ []
 unfolding computed
 layout-first = refl
 

@@ -93,7 +93,8 @@ settings_bytes s = settings_record present_version s.step (form_number s.form)
 
 -- a record and then the output's old bytes, or refusal 8
 abbrev pub stored : (bytes out : List ℕ) → Outcome ℕ (List ℕ)
-stored bytes out = pick (leb record_length (length out)) (done record_length (bytes ++ drop record_length out)) (refused (refusal output_too_short 0) out)
+stored bytes out =
+    pick (leb record_length (length out)) (done record_length (bytes ++ drop record_length out)) (refused (refusal output_too_short 0) out)
 
 -- the answer of a writing, and the output afterwards; refusal 11 comes first
 abbrev pub write : Result Settings Refusal → (out : List ℕ) → Outcome ℕ (List ℕ)

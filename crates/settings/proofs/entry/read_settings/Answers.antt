@@ -1,3 +1,4 @@
+-- By the settings of the bytes.
 use Rattle.std.proofs.lemmas.Result.{err_from_is_err_and}
 use Rattle.settings.proofs.AnswerLaws.{is-read}
 use Rattle.settings.proofs.entry.read_settings.Goals as goal

@@ -1,3 +1,4 @@
+-- By the first misplaced byte, or by the contents.
 use Rattle.std.proofs.Common.{◌∙◌}
 use Rattle.settings.proofs.AnswerLaws.{by-layout}
 use Rattle.settings.proofs.entry.settings_in.Goals as goal

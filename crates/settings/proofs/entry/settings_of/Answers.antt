@@ -1,3 +1,4 @@
+-- The step out of range, and the rest by `with_step`.
 use Rattle.std.proofs.Common.{arith, sym, ◌∙◌}
 use Rattle.settings.proofs.ContentLaws.{step-in-range, step-out-of-range}
 use Rattle.settings.proofs.entry.settings_of.Goals as goal

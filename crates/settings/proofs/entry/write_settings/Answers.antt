@@ -1,3 +1,4 @@
+-- By the settings of the step and the form, and by the room.
 use Rattle.std.specs.Prelude.{ℕ, List, ◌++◌, length, drop}
 use Rattle.std.proofs.Common.{sym, ap, ◌∙◌}
 use Rattle.std.proofs.lemmas.List.{length-take-le}

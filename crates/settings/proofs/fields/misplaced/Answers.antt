@@ -7,18 +7,18 @@ use Rattle.settings.proofs.fields.misplaced.Goals.{then-i-bytes-via-then-i-bytes
 
 pub loop-i-preserved : goal.loop-i-preserved
 loop-i-preserved c =
-    passed c.args.layout.now c.args.bytes.now c.loop-i.i c.loop-i.invariant c.loop-i-test.true (omega arith) None (sym c.admits.ensures ∙ c.if-not-admits.false)
+    passed c.loop-i.invariant c.loop-i-test.true (omega arith) None (sym c.admits.ensures ∙ c.if-not-admits.false)
 
 pub returns-then-i-bytes : goal.returns-then-i-bytes
 returns-then-i-bytes c =
     elim c.then-i-bytes.branch [
-      | then-i-bytes-via-then-i-bytes w ↦ missing c.args.layout.now c.args.bytes.now c.loop-i.i c.loop-i.invariant c.loop-i-test.true w.if-i-bytes.true
+      | then-i-bytes-via-then-i-bytes w ↦ missing c.loop-i.invariant c.loop-i-test.true w.if-i-bytes.true
       | then-i-bytes-via-else-i-bytes+then-not-admits w ↦
-          differs c.args.layout.now c.args.bytes.now c.loop-i.i c.loop-i.invariant c.loop-i-test.true (omega arith) None (sym w.admits.ensures ∙ w.if-not-admits.true)
+          differs c.loop-i.invariant c.loop-i-test.true (omega arith) None (sym w.admits.ensures ∙ w.if-not-admits.true)
     ]
 
 pub returns-then-layout-bytes : goal.returns-then-layout-bytes
-returns-then-layout-bytes c = too-many c.args.layout.now c.args.bytes.now c.loop-i.invariant (omega arith) c.if-layout-bytes.true
+returns-then-layout-bytes c = too-many c.loop-i.invariant (omega arith) c.if-layout-bytes.true
 
 pub returns-else-layout-bytes : goal.returns-else-layout-bytes
-returns-else-layout-bytes c = complete c.args.layout.now c.args.bytes.now c.loop-i.invariant (omega arith) c.if-layout-bytes.false
+returns-else-layout-bytes c = complete c.loop-i.invariant (omega arith) c.if-layout-bytes.false
