@@ -33,6 +33,7 @@ pub enum WriteError {
     TooShort,
 }
 
+// Kept: number and place by methods and no trait, see tidy's `TidyError`.
 impl ContentError {
     // The refusal's number.
     pub fn number(self) -> u64
