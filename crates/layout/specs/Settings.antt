@@ -1,4 +1,4 @@
--- How a bench prints: the indent step, upstream's `IndentAmount`, and the form of expressions. The types are those of src/.
+-- Settings of prints: the indent step, upstream's `IndentAmount`, and the form of expressions. The types are those of src/.
 use Rattle.std.specs.Prelude.{ℕ}
 use Rattle.layout.specs.declared.format.ExprFormatOption.{ExprFormatOption}
 use Rattle.layout.specs.declared.format.ExprFormatOption.TheVariants.{SingleLine, MultipleLines}

@@ -1,4 +1,4 @@
-// How a bench prints: its indent step, and the form of its expressions.
+// Settings of prints: the indent step, and the form of expressions.
 ghost use Rattle.std.specs.Prelude.{◌≡◌};
 ghost use Rattle.layout.specs.Settings.{format_at};
 

@@ -27,7 +27,7 @@ use Rattle.rendering.specs.Tables.{most_indent, Printable, print_of, program_pri
 use Rattle.rendering.specs.TableLaws.{holds}
 use Rattle.rendering.specs.Wrote.{Wrote}
 use Rattle.rendering.specs.Parts.{Prints}
-use Rattle.rendering.specs.ExprParts.{most_step, an_expr}
+use Rattle.rendering.specs.ExprParts.{widest_step, an_expr}
 use Rattle.rendering.specs.DeclParts.{a_program}
 use Rattle.layout.specs.PrintUtil.{Init}
 use Rattle.layout.specs.Settings.{format_at}
@@ -79,7 +79,7 @@ numbered text words before root {after} h e f =
     by-root AProgram t d l m = program-counted words (length text) before t d l m
 
 -- the write of a tree's print, by what follows from every write of it
-written : (root : Root) {s s' : Printer} {r : Result ℕ PrintError} → s.at ≡ 0 → s.pos ≡ 0 → s.source.step ≤ most_step → root_indent root ≤ most_indent
+written : (root : Root) {s s' : Printer} {r : Result ℕ PrintError} → s.at ≡ 0 → s.pos ≡ 0 → s.source.step ≤ widest_step → root_indent root ≤ most_indent
     → length s.source.words.now ≤ most_words → Prints (root_part root) s s'
     → ((X : List ℕ → List ℕ) → Wrote X s.out.now 0 s'.out.now s'.pos → Made (X []) s.out.now r s'.out.now)
     → (t : (root_kind s.source.text.now root).Tree) → RootCounted s.source.text.now s.source.words.now s.source.counts.now root t
@@ -90,7 +90,7 @@ written (AnExpression indent) {s} e p m i l x k t c f =
     k _ (rw p at (x.prints t [] (record { few = l; short = m; room = omega arith }, c) (rw e (sym f))).wrote)
 written AProgram {s} e p m i l x k t c f = k _ (rw p at (x.prints t [] (record { few = l; short = m; room = omega arith }, c) (rw e (sym f))).wrote)
 
-module _ (root : Root) {s s' : Printer} (e : s.at ≡ 0) (p : s.pos ≡ 0) (m : s.source.step ≤ most_step) (i : root_indent root ≤ most_indent)
+module _ (root : Root) {s s' : Printer} (e : s.at ≡ 0) (p : s.pos ≡ 0) (m : s.source.step ≤ widest_step) (i : root_indent root ≤ most_indent)
     (n : Numbered s.source.text.now s.source.words.now s.source.counts.now root) (x : Prints (root_part root) s s') where
   -- a print that fits the buffer b', and one that is longer
   pub fits : {b' : List ℕ} → b' ≡ s'.out.now → s'.pos ≤ length s.out.now → Makes (rooted (settings_in s.source) s.source.text.now root) s.source.words.now s.out.now (Ok s'.pos) b'

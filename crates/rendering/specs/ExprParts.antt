@@ -29,15 +29,15 @@ pub record IsIf (s : Printer) (r : Bool) : Type 0 where
   pub tells : (t : Expr (N s.source)) (rest : List ℕ) → drop s.at s.source.words.now ≡ expr_words (λ n. n.span) t rest → r ≡ is_if t
 
 -- the greatest indent step that the prints are proved for: that of one byte
-abbrev pub most_step : ℕ
-most_step = 255
+abbrev pub widest_step : ℕ
+widest_step = 255
 
 -- what the prints need beside the numbers of items: a table no longer than a checked one, a step that is not too great, and an indent that
 -- grows no faster than the place
 pub record Ready (S : Source) (at indent : ℕ) : Type 0 where
   pub few : length S.words.now ≤ most_words
-  pub short : S.step ≤ most_step
-  pub room : indent ≤ most_indent + most_step * at
+  pub short : S.step ≤ widest_step
+  pub room : indent ≤ most_indent + widest_step * at
 
 -- the numbers of an expression's sequences
 abbrev pub Numbered : (S : Source) → Expr (N S) → List ℕ → Type 0

@@ -4,7 +4,7 @@ ghost use Rattle.tree.specs.Limits.{most_text, most_words};
 ghost use Rattle.tree.specs.Check.{refusal};
 ghost use Rattle.rendering.specs.Tables.{most_indent};
 ghost use Rattle.rendering.specs.Parts.{Prints};
-ghost use Rattle.rendering.specs.ExprParts.{most_step};
+ghost use Rattle.rendering.specs.ExprParts.{widest_step};
 ghost use Rattle.rendering.specs.Render.{root_kind, root_indent, rooted, root_counts, root_part, settings_in, Numbered, Renders, Makes};
 
 use crate::printer::{Printer, Source};
@@ -71,7 +71,7 @@ fn render_in<const SIZE: usize>(
 
 // The print of a checked table's tree, by the numbers of items.
 fn render_by(source: Source, root: Root, buffer: &mut [u8]) -> Result<usize, PrintError>
-    requires { (source.step ≤ most_step) × (root_indent root ≤ most_indent) × Numbered source.text.now source.words.now source.counts.now root }
+    requires { (source.step ≤ widest_step) × (root_indent root ≤ most_indent) × Numbered source.text.now source.words.now source.counts.now root }
     ensures { Makes (rooted (settings_in source.entry) source.entry.text.now root) source.entry.words.now buffer.old result buffer.new }
 {
     let room = buffer.len();
