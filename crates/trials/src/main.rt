@@ -19,8 +19,9 @@
 //   e HEX INDENT BYTES TABLE/TEXT    an expression's print by settings, from a start indent on
 //   d HEX BYTES TABLE/TEXT           a program's print by settings
 // A TABLE and SPANS are given by pieces, from `a` on a TEXT too (`pieces`); before, it is the rest of the line, in the cases of `lexing` with the
-// escapes of `lines`. HEX is the bytes of settings (`hex`). A line that begins otherwise has no answer. More numbers than 256 are answered by how
-// many they are and the CRC-32 of two bytes each, the high one first.
+// escapes of `lines`. HEX is the bytes of settings (`hex`), 64 at most. A number past 32 bits is taken for the greatest of 32. A line that begins
+// otherwise has no answer. A print of more than 4,096 bytes is answered by its length and CRC-32, more numbers than 256 by how many they are and
+// the CRC-32 of two bytes each, the high one first.
 //
 // A number at once after `o`, `a`, `r`, `R`, `Q` or a print's letter says how often the entry is run, for measuring; the answer is then only how much
 // the last run gave: of an outline the table's words, of spans the distinct names.

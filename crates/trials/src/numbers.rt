@@ -8,7 +8,7 @@ pub(crate) struct Decimal {
     pub(crate) digits: usize,
 }
 
-// The number whose digits stand at the start, 0 where there is none; one past 32 bits is cut.
+// The number whose digits stand at the start, 0 where there is none; for one past 32 bits the greatest of 32.
 pub(crate) fn number(s: &[u8]) -> Decimal
     ensures { result.digits ≤ length s.now }
 {
