@@ -1,6 +1,6 @@
 -- Closed examples: prints by settings, and by their bytes, over the text `ab`; and the order of refusals.
-use Rattle.std.specs.Prelude.{ℕ, ◌+◌, ◌≤◌, ◌≡◌, refl, false, List, [], ◌∷◌}
-use Rattle.std.proofs.Common.{lit≤}
+use Rattle.std.specs.Prelude.{ℕ, ◌+◌, ◌≤◌, ◌≡◌, refl, false, List, [], ◌∷◌, Ok, Err}
+use Rattle.std.proofs.Common.{lit≤, sym, ◌∙◌}
 use Rattle.lexing.specs.Bytes.{bytes}
 use Rattle.tree.specs.Ast.{Expr, IdExpr, OperatorExpr, IfThenElse, LogicalAnd, no_exprs, ◌then◌, Program}
 use Rattle.tree.specs.Check.{NameIn, run, check_program, program_refusal}
@@ -12,14 +12,15 @@ use Rattle.layout.specs.declared.settings.Settings.{Settings}
 use Rattle.layout.specs.Examples.{computed}
 use Rattle.layout.specs.ProgramExamples.{program-computed}
 use Rattle.layout.specs.Settings.{defaults, one_line}
-use Rattle.settings.specs.declared.error.RecordError.TheVariants.{Layout}
+use Rattle.settings.specs.declared.error.RecordError.TheVariants.{Layout, Version, Content}
+use Rattle.settings.specs.declared.error.ContentError.TheVariants.{Step}
 use Rattle.settings.specs.Fields.{misplaced}
 use Rattle.settings.specs.Records.{settings_of, settings_in}
 use Rattle.rendering.specs.declared.PrintError.TheVariants.{Misfit}
 use Rattle.rendering.specs.Tables.{expressions, programs, print_of, program_print_of}
-use Rattle.printing.specs.Entries.{Outcome, written, refusal, stored, print_table, print_expression, print_program}
+use Rattle.printing.specs.Entries.{Outcome, written, refusal, stored, print_table, print_expression, print_program, PrintAnswered, ProgramAnswered}
 use Rattle.printing.specs.EntryLaws.{prints}
-use Rattle.printing.specs.BySettings.{print_by_refusal, print_by}
+use Rattle.printing.specs.BySettings.{print_by_refusal, print_by, PrintAnsweredBy, ProgramAnsweredBy}
 use Rattle.printing.specs.declared.error.PrintByError.TheVariants.{Settings as OfSettings, Print as OfPrint}
 
 abbrev text : List ℕ
@@ -67,7 +68,14 @@ room = bytes "~~~~~~~~~~~~~~~~~~~~~~~~~~~~~~~~~~~~"
 
 -- ---- by settings
 
-broken-lines : print_expression three text conditional-words 2 room ≡ written 25 (bytes "if a\n     b\n  else\n     a~~~~~~~~~~~")
+-- the output with the conditional on broken lines from indent 2 on, and with the program, by a step of 3
+abbrev broken : List ℕ
+broken = bytes "if a\n     b\n  else\n     a~~~~~~~~~~~"
+
+abbrev broken-program : List ℕ
+broken-program = bytes "// B3 program\n\naxiom\n   a &&\n   b\n~~"
+
+broken-lines : print_expression three text conditional-words 2 room ≡ written 25 broken
 unfolding computed print_of stored part
 broken-lines = prints (expressions three text 2) text conditional-words room (expression-laws text) conditional refl (lit≤ tt) (lit≤ tt) (lit≤ tt)
 
@@ -88,7 +96,7 @@ default-axiom : print_program defaults text axiom-words room ≡ written 32 (byt
 unfolding program-computed program_print_of stored part
 default-axiom = prints (programs defaults text) text axiom-words room (program-laws text) axiom-program refl (lit≤ tt) (lit≤ tt) (lit≤ tt)
 
-broken-axiom : print_program three text axiom-words room ≡ written 34 (bytes "// B3 program\n\naxiom\n   a &&\n   b\n~~")
+broken-axiom : print_program three text axiom-words room ≡ written 34 broken-program
 unfolding program-computed program_print_of stored part
 broken-axiom = prints (programs three text) text axiom-words room (program-laws text) axiom-program refl (lit≤ tt) (lit≤ tt) (lit≤ tt)
 
@@ -150,5 +158,26 @@ no-room = prints (programs three text) text axiom-words [] (program-laws text) a
 settings-error : print_by_refusal (OfSettings (Layout 3)) ≡ record { number = 9; place = 3 }
 settings-error = refl
 
+content-error : print_by_refusal (OfSettings (Content Step)) ≡ record { number = 11; place = 7 }
+content-error = refl
+
 print-error : print_by_refusal (OfPrint (Misfit 5)) ≡ record { number = 7; place = 5 }
 print-error = refl
+
+-- ---- the contracts, of the right answers
+
+lines-answered : PrintAnswered three text conditional-words 2 room (Ok 25) broken
+lines-answered = sym broken-lines
+
+lines-answered-by : PrintAnsweredBy three-bytes text conditional-words 2 room (Ok 25) broken
+lines-answered-by = sym (by-settings ∙ broken-lines)
+
+axiom-answered : ProgramAnswered three text axiom-words room (Ok 34) broken-program
+axiom-answered = sym broken-axiom
+
+axiom-answered-by : ProgramAnsweredBy three-bytes text axiom-words room (Ok 34) broken-program
+axiom-answered-by = sym (program-by-settings ∙ broken-axiom)
+
+refused-by : ProgramAnsweredBy of-version-2 text [] room (Err (OfSettings Version)) room
+unfolding print_by settings_in misplaced
+refused-by = refl
