@@ -16,7 +16,10 @@ extern "C" {
 /* Stack in KB that a call takes at most, measured on the texts that nest deepest. A call that has less can overflow it. */
 #define TIDY_STACK_KB 2560
 
-/* Why a text is refused. Refusals 6 and 7 are for tables of tree words, which tidy is not handed, so it never answers them. */
+/*
+ * Why a text is refused. Refusals 6 and 7 are for tables of tree words, 9 to 11 for the bytes of print settings; tidy is handed
+ * neither, so it never answers them.
+ */
 enum tidy_refusal {
     /* Nothing is refused: the answer is a byte count. */
     TIDY_NO_REFUSAL = 0,
@@ -31,7 +34,9 @@ enum tidy_refusal {
     /* The program's tree has more than 16,384 words; the place is 0. */
     TIDY_LARGE_TREE = 5,
     /* The print is longer than the output, or than 65,536 bytes; the place is 0. */
-    TIDY_SHORT_OUTPUT = 8
+    TIDY_SHORT_OUTPUT = 8,
+    /* A long comment is never closed; the place is that of its outermost opening mark. */
+    TIDY_UNCLOSED_COMMENT = 12
 };
 
 /*
@@ -84,6 +89,8 @@ static inline const char *tidy_meaning(uint32_t refusal) {
         return "the program's tree has more than 16,384 words";
     case TIDY_SHORT_OUTPUT:
         return "the print is longer than the output or than 65,536 bytes";
+    case TIDY_UNCLOSED_COMMENT:
+        return "this comment is never closed";
     default:
         return "no refusal of tidy";
     }
