@@ -53,13 +53,10 @@ signs-inside = tokens.sign-within
 signs-not-prefix-inside : (w longer s : List ℕ) → tokens.Within (length w) (length s) (sign_not_prefix w longer s)
 signs-not-prefix-inside = tokens.sign_not_prefix-within
 
--- ---- blanks are taken whole: none stands after them, nor after a token; one that is not closed is accepted
+-- ---- blanks are taken whole: none stands after them, nor after a token
 
 blanks-idempotent : (s : List ℕ) (n : ℕ) → W s ≡ passed n → W (drop n s) ≡ passed 0
 blanks-idempotent s n = laws.W-idempotent s
-
-blanks-accepted : (s : List ℕ) → W s ≡ passed (laws.reach (W s))
-blanks-accepted = laws.W-closed
 
 names-stop : (s : List ℕ) → tokens.Stopped s (parse_id s)
 names-stop s = tokens.token-stops (tokens.parse_id-token s)

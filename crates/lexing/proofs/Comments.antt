@@ -1,7 +1,7 @@
--- The loop of `long_comment`, and the ways out of `position_after_end_of_long_comment`.
+-- The loop of `long_comment`, and the place that `position_after_end_of_long_comment` answers.
 use Rattle.std.proofs.Common.{◌≡◌, refl, sym, ap, ◌∙◌, List, [], ◌∷◌, ℕ, zero, suc, ◌+◌, ◌-◌, ◌≤◌, ◌<◌, length, get_or, take, drop, arith, length-take, length-drop, add-one, drop-cons, drop_of_length-le}
 use Rattle.std.proofs.Math.Option.{Option, none, some}
-use Rattle.lexing.specs.Blanks.{Mark, closing, opening, neither, mark, plus, at_mark, long_comment, or_else, position_after_end_of_long_comment}
+use Rattle.lexing.specs.Blanks.{Mark, closing, opening, neither, mark, plus, at_mark, long_comment}
 use Rattle.lexing.specs.BlankLaws.{plus-plus, long_comment-inside}
 use Rattle.lexing.specs.CodeAnswers.{Position}
 
@@ -74,29 +74,14 @@ module _ {s : List ℕ} {before d i : ℕ} (o : Open s before d i) where
   unfolding long_comment
   open_never h = plus_one _ _ (sym (o.says ∙ rw (drop_of_length-le s h)))
 
--- the two ways out of `position_after_end_of_long_comment`
-module _ (input : List ℕ) (start end : ℕ) (h : start ≤ end) (k : end ≤ length input) where
-  -- the part between start and end is as long as they say
-  part_length : length (take (end - start) (drop start input)) ≡ end - start
-  part_length = simp (length-take, length-drop) (omega arith)
-
-  -- the place after a comment that is closed
-  pub position_at : {n : ℕ} → some n ≡ long_comment 0 (take (end - start) (drop start input)) → Position (take (end - start) (drop start input)) start end (start + n)
-  unfolding position_after_end_of_long_comment
-  position_at {n} e =
-      record {
-        after-start = omega arith;
-        before-end = omega (arith, long_comment-inside 0 (take (end - start) (drop start input)) (sym e), part_length);
-        value = ap (λ o. start + or_else (length (take (end - start) (drop start input))) o) e;
-      }
-
-  -- the place after one that is not: the end
-  pub position_end : none ≡ long_comment 0 (take (end - start) (drop start input)) → Position (take (end - start) (drop start input)) start end end
-  unfolding position_after_end_of_long_comment
-  position_end e =
-      let l : end ≡ start + length (take (end - start) (drop start input)) = omega (arith, part_length) in
-      record {
-        after-start = h;
-        before-end = omega arith;
-        value = l ∙ ap (λ o. start + or_else (length (take (end - start) (drop start input))) o) e;
-      }
+-- the place after a comment that is closed between start and end
+pub position_at : (input : List ℕ) (start end : ℕ) → start ≤ end → end ≤ length input → {n : ℕ} → some n ≡ long_comment 0 (take (end - start) (drop start input))
+    → Position (take (end - start) (drop start input)) start end (start + n)
+position_at input start end h k {n} e =
+    let l : length (take (end - start) (drop start input)) ≡ end - start = simp (length-take, length-drop) (omega arith) in
+    let m : start + n - start ≡ n = omega arith in
+    record {
+      after-start = omega arith;
+      before-end = omega (arith, long_comment-inside 0 (take (end - start) (drop start input)) (sym e), l);
+      ends = sym (ap some m ∙ e);
+    }

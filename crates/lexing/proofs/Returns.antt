@@ -1,12 +1,12 @@
 -- The ways out of `blank_at_start`, `blanks` and the readers of words, over plain lists.
-use Rattle.std.proofs.Common.{◌≡◌, refl, sym, ap, ◌∙◌, Bool, true, false, ◌&&◌, List, [], ◌∷◌, ℕ, zero, suc, ◌+◌, ◌-◌, ◌≤◌, ◌<◌, length, get_or, drop, take, nat_eq, arith, one-add, length-drop, get_or-drop, drop-drop}
+use Rattle.std.proofs.Common.{◌≡◌, refl, sym, ap, ◌∙◌, Bool, true, false, ◌&&◌, List, [], ◌∷◌, ℕ, zero, suc, ◌+◌, ◌-◌, ◌≤◌, ◌<◌, length, get_or, drop, take, nat_eq, arith, one-add, length-drop, get_or-drop, drop-drop, Option, Some, None, ok_or}
 use Rattle.std.proofs.Math.ListN.{drop_of_length-le}
 use borrow.Author.Tests.{ne_eqb}
 use Rattle.lexing.specs.Answer.{ok, pick}
 use Rattle.lexing.specs.Bytes.{is_space, not_newline, run, starts_with, can_start_identifier_char, identifier_char}
-use Rattle.lexing.specs.Blanks.{Blanks, passed, unclosed, further, blank, blanks_from, W, position_after_end_of_long_comment}
+use Rattle.lexing.specs.Blanks.{Blanks, passed, unclosed, further, long_comment, comment, blank, blanks_from, W}
 use Rattle.lexing.specs.Tokens.{identifier_length, lexeme, closed}
-use Rattle.lexing.specs.CodeAnswers.{Position}
+use Rattle.lexing.specs.CodeAnswers.{PositionIf, reach_of}
 use Rattle.std.proofs.Math.Seq.{length-take-le}
 use Rattle.lexing.specs.TokenLaws.{identifier-inside}
 use Rattle.lexing.specs.RunLaws.{run_inside}
@@ -23,7 +23,7 @@ blank_empty (a ∷ s) h = absurd (omega arith)
 blank_by : (s : List ℕ) → 1 ≤ length s → blank s
     ≡ pick (is_space (get_or s 0 0)) (passed 1)
     (pick (starts_with (47 ∷ 47 ∷ []) s) (passed (1 + run not_newline (drop 1 s)))
-    (pick (starts_with (47 ∷ 42 ∷ []) s) (passed (2 + position_after_end_of_long_comment (drop 2 s))) (passed 0)))
+    (pick (starts_with (47 ∷ 42 ∷ []) s) (comment (long_comment 0 (drop 2 s))) (passed 0)))
 unfolding blank
 blank_by [] h = absurd (omega arith)
 blank_by (a ∷ s) h = refl
@@ -77,11 +77,16 @@ module _ (s : List ℕ) (h : 1 ≤ length s) where
     unfolding is_space
     blank_line e {n} r = simp (blank_by s h, opening_by 47 s two, q, second, e) (ap (λ k. passed (1 + k)) (r ∙ ap (run not_newline) (suffix s 1)))
 
-    pub blank_long : get_or (take (length s - 1) (drop 1 s)) 0 0 ≡ 42 → {n : ℕ} → Position (take (length s - 2) (drop 2 s)) 2 (length s) n → passed n ≡ blank s
+    -- a long comment, by where it ends, if it is closed
+    pub blank_long : get_or (take (length s - 1) (drop 1 s)) 0 0 ≡ 42 → (o : Option ℕ) → PositionIf (take (length s - 2) (drop 2 s)) 2 (length s) o
+        → reach_of (ok_or o (record { at = 0 })) ≡ blank s
     unfolding is_space
-    blank_long e {n} r =
-        simp (blank_by s h, opening_by 47 s two, opening_by 42 s two, q, second, e)
-        (ap passed (r.value ∙ ap (λ t. 2 + position_after_end_of_long_comment t) (suffix s 2)))
+    blank_long e o r = simp (blank_by s h, opening_by 47 s two, opening_by 42 s two, q, second, e) (by_end o r ∙ ap (λ t. comment (long_comment 0 t)) (suffix s 2))
+      where
+        by_end : (o : Option ℕ) → PositionIf (take (length s - 2) (drop 2 s)) 2 (length s) o
+            → reach_of (ok_or o (record { at = 0 })) ≡ comment (long_comment 0 (take (length s - 2) (drop 2 s)))
+        by_end None e = ap comment (sym e)
+        by_end (Some n) p = let m : n ≡ 2 + (n - 2) = omega (arith, p.after-start) in ap passed m ∙ ap comment (sym p.ends)
 
     pub blank_slash : (get_or (take (length s - 1) (drop 1 s)) 0 0 ≡ 47 → ⊥) → (get_or (take (length s - 1) (drop 1 s)) 0 0 ≡ 42 → ⊥) → passed 0 ≡ blank s
     unfolding is_space

@@ -32,7 +32,7 @@ tree_too_large = 5
 
 -- a long comment is not closed:
 abbrev pub unclosed_comment : ℕ
-unclosed_comment = 2
+unclosed_comment = 12
 
 -- the answer of a step over `drop at text`, with its places counted in `text`
 abbrev pub moved : {A : Type 0} → ℕ → Answer A → Answer A

@@ -5,7 +5,7 @@ use Rattle.std.proofs.Math.Option.{Option, none, some}
 use Rattle.std.proofs.Math.Seq.{drop-length}
 use Rattle.lexing.specs.Bytes.{starts_with, is_space, not_newline}
 use Rattle.lexing.specs.RunLaws.{pick-case, run_inside}
-use Rattle.lexing.specs.Blanks.{Blanks, passed, unclosed, further, Mark, closing, opening, neither, mark, plus, at_mark, long_comment, or_else, position_after_end_of_long_comment, blank, onward, blanks_from, W}
+use Rattle.lexing.specs.Blanks.{Blanks, passed, unclosed, further, Mark, closing, opening, neither, mark, plus, at_mark, long_comment, or_else, position_after_end_of_long_comment, comment, blank, onward, blanks_from, W}
 
 -- ---- blanks
 
@@ -57,13 +57,17 @@ blank-inside (a ∷ s) =
     (λ _. pick-case (λ r. reach r ≤ suc (length s)) (starts_with (47 ∷ 47 ∷ []) (a ∷ s)) (λ _. omega (arith, run_inside not_newline s))
     (λ _. pick-case (λ r. reach r ≤ suc (length s)) (starts_with (47 ∷ 42 ∷ []) (a ∷ s)) (λ e. long s e) (λ _. zero-le)))
   where
-    long : (s : List ℕ) → starts_with (47 ∷ 42 ∷ []) (a ∷ s) ≡ true → 2 + position_after_end_of_long_comment (drop 1 s) ≤ suc (length s)
+    closed : (s : List ℕ) (r : Option ℕ) → long_comment 0 s ≡ r → reach (comment r) ≤ suc (suc (length s))
+    closed s none e = zero-le
+    closed s (some n) e = omega (arith, long_comment-inside 0 s e)
+
+    long : (s : List ℕ) → starts_with (47 ∷ 42 ∷ []) (a ∷ s) ≡ true → reach (comment (long_comment 0 (drop 1 s))) ≤ suc (length s)
     long [] e = absurd (by-test (eqb 47 a) e)
       where
         by-test : (t : Bool) → (t && false) ≡ true → ⊥
         by-test true e = cc
         by-test false e = cc
-    long (b ∷ s) e = omega (arith, position-inside s)
+    long (b ∷ s) e = closed s (long_comment 0 s) refl
 
 -- one blank after the other: `onward` by cases on the blank at the start
 onward-inside : (n : ℕ) (r : Blanks) (on : ℕ → Blanks) → reach r ≤ suc n → ((k : ℕ) → reach (on k) ≤ n) → reach (onward r on) ≤ suc n
@@ -156,37 +160,6 @@ W-stops s {n} e = stops s 0 n e
 -- blanks are idempotent
 pub W-idempotent : (s : List ℕ) {n : ℕ} → W s ≡ passed n → W (drop n s) ≡ passed 0
 W-idempotent s {n} e = W-none (drop n s) (W-stops s e)
-
--- as blanks are now, none is unclosed: a long comment that is not closed is passed over
-abbrev Passed : Blanks → Type 0
-Passed r = r ≡ passed (reach r)
-
-blank-closed : (s : List ℕ) → Passed (blank s)
-unfolding blank
-blank-closed [] = refl
-blank-closed (a ∷ s) =
-    pick-case Passed (is_space a) (λ _. refl)
-    (λ _. pick-case Passed (starts_with (47 ∷ 47 ∷ []) (a ∷ s)) (λ _. refl)
-    (λ _. pick-case Passed (starts_with (47 ∷ 42 ∷ []) (a ∷ s)) (λ _. refl) (λ _. refl)))
-
-further-closed : (k : ℕ) (r : Blanks) → Passed r → Passed (further k r)
-further-closed k (passed n) e = refl
-further-closed k (unclosed n) e = cc
-
-onward-closed : (r : Blanks) (on : ℕ → Blanks) → Passed r → ((k : ℕ) → Passed (on k)) → Passed (onward r on)
-onward-closed (passed zero) on e f = refl
-onward-closed (passed (suc k)) on e f = further-closed 1 (on k) (f k)
-onward-closed (unclosed n) on e f = cc
-
-blanks_from-closed : (k : ℕ) (s : List ℕ) → Passed (blanks_from k s)
-unfolding blanks_from
-blanks_from-closed k [] = refl
-blanks_from-closed zero (a ∷ s) = onward-closed (blank (a ∷ s)) (λ k. blanks_from k s) (blank-closed (a ∷ s)) (λ k. blanks_from-closed k s)
-blanks_from-closed (suc k) (a ∷ s) = further-closed 1 (blanks_from k s) (blanks_from-closed k s)
-
-pub W-closed : (s : List ℕ) → W s ≡ passed (reach (W s))
-unfolding W
-W-closed s = blanks_from-closed 0 s
 
 -- ---- upstream's equations of `PositionAfterEndOfLongComment`
 

@@ -1,12 +1,11 @@
 -- Blanks (Parser.dfy, `W1`, `PositionAfterEndOfLongComment`, `W`): space, tab, CR, LF, comments to the line's end, and long comments, which
--- nest. One that is never closed runs to the end of the text. All are over the rest of the text.
+-- nest. One that is not closed before the text ends is no blank. All are over the rest of the text.
 use Rattle.std.specs.Prelude.{◌&&◌, List, [], ◌∷◌, ℕ, zero, suc, ◌+◌, length, drop, eqb}
 use Rattle.std.proofs.Math.Option.{Option, none, some}
 use Rattle.lexing.specs.Answer.{pick}
 use Rattle.lexing.specs.Bytes.{is_space, not_newline, run, starts_with}
 
--- How far blanks reach: `passed`, over so many bytes; `unclosed`, a long comment that opens at this place is not closed. As `W` is now, no
--- blanks are `unclosed`: such a comment runs to the end.
+-- How far blanks reach: `passed`, over so many bytes; `unclosed`, a long comment that opens at this place is not closed.
 pub data Blanks : Type 0 where
   passed : ℕ → Blanks
   unclosed : ℕ → Blanks
@@ -51,13 +50,18 @@ or_else n (some k) = k
 unfoldable pub position_after_end_of_long_comment : List ℕ → ℕ
 position_after_end_of_long_comment s = or_else (length s) (long_comment 0 s)
 
+-- a long comment from its opening mark on, by how many bytes it takes after the mark
+abbrev pub comment : Option ℕ → Blanks
+comment none = unclosed 0
+comment (some n) = passed (2 + n)
+
 -- the one blank that stands at the start: a space, a comment to the line's end, or a long comment; `passed 0` where there is none
 unfoldable pub blank : List ℕ → Blanks
 blank [] = passed 0
 blank (a ∷ s) =
     pick (is_space a) (passed 1)
     (pick (starts_with (47 ∷ 47 ∷ []) (a ∷ s)) (passed (1 + run not_newline s))
-    (pick (starts_with (47 ∷ 42 ∷ []) (a ∷ s)) (passed (2 + position_after_end_of_long_comment (drop 1 s))) (passed 0)))
+    (pick (starts_with (47 ∷ 42 ∷ []) (a ∷ s)) (comment (long_comment 0 (drop 1 s))) (passed 0)))
 
 -- after the one blank at the start: nothing, or what `on` finds past the rest of its bytes
 abbrev pub onward : Blanks → (ℕ → Blanks) → Blanks

@@ -1,8 +1,8 @@
 -- What the code's answers stand for.
-use Rattle.std.specs.Prelude.{◌≡◌, List, ℕ, ◌+◌, ◌≤◌, leb, Option, Some, None, Result, Ok, Err}
+use Rattle.std.specs.Prelude.{◌≡◌, List, ℕ, ◌-◌, ◌≤◌, leb, Option, Some, None, Result, Ok, Err}
 use Rattle.std.proofs.Math.Option as math
 use Rattle.lexing.specs.Answer.{Answer, ok, refused, text_too_long, unusable_token, level_too_deep, large_natural, tree_too_large, unclosed_comment, pick}
-use Rattle.lexing.specs.Blanks.{Blanks, passed, unclosed, Mark, closing, opening, neither, position_after_end_of_long_comment}
+use Rattle.lexing.specs.Blanks.{Blanks, passed, unclosed, Mark, closing, opening, neither, long_comment}
 use Rattle.lexing.specs.Tokens.{most_natural}
 use Rattle.lexing.specs.declared.blank.Unclosed.{Unclosed}
 use Rattle.lexing.specs.declared.blank.Mark.{Mark as CodeMark}
@@ -47,8 +47,13 @@ answer_of (Err r) = refused (number r.reason) r.place
 abbrev pub number_of : ℕ → Option ℕ
 number_of n = pick (leb n most_natural) (Some n) None
 
--- upstream's contract of `PositionAfterEndOfLongComment` over the part s of its input, and its value
+-- upstream's contract of `PositionAfterEndOfLongComment` over the part s of its input, and where the comment ends
 pub record Position (s : List ℕ) (start end len : ℕ) : Type 0 where
   pub after-start : start ≤ len
   pub before-end : len ≤ end
-  pub value : len ≡ start + position_after_end_of_long_comment s
+  pub ends : long_comment 0 s ≡ math.some (len - start)
+
+-- the place after a comment that is closed in the part; none where it is not
+abbrev pub PositionIf : List ℕ → ℕ → ℕ → Option ℕ → Type 0
+PositionIf s start end (Some len) = Position s start end len
+PositionIf s start end None = long_comment 0 s ≡ math.none

@@ -4,7 +4,7 @@ use Prim.Native.Char.{code}
 use Prim.Native.String.{String, [] as end, ◌∷◌ as ◌then◌}
 use Rattle.lexing.specs.Answer.{ok, none, refused}
 use Rattle.lexing.specs.Bytes.{is_space, is_digit, can_start_identifier_char, identifier_char, custom_literal_char, not_newline, run, starts_with, same_bytes}
-use Rattle.lexing.specs.Blanks.{passed, mark, long_comment, position_after_end_of_long_comment, blank, blanks_from, W}
+use Rattle.lexing.specs.Blanks.{passed, unclosed, mark, long_comment, position_after_end_of_long_comment, blank, blanks_from, W}
 use Rattle.lexing.specs.Tokens.{lexeme, identifier_length, parse_id, parse_custom_literal, keyword, sign, sign_not_prefix, natural, decimal}
 
 -- the bytes of an ASCII text
@@ -24,15 +24,57 @@ nested : W (ascii "/*a/*b*/c*/x") ≡ passed 11
 unfolding computed
 nested = refl
 
--- one that is not closed runs to the end
-never-closed : W (ascii "/*/**/x") ≡ passed 7
+-- one that is not closed is at its opening mark, not at that of a comment inside it
+never-closed : W (ascii "/*/**/x") ≡ unclosed 0
 unfolding computed
 never-closed = refl
 
 -- the `*` of an opening mark is no part of a closing one
-opening-alone : W (ascii "/*/x") ≡ passed 4
+opening-alone : W (ascii "/*/x") ≡ unclosed 0
 unfolding computed
 opening-alone = refl
+
+-- one that is closed where the text ends is closed
+closed-at-the-end : W (ascii "/*a/*b*/*/") ≡ passed 10
+unfolding computed
+closed-at-the-end = refl
+
+-- after blanks that are passed, a closed comment among them, the place is that of the comment that stays open
+open-after-blanks : W (ascii " /**/\n/* */ //*\n/*/**/") ≡ unclosed 16
+unfolding computed
+open-after-blanks = refl
+
+-- in a comment to the line's end a long one doesn't open
+opened-in-a-line : W (ascii "///*\nx") ≡ passed 5
+unfolding computed
+opened-in-a-line = refl
+
+-- a token is refused at such a comment after it
+after-a-name : parse_id (ascii "a1 /* q") ≡ refused 12 3
+unfolding computed
+after-a-name = refl
+
+after-a-keyword : keyword (ascii "if") (ascii "if/* q") ≡ refused 12 2
+unfolding computed
+after-a-keyword = refl
+
+after-a-natural : natural (ascii "7 /**/ /*/") ≡ refused 12 7
+unfolding computed
+after-a-natural = refl
+
+after-a-sign : sign (ascii ":=") (ascii ":=\n/*") ≡ refused 12 3
+unfolding computed
+after-a-sign = refl
+
+-- a natural that is too large comes before the comment after it
+large-before-a-comment : natural (ascii "18446744073709551616/*") ≡ refused 4 0
+unfolding computed
+large-before-a-comment = refl
+
+-- no blank is taken after a custom literal's text, so no comment opens there
+literal-before-a-comment : parse_custom_literal (ascii "a /*") ≡ ok 1 1
+unfolding computed
+literal-before-a-comment = refl
 
 -- `//` inside a long comment means nothing
 slashes-inside : W (ascii "/*// */x") ≡ passed 7

@@ -1,12 +1,11 @@
 // Blanks: spaces, comments to the line's end and nested long comments.
 ghost use Rattle.std.specs.Prelude.{◌≡◌, ◌+◌, ◌-◌, ◌≤◌, ◌<◌, ◌^◌, length, take, drop};
 ghost use Rattle.lexing.specs.Blanks.{mark, long_comment, blank, W};
-ghost use Rattle.lexing.specs.CodeAnswers.{reach_of, mark_of, end_of, Position};
+ghost use Rattle.lexing.specs.CodeAnswers.{reach_of, mark_of, end_of, PositionIf};
 
 use crate::bytes::{is_space, not_newline, run_length};
 
 // A long comment that opens at this place is not closed.
-// Kept: no text has one now, since `W` takes such a comment to the end; the definitions and the refusals have a place for it.
 #[derive(Clone, Copy, PartialEq, Eq, Debug)]
 pub struct Unclosed {
     pub at: usize,
@@ -67,16 +66,19 @@ pub(crate) fn long_comment(s: &[u8]) -> Option<usize>
     None
 }
 
-// Upstream's function of this name: the place after the long comment that is open at `start`, at most `end`.
+// Upstream's function of this name: the place after the long comment that is open at `start`, at most `end`, or none where it is not closed before
+// `end`.
 // Kept: `start` and `end` are upstream's parameters, and `Position` is stated with them.
-pub(crate) fn position_after_end_of_long_comment(input: &[u8], start: usize, end: usize) -> usize
+pub(crate) fn position_after_end_of_long_comment(
+    input: &[u8],
+    start: usize,
+    end: usize,
+) -> Option<usize>
     requires { (start ≤ end) × (end ≤ length input.now) }
-    ensures { Position (take (end - start) (drop start input.now)) start end result }
+    ensures { PositionIf (take (end - start) (drop start input.now)) start end result }
 {
-    match long_comment(&input[start..end]) {
-        Some(n) => start + n,
-        None => end,
-    }
+    let n = long_comment(&input[start..end])?;
+    Some(start + n)
 }
 
 // The one blank at the start, 0 bytes where there is none.
@@ -97,7 +99,7 @@ pub(crate) fn blank_at_start(s: &[u8]) -> Result<usize, Unclosed>
     };
     match *second {
         b'/' => Ok(1 + run_length(rest, not_newline)),
-        b'*' => Ok(position_after_end_of_long_comment(s, 2, s.len())),
+        b'*' => position_after_end_of_long_comment(s, 2, s.len()).ok_or(Unclosed { at: 0 }),
         _ => Ok(0),
     }
 }

@@ -32,7 +32,7 @@ impl Reason {
             Reason::LevelTooDeep => 3,
             Reason::LargeNatural => 4,
             Reason::TreeTooLarge => 5,
-            Reason::UnclosedComment => 2,
+            Reason::UnclosedComment => 12,
         }
     }
 }

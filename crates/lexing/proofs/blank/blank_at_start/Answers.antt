@@ -26,8 +26,8 @@ returns-in-47 c =
 
 pub returns-in-42 : goal.returns-in-42
 returns-in-42 c =
-    blank_long _ (omega arith) c.if-first-ne47.false c.in-len1-up-rest.len_at_least c.in-42.is
-    c.position_after_end_of_long_comment.ensures
+    rw c.ok_or.ensures.value
+    (blank_long _ (omega arith) c.if-first-ne47.false c.in-len1-up-rest.len_at_least c.in-42.is _ c.position_after_end_of_long_comment.ensures)
 
 pub returns-in_default-second : goal.returns-in_default-second
 returns-in_default-second c =
