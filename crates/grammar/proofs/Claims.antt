@@ -21,7 +21,7 @@ use Rattle.grammar.proofs.Bridge.Limits.{read-derives, gives-derives, derives-gi
 use Rattle.grammar.proofs.Depth.Statements.{levels-alike}
 use Rattle.grammar.proofs.Depth.NoLevel.{none_left}
 use Rattle.grammar.proofs.Inside.Accepted.{expression-inside, program-inside, expression-passes, program-passes}
-use Rattle.grammar.proofs.Refusals.Entries.{expression-refused, program-of-reading}
+use Rattle.grammar.proofs.Refusals.Entries.{expression-refused, program-refused}
 use Rattle.grammar.proofs.Size.Entries.{expression-few, program-few, program-roomy}
 use Rattle.grammar.proofs.Tables.{short}
 use Rattle.grammar.proofs.Laws.Exact.{parse-sound, parse-complete, no-parse, deeper, unambiguous}
@@ -100,14 +100,14 @@ pub read-program-accepted : (text : List ℕ) (n k : ℕ) (table : List ℕ) →
     → program_refusal (take k table) (length text) ≡ none
 read-program-accepted text n k table = program-passes text n
 
--- A reading is refused by 1 at 32,768, by 2, 3 or 4 at a place of at most the text's length, or by 5 at 0 (`OfReading`).
+-- A reading is refused by 1 at 32,768, by 2, 3, 4 or 12 at a place of at most the text's length, or by 5 at 0 (`OfReading`).
 pub read-expression-refused : (text : List ℕ) (n number place : ℕ) (table : List ℕ) → read_expression text n ≡ refusal number place table
     → OfReading text number place
 read-expression-refused text n number place table = expression-refused text n
 
 pub read-program-refused : (text : List ℕ) (n number place : ℕ) (table : List ℕ) → read_program text n ≡ refusal number place table
     → OfReading text number place
-read-program-refused text n number place table = program-of-reading text n
+read-program-refused text n number place table = program-refused text n
 
 -- The tree that a text holds has few words: a program's at most five for each byte and five more, as the empty text's five; an expression's fewer
 -- than five for each byte, as the four of a name of one byte.
@@ -127,6 +127,7 @@ program-table-long = program-roomy
 pub depth-kept : (text : List ℕ) (m d d' : ℕ) → GalleriesKeptAlike (gallery text (suc m) d) (gallery text (suc m) d')
 depth-kept = levels-alike
 
--- With no level left each of them keeps nothing or is refused by 3 where it stands.
-pub depth-refused : (text : List ℕ) (m : ℕ) → GalleryUnopened (gallery text m 0)
+-- With no level left each of them keeps nothing or is refused by 3 where it stands; only where a name leads a statement may a long comment that is
+-- not closed come first, after the name.
+pub depth-refused : (text : List ℕ) (m : ℕ) → GalleryUnopened text (gallery text m 0)
 depth-refused = none_left

@@ -1,15 +1,16 @@
 -- The terms of the claims on the reading rules: by which numbers and where a reading is refused, and where a rule is opened.
 use Rattle.std.specs.Prelude.{ℕ, ◌≤◌, ◌<◌, ◌≡◌, ◌↔◌, List, length}
-use Rattle.lexing.specs.Answer.{Answer, refused, text_too_long, unusable_token, level_too_deep, large_natural, tree_too_large}
+use Rattle.lexing.specs.Answer.{Answer, refused, text_too_long, unusable_token, level_too_deep, large_natural, tree_too_large, unclosed_comment}
 use Rattle.tree.specs.Limits.{most_text}
-use Rattle.grammar.specs.Steps.{Reader}
+use Rattle.grammar.specs.Steps.{Reader, parse_name}
 use Rattle.grammar.specs.Statements.{Gallery}
 
--- the numbers by which the rules refuse: a token that cannot be used, depth 201, a natural above the largest
+-- the numbers by which the rules refuse: a token that cannot be used, depth 201, a natural above the largest, a long comment that is not closed
 pub data ByRule : ℕ → Type 0 where
   unusable-token : ByRule unusable_token
   depth : ByRule level_too_deep
   large-natural : ByRule large_natural
+  open-comment : ByRule unclosed_comment
 
 -- the refusals of a reading, by number and place: 1 of a text that is too long; those of the rules, at a place of at most its length; 5 at 0
 pub data OfReading (text : List ℕ) : ℕ → ℕ → Type 0 where
@@ -34,10 +35,15 @@ pub data Unopened {A : Type 0} (at : ℕ) : Answer A → Type 0 where
   nothing : Unopened at Answer.none
   too-deep : Unopened at (refused level_too_deep at)
 
+-- a statement that may not be: the same, or a long comment that is not closed stands after a name, before its mark
+pub data UnopenedStmt (text : List ℕ) {A : Type 0} (at : ℕ) : Answer A → Type 0 where
+  unopened : {r : Answer A} → Unopened at r → UnopenedStmt text at r
+  open-comment : {place : ℕ} → parse_name text at ≡ refused unclosed_comment place → UnopenedStmt text at (refused unclosed_comment place)
+
 -- no rule of a gallery may be opened
-pub record GalleryUnopened (c : Gallery) : Type 0 where
+pub record GalleryUnopened (text : List ℕ) (c : Gallery) : Type 0 where
   pub expr : (at : ℕ) → Unopened at (c.expr at)
   pub block : (at : ℕ) → Unopened at (c.block at)
-  pub stmt : (at : ℕ) → Unopened at (c.stmt at)
+  pub stmt : (at : ℕ) → UnopenedStmt text at (c.stmt at)
   pub if_cont : (at : ℕ) → Unopened at (c.if_cont at)
   pub loop : (at : ℕ) → Unopened at (c.loop at)

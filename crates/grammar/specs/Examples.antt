@@ -4,7 +4,7 @@ use Rattle.std.specs.Prelude.{ℕ, suc, ◌≡◌, refl, Bool, true, false, List
 use Prim.Native.String.{String}
 use Rattle.std.proofs.Math.Option.{Option, none, some}
 use Rattle.lexing.specs.Bytes.{is_space, is_digit, can_start_identifier_char, identifier_char, not_newline, run, starts_with, same_bytes, bytes}
-use Rattle.lexing.specs.Blanks.{mark as comment_mark, long_comment, position_after_end_of_long_comment, blank, blanks_from, W}
+use Rattle.lexing.specs.Blanks.{mark as comment_mark, long_comment, blank, blanks_from, W}
 use Rattle.lexing.specs.Tokens.{identifier_length, decimal}
 use Rattle.tree.specs.Ast.{BLiteral, ILiteral, IdExpr, OperatorExpr, FunctionCallExpr, no_exprs, ◌then◌}
 use Rattle.tree.specs.Ast.{Operator, Equiv, LogicalImp, LogicalAnd, LogicalOr, Eq, Neq, Less, AtMost, Plus, Minus, Times, Div, Mod, LogicalNot}
@@ -22,7 +22,7 @@ infixl 70 ◌gives◌
 -- the tree that the token parser gives for a text, at a depth
 unfoldable tree_of : ℕ → String → Option Tree
 unfolding is_space is_digit can_start_identifier_char identifier_char not_newline run starts_with same_bytes
-    comment_mark long_comment position_after_end_of_long_comment blank blanks_from W identifier_length decimal
+    comment_mark long_comment blank blanks_from W identifier_length decimal
     sign_at natural_at name_at token_at at_token tokens_after cut one_of is_name sign_role word_role role binary unary
     after see is_nat is_word is_mark in_class parse_series parse_items parse_named parse_excluded parse_bracketed parse_operand parse_unary
     left_tail right_tail once_tail either_tail continued parse_expr parse
@@ -123,7 +123,6 @@ operands =
     ∷ "5div 3" gives two Div (ILiteral 5) (ILiteral 3)
     ∷ "a<==>b" gives two Equiv a b
     ∷ " /* a /* b */ */ a // *" gives a
-    ∷ "a /* b" gives a
     ∷ []
 
 operands-hold : (d : ℕ) → map (λ r. tree_of (suc d) (text_of r)) operands ≡ map expected operands
@@ -158,7 +157,7 @@ abbrev refused : List String
 refused =
     "a < b < c" ∷ "a == b != c" ∷ "a && b || c" ∷ "a || b && c" ∷ "a ==> b <== c" ∷ "a <== b ==> c" ∷ "" ∷ " " ∷ "a b" ∷ "a 5" ∷ "a divx" ∷ "a +"
     ∷ "* a" ∷ "!=a" ∷ "a !" ∷ "a <== > b" ∷ "a = b" ∷ "a & b" ∷ "a | b" ∷ "a : b" ∷ "a / b" ∷ "a ? b" ∷ "if" ∷ "val" ∷ "forall" ∷ "exists" ∷ "lift"
-    ∷ "old" ∷ "old 5" ∷ "if()" ∷ "false()" ∷ ")" ∷ "a)" ∷ "a, b" ∷ "5()" ∷ []
+    ∷ "old" ∷ "old 5" ∷ "if()" ∷ "false()" ∷ ")" ∷ "a)" ∷ "a, b" ∷ "5()" ∷ "/* b" ∷ "a /* b" ∷ "a /*/" ∷ "a /* b */ /* c" ∷ "/*/**/ a" ∷ []
 
 refused-hold : (d : ℕ) → map (λ s. tree_of (suc d) s) refused ≡ map (λ s. none) refused
 unfolding tree_of

@@ -17,3 +17,4 @@ pub mod Examples
 pub mod ReadingExamples
 pub mod ProgramExamples
 pub mod RefusalExamples
+pub mod CommentExamples

@@ -12,7 +12,7 @@ use Rattle.lexing.specs.Bytes.{bytes}
 use Rattle.grammar.specs.Words.{one_of}
 use Rattle.grammar.specs.Statements
 use Rattle.grammar.specs.Declarations
-use Rattle.grammar.specs.Reading.{Outcome, words, refusal, parse_program, read_tree_of_program, read_program}
+use Rattle.grammar.specs.Reading.{Outcome, refusal, parse_program, read_tree_of_program, read_program}
 use Rattle.grammar.specs.ReadingExamples.{computed as expressions}
 
 unfoldable pub computed : Unit {0}
@@ -20,7 +20,7 @@ unfolding expressions one_of part read_program read_tree_of_program parse_progra
     Statements.parse_optional_auto_invariant Statements.parse_call_argument Statements.parse_a_expr Statements.parse_a_expr_seq Statements.parse_init
     Statements.parse_variable_declaration Statements.parse_optional_exit_argument Statements.after_forall Statements.parse_or Statements.after_choose
     Statements.parse_case Statements.parse_else Statements.parse_if_cont Statements.parse_loop Statements.after_assign Statements.after_label
-    Statements.after_call Statements.parse_stmt Statements.parse_block Statements.word_of Statements.gallery Declarations.SeparateTopLevelDecls
+    Statements.after_call Statements.parse_stmt Statements.parse_block Statements.too_deep Statements.word_of Statements.gallery Declarations.SeparateTopLevelDecls
     Declarations.after_type Declarations.after_tagger Declarations.parse_function_formal Declarations.parse_tag Declarations.parse_when_clause
     Declarations.parse_function_definition Declarations.after_function Declarations.parse_explains Declarations.after_axiom Declarations.parse_moded
     Declarations.parse_proc_formal Declarations.after_procedure Declarations.parse_top_level_decl Declarations.TopLevel
@@ -302,7 +302,7 @@ if-cont-kept-nothing : (none_left "{ }").if_cont 0 ≡ Answer.none
 unfolding computed
 if-cont-kept-nothing = refl
 
--- P12 (REFERENCE, "Trials"): a long comment that is never closed runs to the end of the text
-unclosed-comment : read_program (bytes "/* q") 5 ≡ words 5 (0 ∷ 0 ∷ 0 ∷ 0 ∷ 0 ∷ [])
+-- P12 (REFERENCE, "Trials"): a long comment that is not closed
+unclosed-comment : read_program (bytes "/* q") 5 ≡ refusal 12 0 (0 ∷ 0 ∷ 0 ∷ 0 ∷ 0 ∷ [])
 unfolding computed
 unclosed-comment = refl

@@ -67,6 +67,12 @@ simple_words = "reinit" ∷ "exit" ∷ "return" ∷ "check" ∷ "assume" ∷ "re
 abbrev pub statement_words : List String
 statement_words = "var" ∷ "val" ∷ "forall" ∷ "choose" ∷ "if" ∷ "loop" ∷ simple_words
 
+-- refusal 3 at a place where a token stands, though the blanks after it be refused
+unfoldable pub too_deep : {A B : Type 0} → ℕ → Answer A → Answer B
+too_deep at (ok a next) = refused level_too_deep at
+too_deep at Answer.none = Answer.none
+too_deep at (refused number place) = refused level_too_deep at
+
 module _ (text : List ℕ) where
   -- ---- a name and its mark
 
@@ -215,19 +221,15 @@ module _ (text : List ℕ) where
   word_of [] at = Answer.none
   word_of (w ∷ ws) at = T text w at or word_of ws at
 
-  -- refusal 3 at a place where a token is kept
-  abbrev pub too_deep : {A B : Type 0} → ℕ → Answer A → Answer B
-  too_deep at r = after r Answer.none (λ _ _. refused level_too_deep at)
-
-  -- the rules with d levels left: where none is left, refusal 3 at the rule's first token (Claims, `depth-kept`). No text reaches "if-cont" there,
-  -- as a condition and a block with no level left come before it.
+  -- the rules with d levels left: where none is left, refusal 3 at the rule's first token (Claims, `depth-kept`), of a statement that a name leads at
+  -- the name, where its mark follows. No text reaches "if-cont" there, as a condition and a block with no level left come before it.
   unfoldable pub gallery : ℕ → ℕ → Gallery
-  unfolding word_of atomic mark parse_block parse_stmt parse_if_cont parse_loop
+  unfolding too_deep word_of mark parse_block parse_stmt parse_if_cont parse_loop
   gallery m zero =
       record {
         expr = parse_expr text m zero;
         block = λ at. too_deep at (Sym text "{" at);
-        stmt = λ at. too_deep at (Sym text "{" at) or too_deep at (word_of statement_words at) or too_deep at (atomic mark at);
+        stmt = λ at. too_deep at (Sym text "{" at) or too_deep at (word_of statement_words at) or after (parse_name text at) Answer.none (λ _ at₁. too_deep at (mark at₁));
         if_cont = λ at. pick (opens_expr (drop at text)) (refused level_too_deep at) Answer.none;
         loop = λ at. too_deep at (T text "loop" at);
       }

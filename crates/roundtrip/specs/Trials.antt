@@ -46,7 +46,7 @@ trials =
     ∷ prints "abc" (5 ∷ 12 ∷ 1 ∷ 4 ∷ 0 ∷ 1 ∷ 0 ∷ 1 ∷ 5 ∷ 13 ∷ 1 ∷ 4 ∷ 1 ∷ 1 ∷ 0 ∷ 1 ∷ 4 ∷ 2 ∷ 1 ∷ 0 ∷ 0 ∷ 0 ∷ []) "~~~~~~~~~~~~~~~~" (written 11 (bytes "a * b div c~~~~~"))  -- P9
     ∷ prints "abc" (5 ∷ 4 ∷ 1 ∷ 5 ∷ 5 ∷ 1 ∷ 4 ∷ 0 ∷ 1 ∷ 0 ∷ 1 ∷ 4 ∷ 1 ∷ 1 ∷ 0 ∷ 0 ∷ 1 ∷ 4 ∷ 2 ∷ 1 ∷ 0 ∷ 0 ∷ []) "~~~~~~~~~~~~~~~~" (written 13 (bytes "(a || b) && c~~~"))  -- P10
     ∷ reads "a + 1" 14 (words 12 (5 ∷ 10 ∷ 1 ∷ 4 ∷ 0 ∷ 1 ∷ 0 ∷ 1 ∷ 2 ∷ 0 ∷ 1 ∷ 0 ∷ 0 ∷ 0 ∷ []))  -- P11
-    ∷ reads_program "/* q" 6 (words 5 (0 ∷ 0 ∷ 0 ∷ 0 ∷ 0 ∷ 0 ∷ []))  -- P12
+    ∷ reads_program "/* q" 6 (refusal 12 0 (0 ∷ 0 ∷ 0 ∷ 0 ∷ 0 ∷ 0 ∷ []))  -- P12
     ∷ []
 
 -- the trees of the tables over `abc`

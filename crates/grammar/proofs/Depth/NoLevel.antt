@@ -1,95 +1,62 @@
--- Where no level is left, each rule of a gallery (Statements.antt) keeps nothing or is refused by 3 where it stands, since no blank is refused.
-use Prim.Native.Nat.{ℕ, zero, suc}
-use Prim.Native.String.{String}
-use Rattle.std.specs.Prelude.{Bool, true, false, length, take}
-use mathlib.Core.List.{List, [], ◌∷◌}
-use Rattle.std.proofs.Math.ListN.{drop}
-use Rattle.lexing.specs.RunLaws.{pick-both}
-use Rattle.lexing.specs.Answer.{Answer, ok, refused, moved, pick}
-use Rattle.lexing.specs.Bytes.{starts_with, same_bytes, bytes}
-use Rattle.lexing.specs.BlankLaws.{W-closed}
-use Rattle.lexing.specs.Tokens.{lexeme, unless_empty, identifier_length, parse_id, keyword, sign}
-use Rattle.grammar.specs.Steps.{after, ◌or◌, keyword_at, sign_at, parse_name}
+-- Where no level is left, each rule of a gallery (Statements.antt) keeps nothing or is refused by 3 where it stands. The blanks after a statement's first
+-- name stand before its mark, and may be refused.
+use Rattle.std.specs.Prelude.{◌≡◌, refl, ℕ, zero, suc, Bool, true, false, List, drop}
+use Rattle.lexing.specs.Answer.{Answer, ok, refused, moved, unclosed_comment, pick}
+use Rattle.lexing.specs.Blanks.{Blanks, passed, unclosed, W}
+use Rattle.lexing.specs.Tokens.{closed, lexeme, unless_empty, identifier_length, parse_id}
+use Rattle.tree.specs.Ast.{Span}
+use Rattle.grammar.specs.Steps.{after, ◌or◌, spanned, parse_name}
 use Rattle.grammar.specs.Rules.{opens_expr, parse_expr}
 use Rattle.grammar.specs.Statements as rules
-use Rattle.grammar.specs.ClaimTerms.{Unopened, nothing, too-deep, GalleryUnopened}
+use Rattle.grammar.specs.ClaimTerms.{Unopened, nothing, too-deep, UnopenedStmt, unopened, open-comment, GalleryUnopened}
 
--- an answer that is not refused
-data Unrefused {A : Type 0} : Answer A → Type 0 where
-  reads : {a : A} {next : ℕ} → Unrefused (ok a next)
-  misses : Unrefused Answer.none
+-- refusal 3 where a token stands
+deep : {A B : Type 0} (at : ℕ) (r : Answer A) → Unopened at (rules.too_deep {B = B} at r)
+unfolding rules.too_deep
+deep at (ok a next) = too-deep
+deep at Answer.none = nothing
+deep at (refused number place) = too-deep
 
--- a step after which nothing is refused
-step : {A B : Type 0} {r : Answer A} {stop : Answer B} {go : A → ℕ → Answer B}
-    → Unrefused r → Unrefused stop → ((a : A) (next : ℕ) → Unrefused (go a next)) → Unrefused (after r stop go)
+-- and where a test is true
+opens : {A : Type 0} (at : ℕ) (b : Bool) → Unopened {A = A} at (pick b (refused 3 at) Answer.none)
+opens at true = too-deep
+opens at false = nothing
+
+-- one of two branches
+either : {A : Type 0} {text : List ℕ} {at : ℕ} {r q : Answer A} → Unopened at r → UnopenedStmt text at q → UnopenedStmt text at (r or q)
 unfolding after
-step (reads {a} {next}) h k = k a next
-step misses h k = h
-
--- ---- tokens: the blanks after them are closed
-
-lexeme-unrefused : (at v n : ℕ) (s : List ℕ) → Unrefused (moved at (lexeme v n s))
-unfolding lexeme
-lexeme-unrefused at v n s = rw (W-closed (drop n s)) reads
+either nothing h = h
+either too-deep h = unopened too-deep
 
 module _ (text : List ℕ) where
-  -- one where a test is true
-  picked : (at : ℕ) (b : Bool) (n : ℕ) → Unrefused (moved at (pick b (lexeme 0 n (drop at text)) Answer.none))
-  picked at b n = pick-both (λ r. Unrefused (moved at r)) b (lexeme-unrefused at 0 n (drop at text)) misses
-
-  word-unrefused : (w : List ℕ) (at : ℕ) → Unrefused (keyword_at text w at)
-  unfolding keyword
-  word-unrefused w at = let s = drop at text in picked at (same_bytes (take (identifier_length s) s) w) (identifier_length s)
-
-  sign-unrefused : (w : List ℕ) (at : ℕ) → Unrefused (sign_at text w at)
-  unfolding sign
-  sign-unrefused w at = picked at (starts_with w (drop at text)) (length w)
-
-  name-unrefused : (at : ℕ) → Unrefused (parse_name text at)
-  unfolding parse_id
-  name-unrefused at = step (by_length (identifier_length (drop at text))) misses (λ _ _. reads)
+  -- a name is refused only by the blanks after it
+  named : (at : ℕ) {number place : ℕ} → parse_name text at ≡ refused number place → number ≡ unclosed_comment
+  unfolding after parse_id lexeme
+  named at {number} {place} e = by_length (identifier_length (drop at text)) (W (drop (identifier_length (drop at text)) (drop at text))) e
     where
-      by_length : (n : ℕ) → Unrefused (moved at (unless_empty n (lexeme n n (drop at text))))
-      by_length zero = misses
-      by_length (suc n) = lexeme-unrefused at (suc n) (suc n) (drop at text)
+      by_length : (n : ℕ) (b : Blanks) → spanned text at (moved at (unless_empty n (closed n n b))) ≡ refused number place → number ≡ unclosed_comment
+      by_length zero b e = cc
+      by_length (suc n) (passed k) e = cc
+      by_length (suc n) (unclosed k) e = cc
 
-  -- one of the words, and a name with its mark
-  word_of-unrefused : (ws : List String) (at : ℕ) → Unrefused (rules.word_of text ws at)
-  unfolding rules.word_of
-  word_of-unrefused [] at = misses
-  word_of-unrefused (w ∷ ws) at = step (word-unrefused (bytes w) at) (word_of-unrefused ws at) (λ _ _. reads)
-
-  marked-unrefused : (at : ℕ) → Unrefused (rules.atomic text (rules.mark text) at)
-  unfolding rules.atomic rules.mark
-  marked-unrefused at = search (step, reads, misses, name-unrefused, sign-unrefused) depth 8
-
-  -- ---- depth
-
-  -- refusal 3 where a token is kept
-  deep : {A B : Type 0} {r : Answer A} (at : ℕ) → Unrefused r → Unopened at (rules.too_deep text {B = B} at r)
+  -- a name and its mark
+  deep_name : {B : Type 0} (at : ℕ) → UnopenedStmt text at (after (parse_name text at) Answer.none (λ _ at₁. rules.too_deep {B = B} at (rules.mark text at₁)))
   unfolding after
-  deep at reads = too-deep
-  deep at misses = nothing
-
-  -- one of two branches
-  either : {A : Type 0} {at : ℕ} {r q : Answer A} → Unopened at r → Unopened at q → Unopened at (r or q)
-  unfolding after
-  either nothing h = h
-  either too-deep h = too-deep
-
-  -- refusal 3 where a test is true
-  opens : {A : Type 0} (at : ℕ) (b : Bool) → Unopened {A = A} at (pick b (refused 3 at) Answer.none)
-  opens at true = too-deep
-  opens at false = nothing
+  deep_name {B} at = by_name (parse_name text at) refl
+    where
+      by_name : (r : Answer Span) → parse_name text at ≡ r → UnopenedStmt text at (after r Answer.none (λ _ at₁. rules.too_deep {B = B} at (rules.mark text at₁)))
+      by_name (ok n next) e = unopened (deep at (rules.mark text next))
+      by_name Answer.none e = unopened nothing
+      by_name (refused number place) e = let n : number ≡ unclosed_comment = named at e in rw n (open-comment (rw n at e))
 
   -- No rule is opened where no level is left.
-  pub none_left : (m : ℕ) → GalleryUnopened (rules.gallery text m zero)
+  pub none_left : (m : ℕ) → GalleryUnopened text (rules.gallery text m zero)
   unfolding rules.gallery parse_expr
   none_left m =
       record {
         expr = λ at. opens at (opens_expr (drop at text));
-        block = λ at. deep at (sign-unrefused _ at);
-        stmt = λ at. either (deep at (sign-unrefused _ at)) (either (deep at (word_of-unrefused rules.statement_words at)) (deep at (marked-unrefused at)));
+        block = λ at. deep at _;
+        stmt = λ at. either (deep at _) (either (deep at (rules.word_of text rules.statement_words at)) (deep_name at));
         if_cont = λ at. opens at (opens_expr (drop at text));
-        loop = λ at. deep at (word-unrefused _ at);
+        loop = λ at. deep at _;
       }

@@ -124,8 +124,22 @@ module _ (text : List ℕ) where
   -- ---- depth
 
   -- refusal 3 where a token is kept
-  deep-keeps : {A B : Type 0} {b : Bool} {r : Answer A} (at : ℕ) → Keeps b r → Keeps b (rules.too_deep text {B = B} at r)
-  deep-keeps at = led (λ _ _. refuses)
+  deep-keeps : {A B : Type 0} {b : Bool} {r : Answer A} (at : ℕ) → Keeps b r → Keeps b (rules.too_deep {B = B} at r)
+  unfolding rules.too_deep
+  deep-keeps at keeps = refuses
+  deep-keeps at refuses = refuses
+  deep-keeps at nothing = nothing
+
+  -- and where a name and its mark are
+  deep_name-keeps : {B : Type 0} (at : ℕ) → Keeps (marked (parse_name text at) (λ at. sign ":=" at || (sign ":" at || sign "(" at)))
+      (after (parse_name text at) Answer.none (λ _ at₁. rules.too_deep {B = B} at (rules.mark text at₁)))
+  unfolding after
+  deep_name-keeps {B} at = by_name (parse_name text at)
+    where
+      by_name : (r : Answer Span) → Keeps (marked r (λ at. sign ":=" at || (sign ":" at || sign "(" at))) (after r Answer.none (λ _ at₁. rules.too_deep {B = B} at (rules.mark text at₁)))
+      by_name (ok n next) = deep-keeps at (mark-keeps next)
+      by_name Answer.none = nothing
+      by_name (refused number place) = refuses
 
   -- where no level is left
   opened-none : (n : ℕ) → Opened (rules.gallery text n zero)
@@ -134,7 +148,7 @@ module _ (text : List ℕ) where
       record {
         expr = λ at. picked (opens_expr (drop at text)) refuses;
         block = λ at. deep-keeps at (tested _);
-        stmt = λ at. either (deep-keeps at (tested _)) (either (deep-keeps at (word_of-keeps rules.statement_words at)) (deep-keeps at (atomic-keeps _ mark-keeps at)));
+        stmt = λ at. either (deep-keeps at (tested _)) (either (deep-keeps at (word_of-keeps rules.statement_words at)) (deep_name-keeps at));
         if_cont = λ at. picked (opens_expr (drop at text)) refuses;
         loop = λ at. deep-keeps at (tested _);
       }

@@ -17,9 +17,10 @@ use Rattle.tree.specs.Claims.{expression-accepted, program-accepted, expression-
 use Rattle.tree.specs.Clash.{impossible}
 use Rattle.grammar.specs.Steps.{Reader, after, need}
 use Rattle.grammar.specs.OperatorTrees.{most_depth}
+use Rattle.grammar.specs.ClaimTerms.{open-comment}
 use Rattle.grammar.specs.Reading.{Outcome, words, refusal, leading, to_end, whole_text, unless_long, outcome_by, read_tree, read_expression, read_tree_of_program, read_program}
 use Rattle.grammar.proofs.Bridge.Limits.{stored-inv, stored-fits}
-use Rattle.grammar.proofs.Inside.Answers.{Gives, given, ReadsIn, gives-ok, unusable, step, picked, Keeping}
+use Rattle.grammar.proofs.Inside.Answers.{Gives, given, refuses, ReadsIn, gives-ok, unusable, step, picked, Keeping}
 use Rattle.grammar.proofs.Inside.Expressions.{parse_expr-kept}
 use Rattle.grammar.proofs.Inside.Statements.{gallery-kept}
 use Rattle.grammar.proofs.Inside.Declarations.{TopLevel-kept}
@@ -31,7 +32,7 @@ whole-gives {P} {rule} text h = by-blanks (W text) (W-inside text)
   where
     by-blanks : (b : Blanks) → reach b ≤ length text → Gives P (length text) (after (leading b) Answer.none (λ at _. need at (rule at) (to_end text)))
     by-blanks (passed n) l = step _ (h n l) (unusable l) (λ a g next m. picked (eqb next (length text)) (given g m) (unusable m))
-    by-blanks (unclosed n) l = unusable l
+    by-blanks (unclosed n) l = refuses open-comment l
 
 -- so it is of what is read
 read-gives : {A : Type 0} {P : A → Type 0} {rule : Reader A} (text : List ℕ) → ReadsIn P (length text) rule → {a : A} {next : ℕ}

@@ -17,7 +17,7 @@ use Rattle.tree.specs.Clash.{impossible}
 use Rattle.grammar.specs.Steps.{Reader, after, ◌or◌, spanned, parse_name, parse_literal_text}
 use Rattle.grammar.specs.Rules.{Sequence, comma_tail, parse_nonempty_comma_delimited_seq, parse_comma_delimited_seq, parse_listed}
 use Rattle.grammar.specs.Statements.{rep}
-use Rattle.grammar.specs.ClaimTerms.{ByRule, unusable-token, depth, large-natural}
+use Rattle.grammar.specs.ClaimTerms.{ByRule, unusable-token, depth, large-natural, open-comment}
 
 -- what is given, if anything, has the property P; the place after it, and a refusal's place, lie inside a text of that length; a refusal is by a
 -- number of `ByRule`
@@ -95,7 +95,7 @@ module _ (text : List ℕ) (at : ℕ) (h : at ≤ length text) where
     where
       by-blanks : (b : Blanks) → reach b ≤ length (drop n (drop at text)) → Gives (λ u. u ≡ v) (length text) (moved at (closed v n b))
       by-blanks (passed m) i = given {next = at + (n + m)} refl (omega (arith, length-drop n (drop at text), length-drop at text))
-      by-blanks (unclosed m) i = unusable {at = at + (n + m)} (omega (arith, length-drop n (drop at text), length-drop at text))
+      by-blanks (unclosed m) i = refuses {place = at + (n + m)} open-comment (omega (arith, length-drop n (drop at text), length-drop at text))
 
   lexed : {k : ℕ} {r : Answer ℕ} → Token k (drop at text) r → Gives Any (length text) (moved at r)
   lexed absent = nothing

@@ -14,7 +14,7 @@ use Rattle.grammar.specs.Steps.{Reader, after, sign_at, parse_name}
 use Rattle.grammar.specs.Rules.{opens_expr, parse_nonempty_comma_delimited_seq, parse_listed}
 use Rattle.grammar.specs.Statements as rules
 use Rattle.grammar.specs.Statements.{Gallery}
-use Rattle.grammar.proofs.Inside.Answers.{Gives, given, nothing, ReadsIn, Any, Fixed, unusable, too-deep, step, by, token, either, picked, sign-placed, keyword-placed, steps, Closed, list-closed, rep-gives, nonempty-gives, listed-gives, Keeping, name-kept}
+use Rattle.grammar.proofs.Inside.Answers.{Gives, given, nothing, refuses, ReadsIn, Any, Fixed, unusable, too-deep, step, by, token, either, picked, sign-placed, keyword-placed, steps, Closed, list-closed, rep-gives, nonempty-gives, listed-gives, Keeping, name-kept}
 use Rattle.grammar.proofs.Inside.Expressions.{by-id_type, parse_optional_type-kept, parse_expr-kept}
 
 -- it holds of the rules of a gallery
@@ -167,9 +167,12 @@ module _ {text : List ℕ} (K : Keeping text) where
   word_of-placed [] at l = nothing
   word_of-placed (w ∷ ws) at l = either (keyword-placed text at l (bytes w)) (word_of-placed ws at l)
 
-  -- refusal 3 at a place where a token is kept
-  deep : {r : Answer ℕ} (at : ℕ) → at ≤ length text → Gives Any (length text) r → Gives Kept (length text) (rules.too_deep text at r)
-  deep at l g = token g nothing (λ _ _ _. too-deep l)
+  -- refusal 3 at a place where a token stands
+  deep : {r : Answer ℕ} (at : ℕ) → at ≤ length text → Gives Any (length text) r → Gives Kept (length text) (rules.too_deep at r)
+  unfolding rules.too_deep
+  deep at l (given h i) = too-deep l
+  deep at l nothing = nothing
+  deep at l (refuses n i) = too-deep l
 
   pub gallery-kept : (m d : ℕ) → KeptBy K.keep (length text) (rules.gallery text m d)
   unfolding rules.gallery
@@ -179,7 +182,7 @@ module _ {text : List ℕ} (K : Keeping text) where
         block = λ at l. deep at l (sign-placed text at l _);
         stmt = λ at l.
             either (deep at l (sign-placed text at l _))
-            (either (deep at l (word_of-placed rules.statement_words at l)) (by marked-kept at l nothing (λ _ _ _ _. too-deep l)));
+            (either (deep at l (word_of-placed rules.statement_words at l)) (by (name-kept K) at l nothing (λ _ _ at₁ l₁. deep at l (mark-placed at₁ l₁))));
         if_cont = λ at l. picked (opens_expr (drop at text)) (too-deep l) nothing;
         loop = λ at l. deep at l (keyword-placed text at l _);
       }

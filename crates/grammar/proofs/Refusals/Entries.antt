@@ -1,6 +1,6 @@
 -- The refusals of read expression and read program (Reading.antt), by number and place.
 use Rattle.std.specs.Prelude.{ℕ, suc, ◌-◌, ◌≤◌, ◌≡◌, refl, Bool, true, false, ◌&&◌, List, ◌++◌, length, replicate, leb}
-use Rattle.std.proofs.Common.{zero-le, arith, subst, leb-true, leb-false}
+use Rattle.std.proofs.Common.{◌∙◌, zero-le, arith, subst, leb-true, leb-false}
 use Rattle.lexing.specs.RunLaws.{both_true}
 use Rattle.lexing.specs.Answer.{Answer, refused, pick}
 use Rattle.tree.specs.Limits.{most_text, most_words}
@@ -11,29 +11,36 @@ use Rattle.grammar.specs.Statements.{gallery}
 use Rattle.grammar.specs.Declarations.{TopLevel}
 use Rattle.grammar.specs.OperatorTrees.{most_depth}
 use Rattle.grammar.specs.Reading.{Outcome, words, refusal, parse_text, parse_program, whole_text, unless_long, stored, outcome_by, read_tree, read_expression, read_tree_of_program, read_program}
-use Rattle.grammar.specs.ClaimTerms.{ByRule, unusable-token, depth, large-natural, OfReading, long-text, by-rule, many-words}
+use Rattle.grammar.specs.ClaimTerms.{ByRule, unusable-token, depth, large-natural, open-comment, OfReading, long-text, by-rule, many-words}
 use Rattle.grammar.proofs.Inside.Answers.{Gives, given, nothing, refuses, ReadsIn, Fixed, Keeping}
 use Rattle.grammar.proofs.Inside.Expressions.{parse_expr-kept}
 use Rattle.grammar.proofs.Inside.Statements.{gallery-kept}
 use Rattle.grammar.proofs.Inside.Declarations.{TopLevel-kept}
 use Rattle.grammar.proofs.Inside.Accepted.{whole-gives}
 
--- a refusal by a number from 1 to 5, at a place of at most 32,768
-pub record Refused (number place : ℕ) : Type 0 where
-  pub least : 1 ≤ number
-  pub most : number ≤ 5
-  pub inside : place ≤ most_text
+-- no rule refuses by 0 or by 5
+not-zero : {number : ℕ} → ByRule number → 1 ≤ number
+not-zero unusable-token = omega arith
+not-zero depth = omega arith
+not-zero large-natural = omega arith
+not-zero open-comment = omega arith
 
--- each refusal of a reading is one
-numbered : {number : ℕ} → ByRule number → (1 ≤ number) × (number ≤ 4)
-numbered unusable-token = omega arith
-numbered depth = omega arith
-numbered large-natural = omega arith
+not-five : {number : ℕ} → ByRule number → number ≡ 5 → ⊥
+not-five unusable-token e = omega arith
+not-five depth e = omega arith
+not-five large-natural e = omega arith
+not-five open-comment e = omega arith
 
-within-limits : {text : List ℕ} {number place : ℕ} → OfReading text number place → Refused number place
-within-limits (long-text h) = omega arith
-within-limits (by-rule h r l) = let n = numbered r in omega arith
-within-limits (many-words h) = omega arith
+-- The number of a reading's refusal is not 0, and its place at most 32,768.
+pub refusal-numbered : {text : List ℕ} {number place : ℕ} → OfReading text number place → 1 ≤ number
+refusal-numbered (long-text h) = omega arith
+refusal-numbered (by-rule h r l) = not-zero r
+refusal-numbered (many-words h) = omega arith
+
+pub refusal-inside : {text : List ℕ} {number place : ℕ} → OfReading text number place → place ≤ most_text
+refusal-inside (long-text h) = omega arith
+refusal-inside (by-rule h r l) = omega arith
+refusal-inside (many-words h) = omega arith
 
 -- a text of at most 32,768 bytes, and k words that a table of n has room for
 pub record Held (text : List ℕ) (n k : ℕ) : Type 0 where
@@ -53,7 +60,7 @@ whole-refused {A} {P} text {rule} h {number} {place} = by_length (leb (length te
     of-rules : {r : Answer A} → Gives P (length text) r → r ≡ refused number place → number ≡ 5 → ⊥
     of-rules (given g l) e f = impossible (cc)
     of-rules nothing e f = impossible (cc)
-    of-rules (refuses {number = k} n i) e f = let same : k ≡ number = cc in omega (arith, numbered n)
+    of-rules (refuses {number = k} n i) e f = let same : k ≡ number = cc in not-five n (same ∙ f)
 
     by_length : (b : Bool) → pick b (whole_text text rule) (refused 1 most_text) ≡ refused number place → number ≡ 5 → ⊥
     by_length true e f = of-rules (whole-gives text h) e f
@@ -108,17 +115,12 @@ module _ (text : List ℕ) (n : ℕ) where
   unfolding read_program read_tree_of_program parse_program
   program-limited = text-limited _ text n (program-reads text)
 
-  -- The refusals of read expression ..
+  -- The refusals of read expression and of read program.
   pub expression-refused : {number place : ℕ} {table : List ℕ} → read_expression text n ≡ refusal number place table → OfReading text number place
   expression-refused e = subst (Limited text n) e expression-limited
 
-  -- .. and of read program, ..
-  pub program-of-reading : {number place : ℕ} {table : List ℕ} → read_program text n ≡ refusal number place table → OfReading text number place
-  program-of-reading e = subst (Limited text n) e program-limited
-
-  -- .. as a number and a place within limits.
-  pub program-refused : {number place : ℕ} {table : List ℕ} → read_program text n ≡ refusal number place table → Refused number place
-  program-refused e = within-limits (program-of-reading e)
+  pub program-refused : {number place : ℕ} {table : List ℕ} → read_program text n ≡ refusal number place table → OfReading text number place
+  program-refused e = subst (Limited text n) e program-limited
 
   -- A program that is read keeps the limits.
   pub program-held : {k : ℕ} {table : List ℕ} → read_program text n ≡ words k table → Held text n k

@@ -6,7 +6,7 @@ use Rattle.std.specs.Prelude.{Bool, List, ◌∷◌, drop}
 use Rattle.std.proofs.Math.Option.{some}
 use Rattle.lexing.specs.Answer.{Answer, ok, refused}
 use Rattle.tree.specs.Ast.{Span, Binding, binding, Expr, Stmt, Assign, Check, Assume, Reach, Assert, AForall, Probe}
-use Rattle.grammar.specs.Steps.{Reader, after, parse_name}
+use Rattle.grammar.specs.Steps.{Reader, parse_name}
 use Rattle.grammar.specs.Rules.{opens_expr, parse_nonempty_comma_delimited_seq}
 use Rattle.grammar.specs.Statements as rules
 use Rattle.grammar.specs.Statements.{Gallery}
@@ -190,8 +190,8 @@ module _ (text : List ℕ) where
   -- ---- depth
 
   -- what is too deep gives nothing
-  too_deep-few : {A : Type 0} (at : ℕ) (r : Answer A) → FewAt S at 0 (rules.too_deep text at r)
-  unfolding after
+  too_deep-few : {A : Type 0} {from : ℕ} (at : ℕ) (r : Answer A) → FewAt S from 0 (rules.too_deep at r)
+  unfolding rules.too_deep
   too_deep-few at (ok a next) = refuses
   too_deep-few at Answer.none = nothing
   too_deep-few at (refused number place) = refuses
@@ -203,7 +203,7 @@ module _ (text : List ℕ) where
       record {
         expr = parse_expr-few text m zero;
         block = λ at. too_deep-few at _;
-        stmt = λ at. either (too_deep-few at _) (either (too_deep-few at _) (too_deep-few at _));
+        stmt = λ at. either (too_deep-few at _) (either (too_deep-few at _) (by (name-few text) at nothing (λ _ _ _. too_deep-few at _)));
         if_cont = λ at. picked (opens_expr (drop at text)) refuses nothing;
         loop = λ at. too_deep-few at _;
       }
