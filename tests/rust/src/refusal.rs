@@ -17,8 +17,9 @@ pub const SHORT_OUTPUT: u32 = 8;
 pub const LAYOUT: u32 = 9;
 pub const VERSION: u32 = 10;
 pub const RANGE: u32 = 11;
+pub const UNCLOSED_COMMENT: u32 = 12;
 
-/// A refusal's number, 1 to 11, and its place.
+/// A refusal's number, 1 to 12, and its place.
 #[derive(Clone, Copy, Debug, PartialEq, Eq)]
 pub struct Refusal {
     pub number: u32,

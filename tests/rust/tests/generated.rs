@@ -1,8 +1,9 @@
 //! Seeded cases: nothing overflows or panics, the reader's word count is the tree's, and what isn't read back
 //! has a known cause.
 
-use b3_compare::generate::{case, expression_text, random_expression, random_program, random_settings};
-use b3_compare::generate::{random_record, random_writing, NAMES, ROOMY};
+use b3_compare::escape::escape;
+use b3_compare::generate::{case, expression, expression_text, program, random_expression, random_program};
+use b3_compare::generate::{random_record, random_settings, random_writing, Source, NAMES, ROOMY};
 use b3_compare::outcome::Outcome;
 use b3_compare::random::Random;
 use b3_compare::readback::{exception, Cause};
@@ -39,6 +40,54 @@ fn word_counts_are_the_trees() {
             assert_eq!(decode_program(&case.text, &words), Ok(program));
         }
     });
+}
+
+/// How many texts of `whole` are read. Before a token of such a text a comment that closes changes nothing, and one that
+/// never closes is refused there.
+fn read_with_comments(
+    whole: fn(&mut Random) -> Source<'_>,
+    read: fn(&[u8]) -> Result<String, Refusal>,
+) -> usize {
+    let mut count = 0;
+    for index in 0..CASES {
+        let random = &mut Random::new(SEED, index);
+        let Source { text, starts, random, .. } = whole(random);
+        let Ok(tree) = read(&text) else { continue };
+        count += 1;
+        for _ in 0..starts.len().min(8) {
+            let start = starts[random.below(starts.len())];
+            let (before, after) = text.split_at(start);
+            assert_eq!(read(&[before, b"/* /* q */ */", after].concat()).as_ref(), Ok(&tree));
+            let unclosed = [before, b"/* /* q */"].concat();
+            assert_eq!(read(&unclosed), Err(Refusal::new(12, start)), "{}", escape(&unclosed));
+        }
+    }
+    count
+}
+
+#[test]
+fn comments_stand_before_each_token() {
+    on_deep_stack(|| {
+        let programs = read_with_comments(program, |text| {
+            read_program(text, TABLE_LIMIT).map(|program| format!("{program:?}"))
+        });
+        let expressions = read_with_comments(expression, |text| {
+            read_expression(text, TABLE_LIMIT).map(|expr| format!("{expr:?}"))
+        });
+        assert!(programs > 1000 && expressions > 1000, "{programs} programs, {expressions} expressions");
+    });
+}
+
+/// Texts with a comment that never closes are among the cases, some refused for it and some for what is met before.
+#[test]
+fn unclosed_comments_are_met() {
+    let mut numbers = [0; 13];
+    for case in (0..CASES).map(|index| case(SEED, index)) {
+        if let Err(refusal) = read_program(&case.text, TABLE_LIMIT) {
+            numbers[refusal.number as usize] += 1;
+        }
+    }
+    assert!(numbers[12] > 50 && numbers[2] > 500, "{numbers:?}");
 }
 
 #[test]

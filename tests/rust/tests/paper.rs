@@ -2,7 +2,7 @@
 
 use b3_compare::refusal::{OUTPUT_LIMIT, TABLE_LIMIT};
 use b3_compare::tree::{Expr, Operands, Operator};
-use b3_compare::words::{encode_expression, encode_program};
+use b3_compare::words::encode_expression;
 use b3_compare::{on_deep_stack, print_expression, read_expression, read_program, tidy, Format, Refusal};
 
 fn id(name: &str) -> Expr<'_> {
@@ -80,9 +80,6 @@ fn words_are_the_papers() {
     let expr = read_expression(text, 12).expect("12 words are enough");
     assert_eq!(encode_expression(text, &expr), [5, 10, 1, 4, 0, 1, 0, 1, 2, 0, 1, 0]);
     assert_eq!(read_expression(text, 11).map(drop), refused(5, 0));
-    let text = b"/* q";
-    let program = read_program(text, 5).expect("a comment never closed is accepted");
-    assert_eq!(encode_program(text, &program), [0; 5]);
 }
 
 #[test]
@@ -113,7 +110,6 @@ fn tidy_answers_one_number() {
 #[test]
 fn places_of_unusable_tokens() {
     read_refused("  ", 2, 2);
-    read_refused("a + /* x", 2, 8);
     read_refused("|| a", 2, 1);
     read_refused("x := 1", 2, 3);
     read_refused("!=a", 2, 0);
@@ -121,6 +117,40 @@ fn places_of_unusable_tokens() {
     program_refused("procedure p() { x", 2, 16);
     program_refused("procedure p() { var v autoinv w := 1 }", 2, 33);
     program_refused("function f() := int", 2, 14);
+}
+
+#[test]
+fn comments_that_never_close() {
+    program_refused("/* q", 12, 0);
+    read_refused("a /* b", 12, 2);
+    read_refused("a + /* x", 12, 4);
+    read_refused("a /* b /* c */", 12, 2);
+    read_refused("a /* b */ /* c", 12, 10);
+    read_refused("a /*/", 12, 2);
+    read_refused("|/*a:int|", 12, 1);
+    program_refused("procedure p() { x /* q", 12, 18);
+    program_refused("procedure p() { exit x /* q", 12, 23);
+    program_refused("procedure p() { exit x : /*", 12, 25);
+    assert_eq!(read("a /**/"), read("a"));
+    assert_eq!(read("a /* b /* c */ */"), read("a"));
+    assert_eq!(read("a // /* b"), read("a"));
+    assert_eq!(tidied("type A /* q"), Err(12 << 32 | 7));
+}
+
+#[test]
+fn what_is_met_before_such_a_comment() {
+    read_refused("a b /* x", 2, 2);
+    read_refused("a < b < /* x", 2, 6);
+    read_refused("!= /* x", 2, 0);
+    read_refused("|a /* x", 2, 2);
+    read_refused("|a/* x", 2, 4);
+    read_refused("18446744073709551616/*", 4, 0);
+    read_refused("18446744073709551615/*", 12, 20);
+    program_refused("x /*", 2, 0);
+    assert_eq!(read_expression(b"a /* q", 0).map(drop), refused(12, 2));
+    let long = [b"/*".as_slice(), &[b'q'; 32_766]].concat();
+    assert_eq!(read_program(&long, TABLE_LIMIT).map(drop), refused(12, 0));
+    assert_eq!(read_program(&[&long[..], b"q"].concat(), TABLE_LIMIT).map(drop), refused(1, 32_768));
 }
 
 /// The most times that `open` and `close` may stand round `inner`, and the refusal of one more.
@@ -168,4 +198,23 @@ fn depth_201_needs_its_first_token() {
         read_refused(&format!("{brackets}{end}"), 3, 200);
     }
     assert!(read(&format!("{}f(){}", "(".repeat(199), ")".repeat(199))).is_ok());
+}
+
+/// Depth 201 is refused at what begins a rule, before the blanks after it: of a statement led by a name, at the name with
+/// its mark.
+#[test]
+fn depth_201_comes_before_the_blanks_after_it() {
+    let brackets = "(".repeat(200);
+    for end in ["(/*", "a /* x", "-/*", "! /* x", "|/*", "5/*", "18446744073709551616/*", "if /*", "old/*"] {
+        read_refused(&format!("{brackets}{end}"), 3, 200);
+    }
+    read_refused(&format!("{brackets}/* x"), 12, 200);
+    read_refused(&format!("{}a /* x", "(".repeat(199)), 12, 201);
+    let variables = format!("procedure p() {{ {}", "var a ".repeat(200));
+    let at = variables.len();
+    for end in ["var /*", "if/*", "loop /*", "{ /*", "x := /* q", "x : /*", "x( /*", "x /* q */ : /* q"] {
+        program_refused(&format!("{variables}{end}"), 3, at);
+    }
+    program_refused(&format!("{variables}x /* q"), 12, at + 2);
+    program_refused(&format!("{variables}x /* q :="), 12, at + 2);
 }

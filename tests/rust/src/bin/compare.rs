@@ -49,7 +49,7 @@ fn run(cases: u64, seed: u64) -> Report {
 struct Report {
     accepted: usize,
     /// By refusal number.
-    refused: [usize; 9],
+    refused: BTreeMap<u32, usize>,
     differences: usize,
     #[cfg(feature = "linked")]
     shown: std::collections::BTreeSet<Vec<u8>>,
@@ -65,7 +65,7 @@ impl Report {
         let expected = Outcome::of(tidy, &case.text, case.out_len);
         match expected.refusal() {
             None => self.accepted += 1,
-            Some(refusal) => self.refused[refusal.number as usize] += 1,
+            Some(refusal) => *self.refused.entry(refusal.number).or_default() += 1,
         }
         self.check_library(case, &expected);
         if !expected.leaves_the_rest() || !counts_words(&case.text) {
@@ -127,7 +127,7 @@ impl Report {
 
     fn show(&self) {
         let refused: Vec<String> =
-            (1..9).map(|number| format!("{number}: {}", self.refused[number])).collect();
+            self.refused.iter().map(|(number, count)| format!("{number}: {count}")).collect();
         println!("accepted {}, refused {}", self.accepted, refused.join(", "));
         println!("prints read back as their tree {}; the others:", self.read_back);
         for (&kind, (count, text)) in &self.exceptions {

@@ -43,18 +43,24 @@ pub fn blank(random: &mut Random, style: Style, text: &mut Vec<u8>) {
     }
 }
 
-/// What stands after the last token: nothing, a blank, or a comment that the text's end closes.
+/// What stands after the last token: nothing, a blank, or a comment, seldom one that never closes.
 pub fn ending(random: &mut Random, text: &mut Vec<u8>) {
     match random.below(12) {
         0 => line_comment(random, text, b""),
-        1 => text.extend_from_slice(b"/* q"),
-        2 => text.extend_from_slice(b"/* /* */ *"),
-        3 => text.extend_from_slice(b"/*"),
-        4 => text.extend_from_slice(b"/*/"),
-        5 => text.extend_from_slice(b"//"),
-        6..=8 => blank(random, Style::Wild, text),
+        1 => text.extend_from_slice(b"//"),
+        2 => text.extend_from_slice(b"/*/ /**/*/"),
+        3..=5 => blank(random, Style::Wild, text),
+        6 if random.once_in(4) => unclosed(random, text),
         _ => {}
     }
+}
+
+/// A long comment that never closes where nothing follows.
+pub fn unclosed(random: &mut Random, text: &mut Vec<u8>) {
+    text.extend_from_slice(random.pick::<[u8]>(&[
+        b"/* q", b" /* q", b"/*", b"/*/", b"/**", b"/* /* */ *", b"/* /* */", b"/* */ /* q", b"/*//*/ */",
+        b"// /*\n/*", b"/* // \n",
+    ]));
 }
 
 fn line_comment(random: &mut Random, text: &mut Vec<u8>, end: &[u8]) {

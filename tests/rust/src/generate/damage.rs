@@ -18,7 +18,7 @@ pub fn damaged(random: &mut Random, whole: fn(&mut Random) -> Source<'_>) -> Vec
 }
 
 fn damage(random: &mut Random, text: &mut Vec<u8>, starts: &[usize]) {
-    match random.below(8) {
+    match random.below(9) {
         0 => text.truncate(random.below(text.len() + 1)),
         1 => {
             let range = range(random, text, 8);
@@ -35,6 +35,10 @@ fn damage(random: &mut Random, text: &mut Vec<u8>, starts: &[usize]) {
         }
         5 => exchange_tokens(random, text, starts),
         6 => overwrite(random, text),
+        7 => {
+            text.truncate(place(random, text, starts));
+            blanks::unclosed(random, text);
+        }
         _ => {
             let copy = text[range(random, text, 40)].to_vec();
             let at = place(random, text, starts);

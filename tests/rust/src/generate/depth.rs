@@ -49,18 +49,20 @@ const EXPRESSIONS: [(&str, &str); 18] = [
     ("lift f := a into r: T by { trigger ", " b }"),
 ];
 
-const INNER_STATEMENTS: [&str; 34] = [
+const INNER_STATEMENTS: [&str; 41] = [
     "", "x := 1", "x", "x :", "x :=", "{ }", "{", "loop { }", "loop", "var a", "var a var b", "var a x",
     "return", "exit", "exit x", "check a", "check", "if a { }", "if", "if a { } else if b { }",
     "if case a { }", "f()", "f(a)", "x: { }", "x: loop { }", "choose { }", "forall x: T { }", "reinit a",
-    "}", ")", "case", "else := 1", "18446744073709551616", "exit check (a)",
+    "}", ")", "case", "else := 1", "18446744073709551616", "exit check (a)", "/* q", "x /* q", "x := /*",
+    "x: /* q", "{ /*", "loop /* q", "exit x /* q",
 ];
 
-const INNER_EXPRESSIONS: [&str; 37] = [
+const INNER_EXPRESSIONS: [&str; 43] = [
     "a", "5", "f()", "f(a)", "f(", "(a)", "(", "", ")", "!a", "!=a", "-", "--a", "|x:int|", "|", "old a",
     "old", "18446744073709551616", "18446744073709551615", "if a b else c", "if", "forall x: T a", "exists",
     "lift f := a into r: T by { }", "x: a", "val x := a b", "{", "}", "true", "a + (b)", "f((a))", "\u{ff}",
-    "/* c */a", "a == b", "forall x: T a < b < c", "x: a && b || c", "-(old x: a) + 1",
+    "/* c */a", "a == b", "forall x: T a < b < c", "x: a && b || c", "-(old x: a) + 1", "/* q", "a /* q",
+    "-/*", "f( /* q", "|/* q", "18446744073709551616 /*",
 ];
 
 /// A text with rules opened, what closes them, and how deep the next one stands.
@@ -206,7 +208,7 @@ mod tests {
     }
 
     /// Depth 201 begins with each word of a statement, a block, a name with each mark, and each byte of an
-    /// expression.
+    /// expression, also where a comment after them never closes.
     #[test]
     fn every_first_token() {
         on_deep_stack(|| {
@@ -216,7 +218,9 @@ mod tests {
             let marked = ["x:=", "x:", "x("].map(String::from);
             let bytes = (b'!'..=b'~').filter(|byte| byte.is_ascii_alphanumeric() || b"%(|-!{".contains(byte));
             let bytes = bytes.map(|byte| char::from(byte).to_string());
-            for start in words.into_iter().chain(marked).chain(bytes) {
+            let opened = STATEMENT_WORDS.map(|word| format!("{word}/*"));
+            let unclosed = ["{ /*", "x:= /*", "x :/*", "x(/*", "(/*", "-/*"].map(String::from);
+            for start in words.into_iter().chain(marked).chain(bytes).chain(opened).chain(unclosed) {
                 assert!(met(&start), "{start}");
             }
         });

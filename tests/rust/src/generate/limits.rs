@@ -28,6 +28,7 @@ fn at_text_length(random: &mut Random) -> Vec<u8> {
         &("", "\n", ""),
         &("//", "c", "\n"),
         &("/*", "c", "*/"),
+        &("/*", "c", ""),
         &("type ", "a", " "),
         &("axiom ", "0", "5 "),
         &("axiom |", "x", ":T| "),
@@ -156,6 +157,7 @@ fn chain(random: &mut Random) -> Vec<u8> {
         &("", "type a ", ""),
         &("", "function f(): T ", ""),
         &("", "/* /* */ ", ""),
+        &("/* ", "/* */ ", "*/"),
     ]);
     let most = (TEXT_LIMIT - 40) / each.len();
     let count = if random.once_in(2) { random.below(most) } else { random.below(most.min(2000)) };

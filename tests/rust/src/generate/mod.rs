@@ -61,7 +61,8 @@ pub fn expression_text(random: &mut Random) -> Vec<u8> {
     }
 }
 
-fn expression(random: &mut Random) -> Source<'_> {
+/// A whole expression.
+pub fn expression(random: &mut Random) -> Source<'_> {
     let fuel = random.between(1, 60);
     let mut source = Source::new(random, fuel);
     source.expr();
@@ -70,7 +71,7 @@ fn expression(random: &mut Random) -> Source<'_> {
 }
 
 /// A whole program, of a few tokens or of some thousand.
-fn program(random: &mut Random) -> Source<'_> {
+pub fn program(random: &mut Random) -> Source<'_> {
     let fuel = match random.below(20) {
         0..=12 => random.between(1, 40),
         13..=18 => random.between(1, 200),

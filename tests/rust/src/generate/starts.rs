@@ -19,7 +19,8 @@ pub fn statement_start(random: &mut Random) -> Vec<u8> {
 
 fn marked(random: &mut Random) -> Vec<u8> {
     let name = names::name_outside(random, &STATEMENT_WORDS);
-    let mark = random.pick(&[":=", ":", "(", " := ", "/* c */:", " //c\n("]);
+    let mark =
+        random.pick(&[":=", ":", "(", " := ", "/* c */:", " //c\n(", ":= /* q", " :/*", "(/*", " /* q"]);
     [&name, mark.as_bytes()].concat()
 }
 
@@ -38,7 +39,8 @@ pub fn expression_start(random: &mut Random) -> Vec<u8> {
 }
 
 fn followed(random: &mut Random, mut first: Vec<u8>) -> Vec<u8> {
-    let after = random.pick(&["", " ", " a ", " a := 1 ", " { } ", ": loop { } ", "(", "x", "=", "/* c */"]);
+    let after = random
+        .pick(&["", " ", " a ", " a := 1 ", " { } ", ": loop { } ", "(", "x", "=", "/* c */", "/*", " /* q"]);
     first.extend_from_slice(after.as_bytes());
     first
 }

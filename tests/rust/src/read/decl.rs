@@ -19,7 +19,7 @@ impl<'a> Reader<'a> {
         if !matches!(word, b"type" | b"tagger" | b"function" | b"axiom" | b"procedure") {
             return Err(self.cursor.unusable());
         }
-        self.cursor.take(word.len());
+        self.cursor.take(word.len())?;
         match word {
             b"type" => program.types.push(self.name()?),
             b"tagger" => program.taggers.push(self.tagger()?),
@@ -42,20 +42,20 @@ impl<'a> Reader<'a> {
         let parameters = self.bracketed_list(Self::function_formal)?;
         self.cursor.expect_sign(b":")?;
         let result_type = self.name()?;
-        let tag = if self.cursor.take_keyword(b"tag") { Some(self.name()?) } else { None };
+        let tag = if self.cursor.take_keyword(b"tag")? { Some(self.name()?) } else { None };
         let definition = self.function_definition()?;
         Ok(self.node(2, Function { name, parameters, result_type, tag, definition }))
     }
 
     fn function_formal(&mut self) -> Result<FParameter<'a>> {
-        let injective = self.cursor.take_keyword(b"injective");
+        let injective = self.cursor.take_keyword(b"injective")?;
         let binding = self.binding()?;
         Ok(self.node(1, FParameter { name: binding.name, injective, typ: binding.typ }))
     }
 
     fn function_definition(&mut self) -> Result<Option<FunctionDefinition<'a>>> {
         let mut when = Vec::new();
-        while self.cursor.take_keyword(b"when") {
+        while self.cursor.take_keyword(b"when")? {
             when.push(self.expr()?);
         }
         if when.is_empty() && self.cursor.peek() != b'{' {
@@ -69,7 +69,7 @@ impl<'a> Reader<'a> {
     }
 
     fn axiom(&mut self) -> Result<Axiom<'a>> {
-        let explains = if self.cursor.take_keyword(b"explains") {
+        let explains = if self.cursor.take_keyword(b"explains")? {
             self.list(Self::name)?
         } else {
             self.sequence(Vec::new())
@@ -88,7 +88,7 @@ impl<'a> Reader<'a> {
     }
 
     fn procedure_formal(&mut self) -> Result<PParameter<'a>> {
-        let mode = self.parameter_mode();
+        let mode = self.parameter_mode()?;
         let binding = self.binding()?;
         let auto_inv = self.optional_auto_invariant()?;
         Ok(PParameter { name: binding.name, mode, typ: binding.typ, auto_inv })

@@ -42,7 +42,7 @@ impl<'a> Reader<'a> {
             left = if infix.op == Operator::LogicalImp && !infix.swapped {
                 self.implies_chain(left)?
             } else {
-                self.cursor.take(usize::from(infix.len));
+                self.cursor.take(usize::from(infix.len))?;
                 let right = self.operators(infix.level.tighter())?;
                 self.binary(infix, left, right)
             };
@@ -56,7 +56,7 @@ impl<'a> Reader<'a> {
         let mut lefts = Vec::new();
         let mut last = first;
         while let Some(Infix { op: Operator::LogicalImp, swapped: false, len, .. }) = self.infix {
-            self.cursor.take(usize::from(len));
+            self.cursor.take(usize::from(len))?;
             let next = self.operators(Level::Logical)?;
             lefts.push(std::mem::replace(&mut last, next));
         }
@@ -78,7 +78,7 @@ impl<'a> Reader<'a> {
 
     fn unary_expr(&mut self) -> Result<Expr<'a>> {
         let mut prefixes = Vec::new();
-        while let Some(op) = self.take_prefix() {
+        while let Some(op) = self.take_prefix()? {
             prefixes.push(op);
         }
         let mut expr = self.primary_expr()?;
@@ -89,15 +89,15 @@ impl<'a> Reader<'a> {
         Ok(expr)
     }
 
-    fn take_prefix(&mut self) -> Option<Operator> {
+    fn take_prefix(&mut self) -> Result<Option<Operator>> {
         let op = match self.cursor.rest() {
             [b'-', ..] => Operator::UnaryMinus,
-            [b'!', b'=', ..] => return None,
+            [b'!', b'=', ..] => return Ok(None),
             [b'!', ..] => Operator::LogicalNot,
-            _ => return None,
+            _ => return Ok(None),
         };
-        self.cursor.take(1);
-        Some(op)
+        self.cursor.take(1)?;
+        Ok(Some(op))
     }
 
     fn primary_expr(&mut self) -> Result<Expr<'a>> {
@@ -117,7 +117,7 @@ impl<'a> Reader<'a> {
             b"if" | b"val" | b"forall" | b"exists" | b"lift" | b"false" | b"true" | b"old" => {}
             _ => return self.named_expr(),
         }
-        self.cursor.take(word.len());
+        self.cursor.take(word.len())?;
         match word {
             b"if" => self.conditional(),
             b"val" => self.let_expr(),
@@ -136,7 +136,7 @@ impl<'a> Reader<'a> {
                 Ok(self.node(1, Expr::FunctionCallExpr { name, args }))
             }
             b':' => {
-                self.cursor.take(1);
+                self.cursor.take(1)?;
                 let body = self.boxed_expr()?;
                 Ok(self.node(1, Expr::LabeledExpr { name, body }))
             }
@@ -160,13 +160,13 @@ impl<'a> Reader<'a> {
                 .ok_or(Refusal::new(LARGE_NATURAL, start))?;
             len += 1;
         }
-        self.cursor.take(len);
+        self.cursor.take(len)?;
         Ok(self.node(3, Expr::ILiteral(value)))
     }
 
     /// No blank stands between the literal's text and its `:`.
     fn custom_literal(&mut self) -> Result<Expr<'a>> {
-        self.cursor.take(1);
+        self.cursor.take(1)?;
         let text = self.cursor.literal();
         if text.is_empty() {
             return Err(self.cursor.unusable());
@@ -179,7 +179,7 @@ impl<'a> Reader<'a> {
     }
 
     fn bracketed(&mut self) -> Result<Expr<'a>> {
-        self.cursor.take(1);
+        self.cursor.take(1)?;
         let expr = self.expr()?;
         self.cursor.expect_sign(b")")?;
         Ok(expr)
@@ -213,7 +213,7 @@ impl<'a> Reader<'a> {
     /// Lists of expressions, each led by `keyword`.
     fn patterns(&mut self, keyword: &[u8]) -> Result<Vec<Pattern<'a>>> {
         let mut patterns = Vec::new();
-        while self.cursor.take_keyword(keyword) {
+        while self.cursor.take_keyword(keyword)? {
             let exprs = self.list(Self::expr)?;
             patterns.push(Pattern { exprs });
         }

@@ -1,7 +1,7 @@
 //! Blanks, identifiers, signs: a cursor on the text that stands, between steps, after the blanks of the last
 //! token.
 
-use crate::refusal::{Refusal, Result, UNUSABLE};
+use crate::refusal::{Refusal, Result, UNCLOSED_COMMENT, UNUSABLE};
 use crate::tree::Operator;
 
 const START: u8 = 1;
@@ -86,10 +86,10 @@ pub struct Cursor<'a> {
 
 impl<'a> Cursor<'a> {
     /// At the first token of the text.
-    pub fn new(text: &'a [u8]) -> Self {
+    pub fn new(text: &'a [u8]) -> Result<Self> {
         let mut cursor = Cursor { text, at: 0 };
-        cursor.skip_blanks();
-        cursor
+        cursor.skip_blanks()?;
+        Ok(cursor)
     }
 
     pub fn rest(&self) -> &'a [u8] {
@@ -109,13 +109,13 @@ impl<'a> Cursor<'a> {
         Refusal::new(UNUSABLE, self.at)
     }
 
-    pub fn skip_blanks(&mut self) {
+    fn skip_blanks(&mut self) -> Result<()> {
         loop {
             match self.rest() {
                 [b' ' | b'\t' | b'\r' | b'\n', ..] => self.at += 1,
                 [b'/', b'/', ..] => self.skip_line(),
-                [b'/', b'*', ..] => self.skip_long_comment(),
-                _ => return,
+                [b'/', b'*', ..] => self.skip_long_comment()?,
+                _ => return Ok(()),
             }
         }
     }
@@ -125,8 +125,9 @@ impl<'a> Cursor<'a> {
         self.at += rest.iter().position(|&byte| byte == b'\n').unwrap_or(rest.len());
     }
 
-    /// Long comments nest; one never closed runs to the end of the text.
-    fn skip_long_comment(&mut self) {
+    /// Long comments nest; one never closed is refused at its outermost opening mark.
+    fn skip_long_comment(&mut self) -> Result<()> {
+        let start = self.at;
         let mut open = 0usize;
         while let Some(pair) = self.text.get(self.at..self.at + 2) {
             match pair {
@@ -139,28 +140,28 @@ impl<'a> Cursor<'a> {
             }
             self.at += 2;
             if open == 0 {
-                return;
+                return Ok(());
             }
         }
-        self.at = self.text.len();
+        Err(Refusal::new(UNCLOSED_COMMENT, start))
     }
 
     /// Takes `len` bytes and the blanks after them.
-    pub fn take(&mut self, len: usize) {
+    pub fn take(&mut self, len: usize) -> Result<()> {
         self.at += len;
-        self.skip_blanks();
+        self.skip_blanks()
     }
 
-    pub fn take_sign(&mut self, sign: &[u8]) -> bool {
+    pub fn take_sign(&mut self, sign: &[u8]) -> Result<bool> {
         let found = self.rest().starts_with(sign);
         if found {
-            self.take(sign.len());
+            self.take(sign.len())?;
         }
-        found
+        Ok(found)
     }
 
     pub fn expect_sign(&mut self, sign: &[u8]) -> Result<()> {
-        if self.take_sign(sign) {
+        if self.take_sign(sign)? {
             Ok(())
         } else {
             Err(self.unusable())
@@ -199,16 +200,16 @@ impl<'a> Cursor<'a> {
         }
     }
 
-    pub fn take_keyword(&mut self, word: &[u8]) -> bool {
+    pub fn take_keyword(&mut self, word: &[u8]) -> Result<bool> {
         let found = self.at_keyword(word);
         if found {
-            self.take(word.len());
+            self.take(word.len())?;
         }
-        found
+        Ok(found)
     }
 
     pub fn expect_keyword(&mut self, word: &[u8]) -> Result<()> {
-        if self.take_keyword(word) {
+        if self.take_keyword(word)? {
             Ok(())
         } else {
             Err(self.unusable())

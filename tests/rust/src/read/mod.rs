@@ -1,5 +1,6 @@
 //! The reading rules of Parser.dfy, each a function. A rule that fails having kept nothing gives way to the
-//! next; one that fails after a kept token refuses the text where the first unusable token begins.
+//! next; one that fails after a kept token refuses the text where the first unusable token begins. Blanks are
+//! passed after each token, and a comment in them that never closes refuses the text there and then.
 
 mod decl;
 mod expr;
@@ -46,7 +47,7 @@ impl<'a> Reader<'a> {
         if text.len() > TEXT_LIMIT {
             return Err(Refusal::new(LONG_TEXT, TEXT_LIMIT));
         }
-        Ok(Reader { cursor: Cursor::new(text), depth: 0, words: 0, infix: None })
+        Ok(Reader { cursor: Cursor::new(text)?, depth: 0, words: 0, infix: None })
     }
 
     fn fits(&self, table: usize) -> Result<()> {
@@ -86,12 +87,12 @@ impl<'a> Reader<'a> {
         if name.is_empty() {
             return Err(self.cursor.unusable());
         }
-        Ok(self.keep_name(name))
+        self.keep_name(name)
     }
 
-    fn keep_name(&mut self, name: Name<'a>) -> Name<'a> {
-        self.cursor.take(name.len());
-        self.node(2, name)
+    fn keep_name(&mut self, name: Name<'a>) -> Result<Name<'a>> {
+        self.cursor.take(name.len())?;
+        Ok(self.node(2, name))
     }
 
     /// Items divided by commas, at least one.
@@ -99,7 +100,7 @@ impl<'a> Reader<'a> {
         let mut items = Vec::new();
         loop {
             items.push(item(self)?);
-            if !self.cursor.take_sign(b",") {
+            if !self.cursor.take_sign(b",")? {
                 return Ok(self.sequence(items));
             }
         }
@@ -134,7 +135,7 @@ impl<'a> Reader<'a> {
         let name = self.name()?;
         let typed = self.cursor.peek() == b':' && !self.cursor.rest().starts_with(b":=");
         let optional_type = if typed {
-            self.cursor.take(1);
+            self.cursor.take(1)?;
             Some(self.name()?)
         } else {
             None
@@ -143,7 +144,7 @@ impl<'a> Reader<'a> {
     }
 
     fn optional_auto_invariant(&mut self) -> Result<Option<Expr<'a>>> {
-        let auto_inv = if self.cursor.take_keyword(b"autoinv") { Some(self.expr()?) } else { None };
+        let auto_inv = if self.cursor.take_keyword(b"autoinv")? { Some(self.expr()?) } else { None };
         Ok(self.node(1, auto_inv))
     }
 }

@@ -21,14 +21,20 @@ enum Keyword {
     If,
 }
 
-/// A statement's first token. `{` and `loop` open a rule of their own, which keeps them.
+/// What begins a statement, before it is taken: a word of so many bytes, a block's or a loop's first token, or a
+/// name and the place of the mark after it.
 enum Head<'a> {
-    Keyword(Keyword),
+    Keyword(Keyword, usize),
     Block,
     Loop,
-    Assign(Name<'a>),
-    Label(Name<'a>),
-    Call(Name<'a>),
+    Name(Name<'a>, Mark, usize),
+}
+
+#[derive(Clone, Copy)]
+enum Mark {
+    Assign,
+    Label,
+    Call,
 }
 
 fn keyword(word: &[u8]) -> Option<Keyword> {
@@ -57,9 +63,9 @@ impl<'a> Reader<'a> {
             return Err(self.cursor.unusable());
         }
         self.open(place)?;
-        self.cursor.take(1);
+        self.cursor.take(1)?;
         let mut stmts = Vec::new();
-        while let Some(head) = self.head() {
+        while let Some(head) = self.head()? {
             stmts.push(self.stmt(head)?);
         }
         self.cursor.expect_sign(b"}")?;
@@ -76,54 +82,64 @@ impl<'a> Reader<'a> {
         self.node(1, Stmt::Block(stmts))
     }
 
-    /// The first token of a statement, or none, and then nothing is kept.
-    fn head(&mut self) -> Option<Head<'a>> {
+    /// What begins a statement here, if anything does. Between a name and its mark blanks are passed.
+    fn head(&self) -> Result<Option<Head<'a>>> {
         if self.cursor.peek() == b'{' {
-            return Some(Head::Block);
+            return Ok(Some(Head::Block));
         }
         let word = self.cursor.identifier();
         if word.is_empty() {
-            return None;
+            return Ok(None);
         }
         if word == b"loop" {
-            return Some(Head::Loop);
+            return Ok(Some(Head::Loop));
         }
         match keyword(word) {
-            Some(keyword) => {
-                self.cursor.take(word.len());
-                Some(Head::Keyword(keyword))
-            }
-            None => self.marked_name(),
+            Some(keyword) => Ok(Some(Head::Keyword(keyword, word.len()))),
+            None => self.marked(word),
         }
     }
 
     /// A name with `:=`, `:` or `(` after it.
-    fn marked_name(&mut self) -> Option<Head<'a>> {
-        let name = self.cursor.identifier();
+    fn marked(&self, name: Name<'a>) -> Result<Option<Head<'a>>> {
         let mut after = self.cursor;
-        after.take(name.len());
-        let (head, len) = match after.rest() {
-            [b':', b'=', ..] => (Head::Assign(name), 2),
-            [b':', ..] => (Head::Label(name), 1),
-            [b'(', ..] => (Head::Call(name), 1),
-            _ => return None,
+        after.take(name.len())?;
+        let mark = match after.rest() {
+            [b':', b'=', ..] => Mark::Assign,
+            [b':', ..] => Mark::Label,
+            [b'(', ..] => Mark::Call,
+            _ => return Ok(None),
         };
-        after.take(len);
-        self.cursor = after;
-        Some(self.node(2, head))
+        Ok(Some(Head::Name(name, mark, after.at)))
     }
 
     fn stmt(&mut self, head: Head<'a>) -> Result<Stmt<'a>> {
         match head {
-            Head::Keyword(keyword) => self.keyword_stmt(keyword),
+            Head::Keyword(keyword, len) => {
+                self.cursor.take(len)?;
+                self.keyword_stmt(keyword)
+            }
             Head::Block => self.block(),
             Head::Loop => self.loop_stmt(),
-            Head::Assign(lhs) => {
-                let rhs = self.expr()?;
-                Ok(self.node(1, Stmt::Assign { lhs, rhs }))
+            Head::Name(name, mark, at) => {
+                self.cursor.at = at;
+                self.marked_stmt(name, mark)
             }
-            Head::Label(lbl) => self.labeled(lbl),
-            Head::Call(name) => self.call(name),
+        }
+    }
+
+    /// A statement whose mark stands here, after its name.
+    fn marked_stmt(&mut self, name: Name<'a>, mark: Mark) -> Result<Stmt<'a>> {
+        let len = if let Mark::Assign = mark { 2 } else { 1 };
+        self.cursor.take(len)?;
+        let name = self.node(2, name);
+        match mark {
+            Mark::Assign => {
+                let rhs = self.expr()?;
+                Ok(self.node(1, Stmt::Assign { lhs: name, rhs }))
+            }
+            Mark::Label => self.labeled(name),
+            Mark::Call => self.call(name),
         }
     }
 
@@ -136,7 +152,7 @@ impl<'a> Reader<'a> {
                 Ok(self.node(1, Stmt::Reinit(vars)))
             }
             Keyword::Exit => {
-                let label = self.exit_label();
+                let label = self.exit_label()?;
                 Ok(self.node(1, Stmt::Exit(label)))
             }
             Keyword::Return => Ok(self.node(1, Stmt::Return)),
@@ -160,12 +176,10 @@ impl<'a> Reader<'a> {
     fn variable_declaration(&mut self, is_mutable: bool) -> Result<Stmt<'a>> {
         let (name, optional_type) = self.name_and_optional_type()?;
         let auto_inv = self.optional_auto_invariant()?;
-        let init = if self.cursor.take_sign(b":=") { Some(self.expr()?) } else { None };
+        let init = if self.cursor.take_sign(b":=")? { Some(self.expr()?) } else { None };
         let mut stmts = Vec::new();
-        loop {
-            let place = self.cursor.at;
-            let Some(head) = self.head() else { break };
-            self.open(place)?;
+        while let Some(head) = self.head()? {
+            self.open(self.cursor.at)?;
             stmts.push(self.stmt(head)?);
             self.close();
         }
@@ -175,17 +189,17 @@ impl<'a> Reader<'a> {
     }
 
     /// No label where the name leads the next statement.
-    fn exit_label(&mut self) -> Option<Name<'a>> {
+    fn exit_label(&mut self) -> Result<Option<Name<'a>>> {
         let name = self.cursor.identifier();
         let mut after = self.cursor;
-        after.take(name.len());
+        after.take(name.len())?;
         let label = if name.is_empty() || matches!(after.peek(), b':' | b'(') {
             None
         } else {
             self.cursor = after;
             Some(self.node(2, name))
         };
-        self.node(1, label)
+        Ok(self.node(1, label))
     }
 
     fn forall(&mut self) -> Result<Stmt<'a>> {
@@ -196,7 +210,7 @@ impl<'a> Reader<'a> {
 
     fn choose(&mut self) -> Result<Stmt<'a>> {
         let mut branches = vec![self.block()?];
-        while self.cursor.take_keyword(b"or") {
+        while self.cursor.take_keyword(b"or")? {
             branches.push(self.block()?);
         }
         let branches = self.sequence(branches);
@@ -205,7 +219,7 @@ impl<'a> Reader<'a> {
 
     fn if_cont(&mut self) -> Result<Stmt<'a>> {
         let mut cases = Vec::new();
-        while self.cursor.take_keyword(b"case") {
+        while self.cursor.take_keyword(b"case")? {
             let cond = self.expr()?;
             let body = self.block()?;
             cases.push(Case { cond, body });
@@ -221,13 +235,13 @@ impl<'a> Reader<'a> {
         let cond = self.expr()?;
         let thn = self.block()?;
         let els =
-            if self.cursor.take_keyword(b"else") { self.else_part()? } else { self.block_of(Vec::new()) };
+            if self.cursor.take_keyword(b"else")? { self.else_part()? } else { self.block_of(Vec::new()) };
         Ok(self.node(1, Stmt::If(Box::new(If { cond, thn, els }))))
     }
 
     /// The part after `else if` opens the rule `if-cont` with `case` or with its condition.
     fn else_part(&mut self) -> Result<Stmt<'a>> {
-        if !self.cursor.take_keyword(b"if") {
+        if !self.cursor.take_keyword(b"if")? {
             return self.block();
         }
         if !self.at_expr() {
@@ -241,7 +255,7 @@ impl<'a> Reader<'a> {
 
     fn loop_stmt(&mut self) -> Result<Stmt<'a>> {
         self.open(self.cursor.at)?;
-        self.cursor.take(b"loop".len());
+        self.cursor.take(b"loop".len())?;
         let invariants = self.aexprs(b"invariant")?;
         let body = self.boxed_block()?;
         self.close();
@@ -251,7 +265,7 @@ impl<'a> Reader<'a> {
     /// Conditions led by `keyword`: an expression, or a block of assertions.
     pub(super) fn aexprs(&mut self, keyword: &[u8]) -> Result<Vec<AExpr<'a>>> {
         let mut aexprs = Vec::new();
-        while self.cursor.take_keyword(keyword) {
+        while self.cursor.take_keyword(keyword)? {
             let aexpr = if self.cursor.peek() == b'{' {
                 AExpr::Assertion(self.block()?)
             } else {
@@ -275,7 +289,7 @@ impl<'a> Reader<'a> {
     }
 
     fn call_argument(&mut self) -> Result<CallArgument<'a>> {
-        let mode = self.parameter_mode();
+        let mode = self.parameter_mode()?;
         let arg = if mode == ParameterMode::In {
             self.expr()?
         } else {
@@ -285,14 +299,14 @@ impl<'a> Reader<'a> {
         Ok(CallArgument { mode, arg })
     }
 
-    pub(super) fn parameter_mode(&mut self) -> ParameterMode {
-        let mode = if self.cursor.take_keyword(b"inout") {
+    pub(super) fn parameter_mode(&mut self) -> Result<ParameterMode> {
+        let mode = if self.cursor.take_keyword(b"inout")? {
             ParameterMode::InOut
-        } else if self.cursor.take_keyword(b"out") {
+        } else if self.cursor.take_keyword(b"out")? {
             ParameterMode::Out
         } else {
             ParameterMode::In
         };
-        self.node(1, mode)
+        Ok(self.node(1, mode))
     }
 }

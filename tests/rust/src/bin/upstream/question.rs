@@ -1,10 +1,15 @@
 //! A question as a line of crates/trials, and its answers.
 
 use b3_compare::escape::{escape, unescape};
-use b3_compare::refusal::{LARGE_NATURAL, OUTPUT_LIMIT, SHORT_TABLE, TABLE_LIMIT, TOO_DEEP, UNUSABLE};
+use b3_compare::refusal::{
+    LARGE_NATURAL, OUTPUT_LIMIT, SHORT_TABLE, TABLE_LIMIT, TOO_DEEP, UNCLOSED_COMMENT, UNUSABLE,
+};
 use b3_compare::trials::{joined, piece, printed, source};
 use b3_compare::words::{decode_expression, decode_program, encode_expression, encode_program};
 use b3_compare::{print_expression, print_program, read_expression, read_program, Format, Refusal};
+
+/// The words of a program of one type.
+const ONE_TYPE: usize = 8;
 
 /// What upstream and the others are asked.
 pub enum Question {
@@ -79,13 +84,13 @@ impl Question {
             },
             ReadExpression(text) => {
                 let rust = read_expression(text, TABLE_LIMIT);
-                reading_agrees(rust, upstream, |names, words, expr| {
+                reading_agrees(text, rust, upstream, |names, words, expr| {
                     decode_expression(names, words).is_ok_and(|found| found == *expr)
                 })
             }
             ReadProgram(text) => {
                 let rust = read_program(text, TABLE_LIMIT);
-                reading_agrees(rust, upstream, |names, words, program| {
+                reading_agrees(text, rust, upstream, |names, words, program| {
                     decode_program(names, words).is_ok_and(|found| found == *program)
                 })
             }
@@ -99,7 +104,7 @@ pub enum Agreement {
     Same,
     /// Both refuse, at the same place.
     Refused,
-    /// Refused at a limit that upstream doesn't have; upstream went on past the place.
+    /// Refused at a limit that upstream doesn't have, or for a comment that never closes; upstream went on past the place.
     Limit,
     Different,
 }
@@ -117,6 +122,7 @@ impl Agreement {
 /// A reading of the Rust implementation against upstream's answer: words over its names, or
 /// the place where it failed.
 fn reading_agrees<T>(
+    text: &[u8],
     rust: Result<T, Refusal>,
     upstream: &str,
     equal: impl FnOnce(&[u8], &[u32], &T) -> bool,
@@ -136,6 +142,20 @@ fn reading_agrees<T>(
         {
             Agreement::Limit
         }
+        // Upstream takes the comment for one that the text's end closes.
+        (Err(Refusal { number: UNCLOSED_COMMENT, place }), failed)
+            if failed.is_none_or(|failed| failed >= place || lacks_its_mark(text, failed, place)) =>
+        {
+            Agreement::Limit
+        }
         _ => Agreement::Different,
     }
+}
+
+/// Whether only a name and blanks stand between two places: a statement led by a name fails at the name where its mark is
+/// missing, after the comment in the blanks between them.
+fn lacks_its_mark(text: &[u8], name: u32, comment: u32) -> bool {
+    let declared = [b"type ", &text[name as usize..comment as usize]].concat();
+    let read = read_program(&declared, ONE_TYPE);
+    read.is_ok()
 }
