@@ -8,6 +8,7 @@ pub mod Examples
 pub mod RunLaws
 pub mod BlankLaws
 pub mod TokenLaws
+pub mod CommentLaws
 pub mod Upstream
 -- Measures of functions that call each other, for the proofs of upper crates:
 pub mod Ranks
