@@ -22,6 +22,11 @@ int main() {
     bool refused = tidy_refusal_of(unusable) == TIDY_UNUSABLE_TOKEN && tidy_place_of(unusable) == 5 && tidy_bytes_of(unusable) == 0;
     ++(refused ? passed : failed);
 
+    uint64_t open = tidy(bytes("type A /* q"), 11, out, sizeof out);
+    bool unclosed = tidy_refusal_of(open) == TIDY_UNCLOSED_COMMENT && TIDY_UNCLOSED_COMMENT == 12 && tidy_place_of(open) == 7 &&
+                    std::strcmp(tidy_meaning(tidy_refusal_of(open)), "this comment is never closed") == 0;
+    ++(unclosed ? passed : failed);
+
     std::printf("%d passed, %d failed\n", passed, failed);
     return failed == 0 ? 0 : 1;
 }

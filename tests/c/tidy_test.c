@@ -251,7 +251,9 @@ static void test_long_texts(struct memory memory) {
     test_text(memory, "32,769 spaces", repeated("", 32769, " ", ""), refused(TIDY_LONG_TEXT, 32768));
     test_text(memory, "200,000 spaces", repeated("", 200000, " ", ""), refused(TIDY_LONG_TEXT, 32768));
     test_text(memory, "an unusable token and 32,763 spaces", repeated("type 5", 32763, " ", ""), refused(TIDY_LONG_TEXT, 32768));
-    test_text(memory, "a comment of 32,768 bytes", repeated("/*", 32766, "\xff", ""), prints_string(empty));
+    test_text(memory, "a comment of 32,768 bytes", repeated("/*", 32764, "\xff", "*/"), prints_string(empty));
+    test_text(memory, "a comment of 32,768 bytes that never closes", repeated("/*", 32766, "\xff", ""), refused(TIDY_UNCLOSED_COMMENT, 0));
+    test_text(memory, "a comment of 32,769 bytes that never closes", repeated("/*", 32767, "\xff", ""), refused(TIDY_LONG_TEXT, 32768));
 
     struct text print = repeated("// B3 program\n\ntype ", 32763, "a", "\n");
     test_text(memory, "a name of 32,763 bytes", repeated("type ", 32763, "a", ""), prints(bytes_of(print)));
@@ -267,6 +269,22 @@ static void test_unusable_tokens(struct memory memory) {
     test_string(memory, "procedure p() { x", refused(TIDY_UNUSABLE_TOKEN, 16));
     struct bytes zero = {(const uint8_t *)"type A\0", 7};
     count(calls_hold(memory, "a byte 0", zero, refused(TIDY_UNUSABLE_TOKEN, 6)));
+}
+
+static void test_unclosed_comments(struct memory memory) {
+    struct bytes lamp = bytes_of_string("// B3 program\n\ntype Lamp\n");
+    test_string(memory, "/* q", refused(TIDY_UNCLOSED_COMMENT, 0));
+    test_string(memory, "type Lamp /* q", refused(TIDY_UNCLOSED_COMMENT, 10));
+    test_string(memory, "type Lamp /* q */", prints(lamp));
+    test_string(memory, "type Lamp /**/ /*/", refused(TIDY_UNCLOSED_COMMENT, 15));
+    test_string(memory, "type Lamp // /* q", prints(lamp));
+    test_string(memory, "x /* q", refused(TIDY_UNUSABLE_TOKEN, 0));
+    test_string(memory, "procedure p() { x /* q", refused(TIDY_UNCLOSED_COMMENT, 18));
+    test_string(memory, "axiom 18446744073709551616/* q", refused(TIDY_LARGE_NATURAL, 6));
+    test_text(memory, "comments in comments", repeated("", 8192, "/*", ""), refused(TIDY_UNCLOSED_COMMENT, 0));
+    test_text(memory, "200 brackets and such a comment", repeated("axiom ", 200, "(", "a /* q"), refused(TIDY_TOO_DEEP, 206));
+    test_text(memory, "199 brackets and such a comment", repeated("axiom ", 199, "(", "a /* q"), refused(TIDY_UNCLOSED_COMMENT, 207));
+    test_text(memory, "too many words and such a comment", repeated("axiom ", 4094, "-", "a /* q"), refused(TIDY_UNCLOSED_COMMENT, 4102));
 }
 
 static void test_depth(struct memory memory) {
@@ -349,6 +367,7 @@ static void test_null(void) {
     count(tidy(NULL, 0, out, sizeof out) == 14 && memcmp(out, "// B3 program\n", 14) == 0);
     count(tidy((const uint8_t *)"type A", 6, NULL, 0) == (uint64_t)TIDY_SHORT_OUTPUT << 32);
     count(tidy((const uint8_t *)"type 5", 6, NULL, 0) == ((uint64_t)TIDY_UNUSABLE_TOKEN << 32) + 5);
+    count(tidy((const uint8_t *)"type A/*", 8, NULL, 0) == ((uint64_t)TIDY_UNCLOSED_COMMENT << 32) + 6);
 }
 
 /* ---- two threads */
@@ -404,6 +423,7 @@ int main(int argc, char **argv) {
     test_examples(memory, argv[1]);
     test_long_texts(memory);
     test_unusable_tokens(memory);
+    test_unclosed_comments(memory);
     test_depth(memory);
     test_naturals(memory);
     test_words(memory);
