@@ -42,8 +42,8 @@ fn word_counts_are_the_trees() {
     });
 }
 
-/// How many texts of `whole` are read. Before a token of such a text a comment that closes changes nothing, and one that
-/// never closes is refused there.
+/// How many texts of `whole` are read. Before a token of such a text, and at its end, a comment that closes changes
+/// nothing, and one that never closes is refused.
 fn read_with_comments(
     whole: fn(&mut Random) -> Source<'_>,
     read: fn(&[u8]) -> Result<String, Refusal>,
@@ -54,9 +54,10 @@ fn read_with_comments(
         let Source { text, starts, random, .. } = whole(random);
         let Ok(tree) = read(&text) else { continue };
         count += 1;
-        for _ in 0..starts.len().min(8) {
-            let start = starts[random.below(starts.len())];
-            let (before, after) = text.split_at(start);
+        let whole_line = [&text[..], b"\n"].concat();
+        for part in 0..=starts.len().min(8) {
+            let start = if part == 0 { whole_line.len() } else { starts[random.below(starts.len())] };
+            let (before, after) = whole_line.split_at(start);
             assert_eq!(read(&[before, b"/* /* q */ */", after].concat()).as_ref(), Ok(&tree));
             let unclosed = [before, b"/* /* q */"].concat();
             assert_eq!(read(&unclosed), Err(Refusal::new(12, start)), "{}", escape(&unclosed));

@@ -200,8 +200,8 @@ fn depth_201_needs_its_first_token() {
     assert!(read(&format!("{}f(){}", "(".repeat(199), ")".repeat(199))).is_ok());
 }
 
-/// Depth 201 is refused at what begins a rule, before the blanks after it: of a statement led by a name, at the name with
-/// its mark.
+/// Depth 201 is refused at what begins a rule, before the blanks after that; a name begins a statement with its mark
+/// alone.
 #[test]
 fn depth_201_comes_before_the_blanks_after_it() {
     let brackets = "(".repeat(200);

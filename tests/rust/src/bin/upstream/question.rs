@@ -104,7 +104,8 @@ pub enum Agreement {
     Same,
     /// Both refuse, at the same place.
     Refused,
-    /// Refused at a limit that upstream doesn't have, or for a comment that never closes; upstream went on past the place.
+    /// Refused at a limit that upstream doesn't have, or at a comment that never closes; upstream went on past the
+    /// place.
     Limit,
     Different,
 }
@@ -152,8 +153,8 @@ fn reading_agrees<T>(
     }
 }
 
-/// Whether only a name and blanks stand between two places: a statement led by a name fails at the name where its mark is
-/// missing, after the comment in the blanks between them.
+/// Whether only a name and blanks stand between two places: where the mark of a statement led by a name is missing,
+/// upstream fails at the name, having passed the comment after it.
 fn lacks_its_mark(text: &[u8], name: u32, comment: u32) -> bool {
     let declared = [b"type ", &text[name as usize..comment as usize]].concat();
     let read = read_program(&declared, ONE_TYPE);
