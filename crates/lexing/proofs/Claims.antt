@@ -5,11 +5,13 @@ use Rattle.std.proofs.Math.Option.{none, some}
 use Rattle.lexing.specs.Answer.{ok, refused, large_natural}
 use Rattle.lexing.specs.Bytes.{is_digit, identifier_char, run, starts_with, same_bytes}
 use Rattle.lexing.specs.Blanks.{passed, unclosed, long_comment, closing, opening, neither, mark, W}
+use Rattle.lexing.specs.Refused.{Meets, Refused}
 use Rattle.lexing.specs.Tokens.{identifier_length, parse_id, parse_custom_literal, keyword, sign, sign_not_prefix, natural, decimal, most_natural}
 use Rattle.lexing.specs.BlankLaws as laws
-use Rattle.lexing.specs.CommentLaws as comments
 use Rattle.lexing.specs.TokenLaws as tokens
 use Rattle.lexing.specs.Upstream as upstream
+use Rattle.lexing.proofs.Refusals as refusals
+use Rattle.lexing.proofs.UpstreamBlanks as blanks
 
 -- ---- upstream's `PositionAfterEndOfLongComment`: `start <= len <= end`, and the four equations of its body
 
@@ -57,46 +59,46 @@ signs-not-prefix-inside = tokens.sign_not_prefix-within
 
 -- ---- blanks are refused at the long comment that they meet and that is not closed, and only there: `Meets`, an outermost opening mark
 
-unclosed-exactly : (s : List ℕ) (p : ℕ) → (W s ≡ unclosed p) ↔ (comments.Meets s p × (long_comment 0 (drop (p + 2) s) ≡ none))
-unclosed-exactly = comments.W-refused
+unclosed-exactly : (s : List ℕ) (p : ℕ) → (W s ≡ unclosed p) ↔ (Meets s p × (long_comment 0 (drop (p + 2) s) ≡ none))
+unclosed-exactly = refusals.W-refused
 
-unclosed-once : (s : List ℕ) (p q : ℕ) → comments.Meets s p × (long_comment 0 (drop (p + 2) s) ≡ none)
-    → comments.Meets s q × (long_comment 0 (drop (q + 2) s) ≡ none) → p ≡ q
-unclosed-once = comments.W-refused-once
+unclosed-once : (s : List ℕ) (p q : ℕ) → Meets s p × (long_comment 0 (drop (p + 2) s) ≡ none)
+    → Meets s q × (long_comment 0 (drop (q + 2) s) ≡ none) → p ≡ q
+unclosed-once = refusals.W-refused-once
 
-closed-else : (s : List ℕ) (p : ℕ) → comments.Meets s p → (W s ≡ unclosed p → ⊥) → (n : ℕ) × (long_comment 0 (drop (p + 2) s) ≡ some n)
-closed-else = comments.met-closed
+closed-else : (s : List ℕ) (p : ℕ) → Meets s p → (W s ≡ unclosed p → ⊥) → (n : ℕ) × (long_comment 0 (drop (p + 2) s) ≡ some n)
+closed-else = refusals.met-closed
 
 -- upstream takes as many bytes, and all of the text where blanks are refused
 
 blanks-as-upstream : (s : List ℕ) → upstream.W s ≡ upstream.to_end (length s) (W s)
-blanks-as-upstream = upstream.W-to_end
+blanks-as-upstream = blanks.W-to_end
 
 -- ---- a token is refused in the blanks after it alone, at the comment's place; a natural also where it is too large
 
 module _ (number place : ℕ) where
-  names-refused : (s : List ℕ) → (parse_id s ≡ refused number place) ↔ ((0 < identifier_length s) × comments.Refused (identifier_length s) s number place)
-  names-refused = comments.parse_id-refused
+  names-refused : (s : List ℕ) → (parse_id s ≡ refused number place) ↔ ((0 < identifier_length s) × Refused (identifier_length s) s number place)
+  names-refused = refusals.parse_id-refused
 
   keywords-refused : (w s : List ℕ) → (keyword w s ≡ refused number place)
-      ↔ ((same_bytes (take (identifier_length s) s) w ≡ true) × comments.Refused (identifier_length s) s number place)
-  keywords-refused = comments.keyword-refused
+      ↔ ((same_bytes (take (identifier_length s) s) w ≡ true) × Refused (identifier_length s) s number place)
+  keywords-refused = refusals.keyword-refused
 
-  signs-refused : (w s : List ℕ) → (sign w s ≡ refused number place) ↔ ((starts_with w s ≡ true) × comments.Refused (length w) s number place)
-  signs-refused = comments.sign-refused
+  signs-refused : (w s : List ℕ) → (sign w s ≡ refused number place) ↔ ((starts_with w s ≡ true) × Refused (length w) s number place)
+  signs-refused = refusals.sign-refused
 
   signs-not-prefix-refused : (w longer s : List ℕ) → (sign_not_prefix w longer s ≡ refused number place)
-      ↔ ((starts_with longer s ≡ false) × ((starts_with w s ≡ true) × comments.Refused (length w) s number place))
-  signs-not-prefix-refused = comments.sign_not_prefix-refused
+      ↔ ((starts_with longer s ≡ false) × ((starts_with w s ≡ true) × Refused (length w) s number place))
+  signs-not-prefix-refused = refusals.sign_not_prefix-refused
 
   naturals-refused : (s : List ℕ) → (natural s ≡ refused number place)
       ↔ ((0 < run is_digit s)
-      × (((leb (decimal 0 (take (run is_digit s) s)) most_natural ≡ true) × comments.Refused (run is_digit s) s number place)
+      × (((leb (decimal 0 (take (run is_digit s) s)) most_natural ≡ true) × Refused (run is_digit s) s number place)
       ⊎ ((leb (decimal 0 (take (run is_digit s) s)) most_natural ≡ false) × (number ≡ large_natural) × (place ≡ 0))))
-  naturals-refused = comments.natural-refused
+  naturals-refused = refusals.natural-refused
 
   literals-unrefused : (s : List ℕ) → parse_custom_literal s ≡ refused number place → ⊥
-  literals-unrefused = comments.parse_custom_literal-unrefused
+  literals-unrefused = refusals.parse_custom_literal-unrefused
 
 -- ---- blanks are taken whole: none stands after them, nor after a token
 

@@ -2,6 +2,8 @@
 pub mod Lists
 pub mod Comments
 pub mod Returns
+pub mod Refusals
+pub mod UpstreamBlanks
 pub mod Claims
 pub mod Naturals
 mod Named

@@ -2,17 +2,15 @@
 -- equations of its body; `W`, where a long comment that is not closed runs to the text's end, equal to ours save there; `T(s)`, the bytes of s
 -- with no identifier character after them, equal to ours.
 use Rattle.std.specs.Prelude.{◌≡◌, refl, Bool, true, false, ◌&&◌, not, List, [], ◌∷◌, ◌++◌, ℕ, zero, suc, ◌+◌, ◌-◌, ◌≤◌, ◌<◌, length, take, drop, get_or}
-use Rattle.std.proofs.Common.{sym, ◌∙◌, add-one, arith, length-drop, drop-drop, get_or-drop, eq-eqb}
-use Rattle.std.proofs.Math.Option.{Option, none as never, some}
+use Rattle.std.proofs.Common.{sym, ◌∙◌, add-one, arith, drop-drop, get_or-drop, eq-eqb}
 use Rattle.std.proofs.Math.Path.{ap}
 use Rattle.std.proofs.Math.Seq.{take-append_seam, slice, slice-cons, length-slice}
 use Rattle.lexing.specs.Answer.{Answer, none, pick}
 use Rattle.lexing.specs.Bytes.{is_space, not_newline, identifier_char, can_start_identifier_char, run, starts_with, same_bytes}
 use Rattle.lexing.specs.Tokens.{lexeme, identifier_length, keyword}
-use Rattle.lexing.specs.Blanks as ours
-use Rattle.lexing.specs.Blanks.{Blanks, passed, unclosed, further, long_comment, or_else, comment, closing, opening, neither, mark, position_after_end_of_long_comment}
+use Rattle.lexing.specs.Blanks.{Blanks, passed, unclosed, closing, opening, neither, mark, position_after_end_of_long_comment}
 use Rattle.lexing.specs.BlankLaws.{position-inside, position-short, position-closing, position-opening, position-neither}
-use Rattle.lexing.specs.TokenLaws.{same_bytes-refl, starts_with-true, starts_with-inside, identifier-maximal, keyword-is}
+use Rattle.lexing.specs.TokenLaws.{same_bytes-refl, starts_with-true, identifier-maximal, keyword-is}
 
 -- the place after the long comment that is open at `start`, as the code's contract has it
 unfoldable pub position_from : List ℕ → ℕ → ℕ → ℕ
@@ -99,47 +97,6 @@ W s = blanks_from 0 s
 abbrev pub to_end : ℕ → Blanks → ℕ
 to_end n (passed k) = k
 to_end n (unclosed place) = n
-
-to_end-further : (n : ℕ) (r : Blanks) → suc (to_end n r) ≡ to_end (suc n) (further 1 r)
-to_end-further n (passed k) = omega arith
-to_end-further n (unclosed place) = refl
-
--- a blank as long as the text
-blanks_from-all : (s : List ℕ) → blanks_from (length s) s ≡ length s
-unfolding blanks_from
-blanks_from-all [] = refl
-blanks_from-all (a ∷ s) = ap suc (blanks_from-all s)
-
-blank-to_end : (s : List ℕ) → blank s ≡ to_end (length s) (ours.blank s)
-unfolding blank ours.blank position_after_end_of_long_comment
-blank-to_end [] = refl
-blank-to_end (a ∷ s) = by-tests (is_space a) (starts_with (47 ∷ 47 ∷ []) (a ∷ s)) (starts_with (47 ∷ 42 ∷ []) (a ∷ s)) refl (long_comment 0 (drop 1 s))
-  where
-    by-tests : (t u v : Bool) → starts_with (47 ∷ 42 ∷ []) (a ∷ s) ≡ v → (r : Option ℕ)
-        → pick t 1 (pick u (1 + run not_newline s) (pick v (2 + or_else (length (drop 1 s)) r) 0))
-        ≡ to_end (suc (length s)) (pick t (passed 1) (pick u (passed (1 + run not_newline s)) (pick v (comment r) (passed 0))))
-    by-tests true u v e r = refl
-    by-tests false true v e r = refl
-    by-tests false false true e (some n) = refl
-    by-tests false false true e never = omega (arith, length-drop 1 s, starts_with-inside (47 ∷ 42 ∷ []) (a ∷ s) e)
-    by-tests false false false e r = refl
-
-blanks-to_end : (k : ℕ) (s : List ℕ) → blanks_from k s ≡ to_end (length s) (ours.blanks_from k s)
-unfolding blanks_from ours.blanks_from
-blanks-to_end k [] = refl
-blanks-to_end zero (a ∷ s) = by-blank (blank (a ∷ s)) (ours.blank (a ∷ s)) (blank-to_end (a ∷ s)) (λ k. blanks-to_end k s)
-  where
-    by-blank : (n : ℕ) (r : Blanks) → n ≡ to_end (suc (length s)) r → ((k : ℕ) → blanks_from k s ≡ to_end (length s) (ours.blanks_from k s))
-        → elim n [ zero ↦ 0 | suc k ↦ suc (blanks_from k s) ] ≡ to_end (suc (length s)) (ours.onward r (λ k. ours.blanks_from k s))
-    by-blank n (passed zero) e f = rw e refl
-    by-blank n (passed (suc k)) e f = rw e (ap suc (f k) ∙ to_end-further (length s) (ours.blanks_from k s))
-    by-blank n (unclosed place) e f = rw e (ap suc (blanks_from-all s))
-blanks-to_end (suc k) (a ∷ s) = ap suc (blanks-to_end k s) ∙ to_end-further (length s) (ours.blanks_from k s)
-
--- upstream's blanks are ours, save that they take the whole text where ours are refused
-pub W-to_end : (s : List ℕ) → W s ≡ to_end (length s) (ours.W s)
-unfolding W ours.W
-W-to_end s = blanks-to_end 0 s
 
 -- ---- `T(s)`
 

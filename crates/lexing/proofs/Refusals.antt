@@ -3,26 +3,14 @@
 use Rattle.std.specs.Prelude.{◌≡◌, ◌↔◌, refl, Bool, true, false, ◌⊎◌, List, [], ◌∷◌, ℕ, zero, suc, ◌+◌, ◌≤◌, ◌<◌, length, take, drop, leb}
 use Rattle.std.proofs.Common.{sym, ap, ◌∙◌, inl, inr, arith, le_refl, length-drop, drop-drop}
 use Rattle.std.proofs.Math.Option.{Option, none as never, some}
-use Rattle.lexing.specs.Answer.{Answer, ok, none, refused, unclosed_comment, large_natural, pick}
+use Rattle.lexing.specs.Answer.{Answer, ok, none, refused, large_natural, pick}
 use Rattle.lexing.specs.Bytes.{starts_with, same_bytes, is_space, is_digit, custom_literal_char, run}
 use Rattle.lexing.specs.Blanks.{Blanks, passed, unclosed, further, long_comment, comment, blank, blanks_from, W}
 use Rattle.lexing.specs.Tokens.{closed, lexeme, unless_empty, identifier_length, parse_id, parse_custom_literal, keyword, sign, sign_not_prefix, natural, decimal, most_natural}
+use Rattle.lexing.specs.Refused.{Leads, here, later, Opens, Meets, Refused}
 use Rattle.lexing.specs.RunLaws.{pick-cases}
 use Rattle.lexing.specs.BlankLaws.{W-blank, W-none, W-unclosed, further-zero, further-further}
 use Rattle.lexing.specs.TokenLaws.{starts_with-true}
-
--- Blanks, one after another, lead from the start of s to the place p. A long comment among them is passed whole, so no place inside one is led to.
-pub data Leads : List ℕ → ℕ → Type 0 where
-  here : {s : List ℕ} → Leads s 0
-  later : {s : List ℕ} {k p : ℕ} → blank s ≡ passed (suc k) → Leads (drop (suc k) s) p → Leads s (suc k + p)
-
--- `/*` stands at the start
-abbrev pub Opens : List ℕ → Type 0
-Opens s = starts_with (47 ∷ 42 ∷ []) s ≡ true
-
--- Blanks meet a long comment at the place p: its opening mark is an outermost one.
-abbrev pub Meets : List ℕ → ℕ → Type 0
-Meets s p = Leads s p × Opens (drop p s)
 
 -- the blank at an opening mark is the long comment
 blank-comment : (s : List ℕ) → Opens s → blank s ≡ comment (long_comment 0 (drop 2 s))
@@ -102,10 +90,6 @@ met-closed s p m f = by_end (long_comment 0 (drop (p + 2) s)) refl
     by_end (some n) e = (n, refl)
 
 -- ---- tokens, each by the tests of its definition
-
--- the blanks after a token of n bytes are refused, by this number at this place
-abbrev pub Refused : ℕ → List ℕ → ℕ → ℕ → Type 0
-Refused n s number place = (k : ℕ) × (number ≡ unclosed_comment) × (W (drop n s) ≡ unclosed k) × (n + k ≡ place)
 
 module _ {number place : ℕ} where
   -- a token with the blanks after it is refused where they are
