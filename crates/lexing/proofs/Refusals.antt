@@ -13,7 +13,7 @@ use Rattle.lexing.specs.BlankLaws.{W-blank, W-none, W-unclosed, further-zero, fu
 use Rattle.lexing.specs.TokenLaws.{starts_with-true}
 
 -- the blank at an opening mark is the long comment
-blank-comment : (s : List ℕ) → Opens s → blank s ≡ comment (long_comment 0 (drop 2 s))
+pub blank-comment : (s : List ℕ) → Opens s → blank s ≡ comment (long_comment 0 (drop 2 s))
 unfolding blank is_space starts_with
 blank-comment s o = ap blank (starts_with-true (47 ∷ 42 ∷ []) s o)
 

@@ -1,6 +1,6 @@
 -- Upstream's own forms of three definitions: `PositionAfterEndOfLongComment(input, start, end)` with its parameters, its `ensures` and the four
--- equations of its body; `W`, where a long comment that is not closed runs to the text's end, equal to ours save there; `T(s)`, the bytes of s
--- with no identifier character after them, equal to ours.
+-- equations of its body; `W` over `W1`, where a long comment that is not closed runs to the text's end, equal to ours save there; `T(s)`, the
+-- bytes of s with no identifier character after them, equal to ours.
 use Rattle.std.specs.Prelude.{◌≡◌, refl, Bool, true, false, ◌&&◌, not, List, [], ◌∷◌, ◌++◌, ℕ, zero, suc, ◌+◌, ◌-◌, ◌≤◌, ◌<◌, length, take, drop, get_or}
 use Rattle.std.proofs.Common.{sym, ◌∙◌, add-one, arith, drop-drop, get_or-drop, eq-eqb}
 use Rattle.std.proofs.Math.Path.{ap}
@@ -72,26 +72,46 @@ module _ (input : List ℕ) (start end : ℕ) (h : start + 2 < end) (k : end ≤
       ∙ ap (λ t. start + 1 + position_after_end_of_long_comment t) (one (start + 1) (start + 2) (omega arith) (omega arith)) in
       omega (arith, two, position-neither _ (get_or input (start + 1) 0) s e)
 
--- ---- `W`
+-- ---- `W1`, `W`, by how many bytes each takes
 
--- the one blank at the start: a character of `WS`, a comment to the line's end (`W1`), or `/*` and what `parseUntilEndOfLongComment` takes
-unfoldable pub blank : List ℕ → ℕ
-blank [] = 0
-blank (a ∷ s) =
-    pick (is_space a) 1
-    (pick (starts_with (47 ∷ 47 ∷ []) (a ∷ s)) (1 + run not_newline s)
-    (pick (starts_with (47 ∷ 42 ∷ []) (a ∷ s)) (2 + position_after_end_of_long_comment (drop 1 s)) 0))
+-- n bytes, and what q takes after them
+abbrev pub and_then : ℕ → (List ℕ → ℕ) → List ℕ → ℕ
+and_then n q s = n + q (drop n s)
 
--- `W`, with k bytes of a blank still to pass
-unfoldable pub blanks_from : ℕ → List ℕ → ℕ
-blanks_from k [] = 0
-blanks_from zero (a ∷ s) = elim (blank (a ∷ s)) [ zero ↦ 0 | suc k ↦ suc (blanks_from k s) ]
-blanks_from (suc k) (a ∷ s) = suc (blanks_from k s)
+-- `p.Rep()`, where p takes no byte if it fails, with k bytes of one p still to pass
+unfoldable pub rep_from : (List ℕ → ℕ) → ℕ → List ℕ → ℕ
+rep_from p k [] = 0
+rep_from p zero (a ∷ s) = elim (p (a ∷ s)) [ zero ↦ 0 | suc k ↦ suc (rep_from p k s) ]
+rep_from p (suc k) (a ∷ s) = suc (rep_from p k s)
 
--- `W`: blank after blank
+unfoldable pub rep : (List ℕ → ℕ) → List ℕ → ℕ
+unfolding rep_from
+rep p s = rep_from p 0 s
+
+-- `WS`
+abbrev pub WS : List ℕ → ℕ
+WS s = run is_space s
+
+-- `S("\n")`, or at the text's end nothing
+abbrev pub newline : List ℕ → ℕ
+newline s = pick (starts_with (10 ∷ []) s) 1 0
+
+-- `S("//")`, `notNewline.Rep()`, the newline or the text's end, and `WS`
+unfoldable pub line : List ℕ → ℕ
+line s = pick (starts_with (47 ∷ 47 ∷ []) s) (and_then (and_then (2 + run not_newline (drop 2 s)) newline s) WS s) 0
+
+unfoldable pub W1 : List ℕ → ℕ
+unfolding rep line
+W1 s = and_then (WS s) (rep line) s
+
+-- `S("/*")`, `parseUntilEndOfLongComment` and `W1`
+unfoldable pub long : List ℕ → ℕ
+unfolding W1
+long s = pick (starts_with (47 ∷ 42 ∷ []) s) (and_then (2 + position_after_end_of_long_comment (drop 2 s)) W1 s) 0
+
 unfoldable pub W : List ℕ → ℕ
-unfolding blanks_from
-W s = blanks_from 0 s
+unfolding W1 rep long
+W s = and_then (W1 s) (rep long) s
 
 -- upstream's reach in a text of n bytes: where ours are refused, the whole text
 abbrev pub to_end : ℕ → Blanks → ℕ
