@@ -1,18 +1,25 @@
 -- The branches of a statement that begin with a word: the rule after each lead, and that it keeps something.
 use Rattle.std.proofs.Common.{ℕ, zero, suc, ◌≤◌, refl, Bool, true, false, List, arith}
-use Rattle.lexing.specs.Answer.{Answer}
-use Rattle.tree.specs.Ast.{Span, Stmt}
-use Rattle.grammar.specs.Steps.{must}
-use Rattle.grammar.specs.Statements.{Gallery, parse_variable_declaration, after_forall, after_choose, parse_if_cont}
+use Rattle.lexing.specs.Answer.{Answer, refused, level_too_deep}
+use Rattle.lexing.specs.Bytes.{bytes}
+use Rattle.tree.specs.Ast.{Span, Stmt, Loop}
+use Rattle.grammar.specs.Steps.{need, must, mapped}
+use Rattle.grammar.specs.Statements.{Gallery, parse_a_expr_seq, parse_variable_declaration, after_forall, after_choose, parse_if_cont}
 use Rattle.parsing.specs.Contract.{Rule}
 use Rattle.parsing.specs.Code.{turns, opened}
-use Rattle.parsing.specs.Statements.{loop_body, simple_rule, named_stmt}
+use Rattle.parsing.specs.Statements.{simple_rule, named_stmt}
 use Rattle.parsing.specs.declared.lead.Lead.{Lead}
 use Rattle.parsing.specs.declared.lead.Lead.TheVariants as lead
 use Rattle.parsing.specs.declared.lead.Simple.{Simple}
 use Rattle.parsing.specs.declared.lead.Simple.TheVariants as simple
 use Rattle.parsing.proofs.StatementWords.{Keeps, needed-keeps}
 use Rattle.parsing.proofs.StatementEquations.{ok-keeps}
+
+-- after `loop`, which stands at `start`
+abbrev pub loop_body : ℕ → ℕ → Rule (Stmt Span)
+loop_body zero start text at = refused level_too_deep start
+loop_body (suc d) start text at =
+    need at (parse_a_expr_seq text (turns text) (opened d text) (bytes "invariant") at) (λ is at₁. must at₁ (mapped (Loop is) ((opened d text).block at₁)))
 
 -- after the word n, by its lead
 abbrev pub lead_rule : Lead → ℕ → Span → Rule (Stmt Span)

@@ -1,15 +1,19 @@
 -- Places of the statement rules: rules that leave a node, how such rules end, and what is left of the answer said otherwise.
-use Rattle.std.proofs.Common.{ℕ, ◌+◌, ◌*◌, ◌-◌, ◌≤◌, ◌≡◌, ◌∙◌, refl, sym, ap, subst, List, [], ◌∷◌, length, true, leb, Option, Some, None, Result, Ok, Err, arith}
+use Rattle.std.proofs.Common.{ℕ, ◌+◌, ◌*◌, ◌-◌, ◌≤◌, ◌≡◌, ◌∙◌, refl, sym, ap, subst, Bool, List, [], ◌∷◌, length, true, false, leb, Option, Some, None, Result, Ok, Err, arith}
 use borrow.Author.Tests.{leb-true}
 use Rattle.std.specs.Result.{IsErrAnd}
 use Rattle.std.proofs.lemmas.Result.{err_from_is_err_and}
 use Rattle.lexing.specs.Answer.{Answer, ok, refused, unusable_token}
 use Rattle.lexing.specs.CodeAnswers.{number}
+use Rattle.lexing.specs.declared.refusal.Reason.TheVariants.{LevelTooDeep}
 use Rattle.lexing.specs.declared.refusal.Refusal.{Refusal}
+use Rattle.tree.specs.Clash.{impossible}
 use Rattle.grammar.specs.Steps.{after, need, mapped, parse_name}
+use Rattle.grammar.specs.Statements.{too_deep}
 use Rattle.grammar.specs.StepLaws.{mapped-same}
 use Rattle.parsing.specs.Arena.{Run, Holds}
-use Rattle.parsing.specs.Contract.{Rule, needed, Read, Reads, Later, Spare, Named, Took}
+use Rattle.parsing.specs.Contract.{Rule, needed, Read, Reads, Later, Spare, Named, Took, Takes_if}
+use Rattle.parsing.specs.TooDeep.{too_deep_if}
 use Rattle.parsing.specs.Statements.{Stayed, Nothing, Spared, Spares, Spares_if, Stops}
 use Rattle.parsing.specs.declared.parser.Name.{Name}
 use Rattle.parsing.specs.declared.parser.Parser.{Parser}
@@ -46,6 +50,30 @@ module _ {A : Type 0} (words : A → Run) (rule : Rule A) (p q : Parser) (e : Re
 pub stops_err : {A : Type 0} (rule : Rule A) (p q : Parser) (e : Refusal) → rule p.text.now p.at ≡ refused (number e.reason) e.place
     → (r : Result Unit Refusal) → IsErrAnd r (λ y. y ≡ e) → Stops rule p q r
 stops_err rule p q e s r h = let p = err_from_is_err_and r h in rw (p.1, p.2) s
+
+-- a token that is too deep if it stands: what is refused, and that nothing was kept
+module _ (rule : Rule ℕ) (least : ℕ) (p q : Parser) where
+  pub deep-says : {B : Type 0} (place : ℕ) (r : Result Bool Refusal) {e : Refusal} → Takes_if rule least p q r → Err e ≡ too_deep_if place r
+      → too_deep {B = B} place (rule p.text.now p.at) ≡ refused (number e.reason) e.place
+  unfolding too_deep
+  deep-says place (Ok true) {e} t h = let s : e ≡ record { reason = LevelTooDeep; place = place } = cc in rw (s, t.says) refl
+  deep-says place (Ok false) {e} t h = impossible (cc)
+  deep-says place (Err d) {e} t h = let s : e ≡ record { reason = LevelTooDeep; place = place } = cc in rw (s, t) refl
+
+  pub deep-none : {B : Type 0} (place : ℕ) (r : Result Bool Refusal) {u : Unit} → Takes_if rule least p q r → Ok u ≡ too_deep_if place r
+      → (too_deep {B = B} place (rule p.text.now p.at) ≡ Answer.none) × (q ≡ p)
+  unfolding too_deep
+  deep-none place (Ok true) {u} t h = impossible (cc)
+  deep-none place (Ok false) {u} t h = (rw t.says refl, t.same)
+  deep-none place (Err d) {u} t h = impossible (cc)
+
+  -- a rule that is too deep where such a token stands
+  pub deep-stops : {A : Type 0} (other : Rule A) (r : Result Bool Refusal) → Takes_if rule least p q r
+      → other p.text.now p.at ≡ too_deep p.at (rule p.text.now p.at) → Stops other p q (too_deep_if p.at r)
+  unfolding too_deep
+  deep-stops other (Ok true) t e = e ∙ rw t.says refl
+  deep-stops other (Ok false) t e = record { says = e ∙ rw t.says refl; stayed = stay t.same }
+  deep-stops other (Err d) t e = e ∙ rw t refl
 
 pub ruleset sparing = (spares_err, spares_if_err, stops_err)
 

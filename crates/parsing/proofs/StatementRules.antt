@@ -1,47 +1,68 @@
 -- The statement rules by what stands at a place: no level left, a word, a name, or neither.
-use Rattle.std.proofs.Common.{ℕ, zero, suc, ◌-◌, ◌≤◌, ◌<◌, ◌≡◌, ◌∙◌, refl, sym, ap, Bool, true, false, List, [], ◌∷◌, ◌++◌, take, drop, arith}
+use Rattle.std.proofs.Common.{ℕ, eqb, eqb-true, zero, suc, ◌-◌, ◌≤◌, ◌<◌, ◌≡◌, ◌∙◌, refl, sym, ap, Bool, true, false, not, ◌&&◌, ◌||◌, List, [], ◌∷◌, ◌++◌, take, drop, arith}
 use mathlib.Core.Path.{fun_ext}
 use Rattle.std.proofs.Math.Option.{Option, none, some}
 use Rattle.std.proofs.Math.Nat.{le_refl}
 use Prim.Native.String.{String}
-use mathlib.Core.Bool.{◌||◌}
-use Rattle.lexing.specs.Answer.{Answer, ok, refused, pick, moved}
+use Rattle.lexing.specs.Answer.{Answer, ok, refused, pick}
 use Rattle.lexing.specs.Bytes.{starts_with, same_bytes, can_start_identifier_char, bytes}
-use Rattle.lexing.specs.BlankLaws.{W-closed}
-use Rattle.lexing.specs.Tokens.{closed, lexeme, identifier_length, sign}
-use Rattle.lexing.specs.TokenLaws.{starts_with-true}
-use Rattle.tree.specs.Ast.{Span, Stmt, Block, Loop}
+use Rattle.lexing.specs.Tokens.{identifier_length, sign}
+use Rattle.lexing.specs.RunLaws.{both_true}
+use Rattle.lexing.specs.TokenLaws.{same_bytes-true, starts_with-true}
+use Rattle.tree.specs.Ast.{Span, Stmt, Block, Loop as Loop-stmt}
+use Rattle.tree.specs.Clash.{impossible}
 use Rattle.grammar.specs.Steps.{after, need, must, mapped, ◌or◌, T, Sym, sign_at, parse_name}
 use Rattle.grammar.specs.Statements.{Gallery, gallery, statements, aexprs, rep, rep_till, atomic, mark, word_of, too_deep, simple_words, statement_words, parse_stmt, parse_block, parse_loop, parse_a_expr, parse_a_expr_seq, parse_if_cont, after_assign, after_label, after_call}
 use Rattle.parsing.specs.Code.{turns, opened}
-use Rattle.parsing.specs.Leads.{leads_before, leads_after, leads, lead_of}
+use Rattle.parsing.specs.Leads.{classed, leads_before, leads_after, leads, is_loop, opens_none, lead_of}
 use Rattle.parsing.specs.Contract.{needed}
-use Rattle.parsing.specs.Statements.{loop_body, named_stmt, scope_stmt}
+use Rattle.parsing.specs.Statements.{after_loop, named_stmt, scope_stmt}
 use Rattle.parsing.specs.declared.lead.Lead.{Lead}
-use Rattle.parsing.specs.declared.lead.Lead.TheVariants.{Choose, If, Name}
+use Rattle.parsing.specs.declared.lead.Lead.TheVariants.{Choose, If, Loop, Name}
 use Rattle.parsing.proofs.Laws.{after-ok, after-none, after-refused}
 use Rattle.parsing.proofs.StatementEquations.{must-after, must-first, ok-keeps, atomic-none, atomic-refused, atomic-named}
-use Rattle.parsing.proofs.StatementWords.{found, or_else, classed-found, none_found, any_word, any_found, any-listed, listed, here, blanks, words-tested, branches, chosen, branches-chosen, no_name, blanks-passed, blanks-refused, no-branch}
-use Rattle.parsing.proofs.StatementBranches.{lead_rule, lead_least, lead-keeps, loop-keeps}
+use Rattle.parsing.proofs.StatementWords.{Keeps, found, or_else, classed-found, none_found, any_word, any_found, any-listed, listed, here, blanks, blanks-keep, keyword-tested, words-tested, branches, chosen, branches-chosen, no_name, blanks-passed, blanks-refused, no-branch}
+use Rattle.parsing.proofs.StatementBranches.{loop_body, lead_rule, lead_least, lead-keeps, loop-keeps}
 
 -- ---- levels
 
--- after `{`
-abbrev pub block_body : List ℕ → ℕ → ℕ → ℕ → Answer (Stmt Span)
-block_body text zero at at₁ = refused 3 at
-block_body text (suc d) at at₁ =
-    must at₁ (mapped Block (rep_till statements (turns text) (parse_stmt text (turns text) (opened d text)) (Sym text "}") at₁))
+-- a step that keeps something is too deep where it stands
+deep-kept : {A B : Type 0} (at : ℕ) (r : Answer A) → Keeps r → too_deep {B = B} at r ≡ refused 3 at
+unfolding too_deep
+deep-kept at (ok a next) k = refl
+deep-kept at Answer.none k = absurd (omega (arith, k.some))
+deep-kept at (refused number place) k = refl
 
--- a block and a loop begin with their token
-pub block-rule : (text : List ℕ) (depth at : ℕ) → (opened depth text).block at ≡ after (Sym text "{" at) Answer.none (λ _ at₁. block_body text depth at at₁)
-unfolding gallery parse_block
-block-rule text zero at = refl
-block-rule text (suc d) at = refl
+-- a step that is not refused
+pub data Unrefused {A : Type 0} : Answer A → Type 0 where
+  reads : {a : A} {next : ℕ} → Unrefused (ok a next)
+  misses : Unrefused Answer.none
 
-pub loop_rule : (text : List ℕ) (depth at : ℕ) → (opened depth text).loop at ≡ after (T text "loop" at) Answer.none (λ _ at₁. loop_body depth at text at₁)
-unfolding gallery parse_loop
-loop_rule text zero at = refl
-loop_rule text (suc d) at = refl
+-- Where no level is left, a block and a loop are too deep where their token stands. A loop begins with its word, if that is not refused there.
+module _ (text : List ℕ) (depth at : ℕ) where
+  pub block-deep : depth ≡ 0 → (opened depth text).block at ≡ too_deep at (Sym text "{" at)
+  unfolding gallery
+  block-deep e = rw e refl
+
+  pub loop-deep : depth ≡ 0 → (opened depth text).loop at ≡ too_deep at (T text "loop" at)
+  unfolding gallery
+  loop-deep e = rw e refl
+
+block-none : (text : List ℕ) (depth at : ℕ) → Sym text "{" at ≡ Answer.none → (opened depth text).block at ≡ Answer.none
+unfolding gallery parse_block too_deep
+block-none text zero at e = rw e refl
+block-none text (suc d) at e = after-none _ _ _ e
+
+loop_rule : (text : List ℕ) (depth at : ℕ) → (depth ≡ 0 → Unrefused (T text "loop" at))
+    → (opened depth text).loop at ≡ after (T text "loop" at) Answer.none (λ _ at₁. loop_body depth at text at₁)
+unfolding gallery parse_loop too_deep after
+loop_rule text zero at u = by-word (T text "loop" at) (u refl)
+  where
+    by-word : (r : Answer ℕ) → Unrefused r → ◌≡◌ {A = Answer (Stmt Span)} (too_deep at r) (after r Answer.none (λ _ _. refused 3 at))
+    by-word (ok a next) reads = refl
+    by-word Answer.none misses = refl
+    by-word (refused number place) u = elim u [ ]
+loop_rule text (suc d) at u = refl
 
 -- a sequence and what must follow it, made into something that must follow
 list-made : {A B : Type 0} (f : A → B) (at : ℕ) (x : Answer A) (y : ℕ → Answer ℕ)
@@ -58,20 +79,17 @@ list-made f at Answer.none y = refl
 list-made f at (refused number place) y = refl
 
 module _ (text : List ℕ) (depth at : ℕ) where
-  -- a block with no level left, and with one
-  pub block-deep : depth ≡ 0 → (opened depth text).block at ≡ after (Sym text "{" at) Answer.none (λ _ at₁. refused 3 at)
-  block-deep e = block-rule text depth at ∙ rw e refl
-
+  -- a block with a level left
   pub block-opens : (depth ≡ 0 → ⊥)
       → (opened depth text).block at
       ≡ after (Sym text "{" at) Answer.none
       (λ _ at₁. need at₁ (rep statements (turns text) (parse_stmt text (turns text) (opened (depth - 1) text)) at₁)
       (λ l at₂. need at₂ (Sym text "}" at₂) (λ _ at₃. ok (Block l) at₃)))
-  unfolding rep_till
-  block-opens h = block-rule text depth at ∙ by-level depth h
+  unfolding gallery parse_block rep_till
+  block-opens h = by-level depth h
     where
       by-level : (d : ℕ) → (d ≡ 0 → ⊥)
-          → after (Sym text "{" at) Answer.none (λ _ at₁. block_body text d at at₁)
+          → (opened d text).block at
           ≡ after (Sym text "{" at) Answer.none
           (λ _ at₁. need at₁ (rep statements (turns text) (parse_stmt text (turns text) (opened (d - 1) text)) at₁)
           (λ l at₂. need at₂ (Sym text "}" at₂) (λ _ at₃. ok (Block l) at₃)))
@@ -97,23 +115,32 @@ module _ (text : List ℕ) (depth at : ℕ) where
       by-level zero h = absurd (h refl)
       by-level (suc d) h = let e : suc d - 1 ≡ d = omega arith in rw e refl
 
--- a block or a loop, which must follow
-pub scope-rule : (depth : ℕ) (text : List ℕ) (at : ℕ)
+-- a block or a loop, which must follow, with no level left and with one
+pub scope-deep : (depth : ℕ) (text : List ℕ) (at : ℕ) → depth ≡ 0
+    → needed (scope_stmt depth) text at ≡ after ((opened depth text).block at) (must at (too_deep at (T text "loop" at))) (λ s at₁. ok s at₁)
+scope-deep depth text at e =
+    ap (λ r. must at ((opened depth text).block at or r)) (loop-deep text depth at e)
+    ∙ must-after at ((opened depth text).block at) (too_deep at (T text "loop" at)) (λ s at₁. ok s at₁) (λ s at₁. ok-keeps _ _)
+
+pub scope-rule : (depth : ℕ) (text : List ℕ) (at : ℕ) → (depth ≡ 0 → ⊥)
     → needed (scope_stmt depth) text at
     ≡ after ((opened depth text).block at) (need at (T text "loop" at) (λ _ at₁. loop_body depth at text at₁)) (λ s at₁. ok s at₁)
-scope-rule depth text at =
-    ap (λ r. must at ((opened depth text).block at or r)) (loop_rule text depth at)
+scope-rule depth text at h =
+    ap (λ r. must at ((opened depth text).block at or r)) (loop_rule text depth at (λ z. absurd (h z)))
     ∙ must-after at ((opened depth text).block at) (after (T text "loop" at) Answer.none (λ _ at₁. loop_body depth at text at₁)) (λ s at₁. ok s at₁) (λ s at₁. ok-keeps _ _)
     ∙ ap (λ r. after ((opened depth text).block at) r (λ s at₁. ok s at₁)) (must-first at (T text "loop" at) _ (λ _ at₁. loop-keeps depth at text at₁))
 
 -- a loop's body
-pub loop-opens : (depth start : ℕ) (text : List ℕ) (at : ℕ) → (depth ≡ 0 → ⊥)
-    → loop_body depth start text at
+pub body-opens : (depth start : ℕ) (text : List ℕ) (at : ℕ) → (depth ≡ 0 → ⊥) → loop_body depth start text at ≡ after_loop depth text at
+body-opens zero start text at h = absurd (h refl)
+body-opens (suc d) start text at h = let e : suc d - 1 ≡ d = omega arith in rw e refl
+
+pub loop-opens : (depth : ℕ) (text : List ℕ) (at : ℕ)
+    → after_loop depth text at
     ≡ need at (rep aexprs (turns text) (parse_a_expr text (turns text) (opened (depth - 1) text) (bytes "invariant")) at)
-    (λ is at₁. must at₁ (mapped (Loop is) ((opened (depth - 1) text).block at₁)))
+    (λ is at₁. must at₁ (mapped (Loop-stmt is) ((opened (depth - 1) text).block at₁)))
 unfolding parse_a_expr_seq
-loop-opens zero start text at h = absurd (h refl)
-loop-opens (suc d) start text at h = let e : suc d - 1 ≡ d = omega arith in rw e refl
+loop-opens depth text at = refl
 
 -- ---- signs and words that can't stand
 
@@ -147,6 +174,55 @@ none_or (ok a next) e = refl
 none_or Answer.none e = e
 none_or (refused number place) e = refl
 
+-- ---- the word `loop`
+
+-- entries of which none is that of `loop`
+abbrev none-loop : List (String × Lead) → Bool
+none-loop [] = true
+none-loop (l ∷ ls) = not (is_loop l.1) && none-loop ls
+
+classed-loop : (ls : List (String × Lead)) (other : Lead) (b : List ℕ) → none-loop ls ≡ true → is_loop (classed ls other b) ≡ true → is_loop other ≡ true
+classed-loop [] other b f e = e
+classed-loop (l ∷ ls) other b f e = by-test (same_bytes b (bytes l.0)) (is_loop l.1) refl f e (classed-loop ls other b)
+  where
+    by-test : (t i : Bool) → is_loop l.1 ≡ i → (not i && none-loop ls) ≡ true → is_loop (pick t l.1 (classed ls other b)) ≡ true
+        → (none-loop ls ≡ true → is_loop (classed ls other b) ≡ true → is_loop other ≡ true) → is_loop other ≡ true
+    by-test true true i f e h = impossible (cc)
+    by-test true false i f e h = impossible (cc)
+    by-test false true i f e h = impossible (cc)
+    by-test false false i f e h = h f e
+
+-- bytes whose lead is `loop` are its bytes
+loop-bytes : (b : List ℕ) → is_loop (lead_of b) ≡ true → b ≡ bytes "loop"
+unfolding lead_of
+loop-bytes b e = by-test (same_bytes b (bytes "loop")) refl (classed-loop (leads_before ++ (("choose", Choose) ∷ ("if", If) ∷ [])) _ b refl e)
+  where
+    by-test : (t : Bool) → same_bytes b (bytes "loop") ≡ t → is_loop (pick t Loop Name) ≡ true → b ≡ bytes "loop"
+    by-test true s h = same_bytes-true b (bytes "loop") s
+    by-test false s h = impossible (cc)
+
+-- where `loop` may open its level, one is left
+pub level-left : (depth : ℕ) {k : Lead} → false ≡ opens_none k depth → k ≡ Loop → depth ≡ 0 → ⊥
+unfolding opens_none
+level-left depth {k} h l z = let f : false ≡ true = rw (z, l) at h in impossible (cc)
+
+module _ (text : List ℕ) (at : ℕ) where
+  -- the word is not refused where its blanks are passed, or where other bytes stand
+  loop-unrefused : {next : ℕ} → blanks text at ≡ ok 0 next → Unrefused (T text "loop" at)
+  loop-unrefused {next} e = rw (keyword-tested text at (bytes "loop"), e) (by-test (same_bytes (here text at) (bytes "loop")))
+    where
+      by-test : (t : Bool) → Unrefused {A = ℕ} (pick t (ok 0 next) Answer.none)
+      by-test true = reads
+      by-test false = misses
+
+  loop-missed : is_loop (lead_of (here text at)) ≡ false → Unrefused (T text "loop" at)
+  unfolding lead_of same_bytes
+  loop-missed h = rw (keyword-tested text at (bytes "loop")) (by-test (same_bytes (here text at) (bytes "loop")) refl)
+    where
+      by-test : (t : Bool) → same_bytes (here text at) (bytes "loop") ≡ t → Unrefused (pick t (blanks text at) Answer.none)
+      by-test true s = let f : true ≡ false = sym (ap (λ b. is_loop (lead_of b)) (same_bytes-true (here text at) (bytes "loop") s)) ∙ h in impossible (cc)
+      by-test false s = misses
+
 -- ---- parse_stmt
 
 module _ (text : List ℕ) (depth at : ℕ) where
@@ -160,7 +236,7 @@ module _ (text : List ℕ) (depth at : ℕ) where
       or after (atomic text (Sym text "(") at) Answer.none (λ n at₁. after_call text (turns text) c n at₁)
 
   -- the rule is the branches of the leads, with a block between them, and those of a name with its mark
-  module _ (n : Span) (starts : n.start ≡ at) where
+  module _ (n : Span) (starts : n.start ≡ at) (u : depth ≡ 0 → Unrefused (T text "loop" at)) where
     abbrev led : List (String × Lead) → Answer (Stmt Span) → Answer (Stmt Span)
     led ls q = branches text at (λ k at₁. lead_rule k depth n text at₁) ls q
 
@@ -170,7 +246,7 @@ module _ (text : List ℕ) (depth at : ℕ) where
     stmt-branches : parse_stmt text (turns text) c at ≡ led leads_before (c.block at or led leads_after marked)
     unfolding parse_stmt
     stmt-branches =
-        rw starts (ap (λ r. led leads_before (c.block at or (led (("choose", Choose) ∷ ("if", If) ∷ []) (r or marked)))) (loop_rule text depth at))
+        rw starts (ap (λ r. led leads_before (c.block at or (led (("choose", Choose) ∷ ("if", If) ∷ []) (r or marked)))) (loop_rule text depth at u))
 
     by-lead : (ls : List (String × Lead)) → listed lead_least ls ≡ true → (q : Answer (Stmt Span)) → led ls q ≡ by-entry (found ls (here text at)) q
     by-lead ls f q = branches-chosen text at (λ k at₁. lead_rule k depth n text at₁) lead_least (λ k l next. lead-keeps k l depth n text next) ls f q
@@ -179,7 +255,7 @@ module _ (text : List ℕ) (depth at : ℕ) where
     word-branches : 0 < identifier_length (drop at text) → parse_stmt text (turns text) c at ≡ by-entry (found leads (here text at)) marked
     word-branches filled =
         stmt-branches
-        ∙ ap (led leads_before) (or-none _ (block-rule text depth at ∙ after-none _ _ _ (no-brace text at filled)))
+        ∙ ap (led leads_before) (or-none _ (block-none text depth at (no-brace text at filled)))
         ∙ by-lead leads refl marked
 
   -- where a word of `len` bytes stands, the name of each marked branch is read
@@ -191,22 +267,51 @@ module _ (text : List ℕ) (depth at : ℕ) where
         let m : marked ≡ named_stmt depth n text next =
         or_same (atomic-named text (Sym text ":=") at _ d) (or_same (atomic-named text (Sym text ":") at _ d) (atomic-named text (Sym text "(") at _ d)) in
         let said : k ≡ or_else Name (found leads (here text at)) = e ∙ ap (λ n. lead_of (take n (drop at text))) (sym measured) ∙ classed-found leads Name (here text at) in
-        word-branches n starts (omega (arith, measured))
-        ∙ ap (by-entry n starts (found leads (here text at))) m
+        let u : depth ≡ 0 → Unrefused (T text "loop" at) = λ z. loop-unrefused text at (blanks-passed text at d) in
+        word-branches n starts u (omega (arith, measured))
+        ∙ ap (by-entry n starts u (found leads (here text at))) m
         ∙ by-found (found leads (here text at))
         ∙ ap (λ k. lead_rule k depth n text next) (sym said)
       where
-        by-found : (o : Option Lead) → by-entry n starts o (named_stmt depth n text next) ≡ lead_rule (or_else Name o) depth n text next
+        by-found : (o : Option Lead)
+            → by-entry n starts (λ z. loop-unrefused text at (blanks-passed text at d)) o (named_stmt depth n text next) ≡ lead_rule (or_else Name o) depth n text next
         by-found none = refl
         by-found (some k) = after-ok _ _ _ (blanks-passed text at d)
 
-    -- one whose blanks are refused is refused alike
-    pub stmt-refused : {number place : ℕ} → parse_name text at ≡ refused number place → parse_stmt text (turns text) c at ≡ refused number place
-    stmt-refused {number} {place} e = word-branches (record { start = at; len = len }) refl (omega (arith, measured)) ∙ by-found (found leads (here text at))
+    -- one whose blanks are refused is refused alike, save a loop with no level left
+    pub stmt-refused : (k : Lead) → k ≡ lead_of (take len (drop at text)) → false ≡ opens_none k depth
+        → {number place : ℕ} → parse_name text at ≡ refused number place → parse_stmt text (turns text) c at ≡ refused number place
+    unfolding opens_none
+    stmt-refused k f h {number} {place} e = word-branches (record { start = at; len = len }) refl unrefused (omega (arith, measured)) ∙ by-found (found leads (here text at))
       where
-        by-found : (o : Option Lead) → by-entry (record { start = at; len = len }) refl o marked ≡ refused number place
+        unrefused : depth ≡ 0 → Unrefused (T text "loop" at)
+        unrefused z =
+            let l : is_loop k ≡ false = sym (rw z at h) in
+            loop-missed text at (sym (ap is_loop (f ∙ ap (λ n. lead_of (take n (drop at text))) (sym measured))) ∙ l)
+
+        by-found : (o : Option Lead) → by-entry (record { start = at; len = len }) refl unrefused o marked ≡ refused number place
         by-found none = after-refused _ _ _ (after-refused _ _ _ (atomic-refused text _ at e))
         by-found (some k) = after-refused _ _ _ (blanks-refused text at e)
+
+    -- a loop with no level left is refused where it stands, though the blanks after its word be
+    pub stmt-deep : (k : Lead) → k ≡ lead_of (take len (drop at text)) → true ≡ opens_none k depth → parse_stmt text (turns text) c at ≡ refused 3 at
+    unfolding parse_stmt same_bytes opens_none
+    stmt-deep k f h =
+        let (z, l) = both_true (eqb depth 0) (is_loop k) (sym h) in
+        let z : depth ≡ 0 = eqb-true depth 0 z in
+        let e : is_loop (lead_of (take len (drop at text))) ≡ true = sym (ap is_loop f) ∙ l in
+        let n : Span = record { start = at; len = len } in
+        let b : here text at ≡ bytes "loop" = loop-bytes _ (ap (λ n. is_loop (lead_of (take n (drop at text)))) measured ∙ e) in
+        let k : T text "loop" at ≡ blanks text at = keyword-tested text at (bytes "loop") ∙ ap (λ s. pick (same_bytes s (bytes "loop")) (blanks text at) Answer.none) b in
+        let l : c.loop at ≡ refused 3 at = loop-deep text depth at z ∙ deep-kept at (T text "loop" at) (rw k (blanks-keep text at)) in
+        let rule : Lead → ℕ → Answer (Stmt Span) = λ k at₁. lead_rule k depth n text at₁ in
+        let pass : (ls : List (String × Lead)) → listed lead_least ls ≡ true → found ls (bytes "loop") ≡ none → (q : Answer (Stmt Span)) → branches text at rule ls q ≡ q =
+        λ ls f g q. branches-chosen text at rule lead_least (λ k l next. lead-keeps k l depth n text next) ls f q ∙ ap (λ s. chosen text at rule (found ls s) q) b
+        ∙ ap (λ o. chosen text at rule o q) g in
+        pass leads_before refl refl _
+        ∙ or-none _ (block-none text depth at (no-brace text at (omega (arith, measured))))
+        ∙ pass (("choose", Choose) ∷ ("if", If) ∷ []) refl refl _
+        ∙ after-refused _ _ _ l
 
   -- one that begins with no word is a block
   pub wordless-stmt : identifier_length (drop at text) ≡ 0 → parse_stmt text (turns text) c at ≡ c.block at
@@ -215,9 +320,10 @@ module _ (text : List ℕ) (depth at : ℕ) where
       let s : Span = record { start = at; len = 0 } in
       let h : here text at ≡ [] = rw e refl in
       let n : parse_name text at ≡ Answer.none = no_name text at e in
-      let no_lead : (ls : List (String × Lead)) → listed lead_least ls ≡ true → found ls [] ≡ none → (q : Answer (Stmt Span)) → led s refl ls q ≡ q =
-      λ ls f g q. by-lead s refl ls f q ∙ ap (λ b. by-entry s refl (found ls b) q) h ∙ ap (λ o. by-entry s refl o q) g in
-      stmt-branches s refl
+      let u : depth ≡ 0 → Unrefused (T text "loop" at) = λ z. rw (keyword-tested text at (bytes "loop") ∙ ap (λ s. pick (same_bytes s (bytes "loop")) (blanks text at) Answer.none) h) misses in
+      let no_lead : (ls : List (String × Lead)) → listed lead_least ls ≡ true → found ls [] ≡ none → (q : Answer (Stmt Span)) → led s refl u ls q ≡ q =
+      λ ls f g q. by-lead s refl u ls f q ∙ ap (λ b. by-entry s refl u (found ls b) q) h ∙ ap (λ o. by-entry s refl u o q) g in
+      stmt-branches s refl u
       ∙ no_lead leads_before refl refl _
       ∙ none_or (c.block at)
       (no_lead leads_after refl refl _
@@ -250,19 +356,21 @@ statement-words b =
     ∙ any-listed leads b
 
 module _ (text : List ℕ) (at : ℕ) where
-  deep-rule : (opened 0 text).stmt at
-      ≡ (too_deep text at (Sym text "{" at) or too_deep text at (word_of text statement_words at) or too_deep text at (atomic text (mark text) at))
+  -- a name and its mark
+  abbrev deep_mark : Answer (Stmt Span)
+  deep_mark = after (parse_name text at) Answer.none (λ _ at₁. too_deep at (mark text at₁))
+
+  deep-rule : (opened 0 text).stmt at ≡ (too_deep at (Sym text "{" at) or too_deep at (word_of text statement_words at) or deep_mark)
   unfolding gallery
   deep-rule = refl
 
   -- only a brace can stand where no identifier does
-  pub deep-wordless : identifier_length (drop at text) ≡ 0 → (opened 0 text).stmt at ≡ after (Sym text "{" at) Answer.none (λ _ _. refused 3 at)
-  unfolding same_bytes
+  pub deep-wordless : identifier_length (drop at text) ≡ 0 → (opened 0 text).stmt at ≡ too_deep at (Sym text "{" at)
+  unfolding same_bytes too_deep
   deep-wordless e =
       let h : here text at ≡ [] = rw e refl in
       let n : word_of text statement_words at ≡ Answer.none = words-tested text at statement_words ∙ ap (λ b. pick (any_word statement_words b) (blanks text at) Answer.none) h in
-      deep-rule
-      ∙ none_or _ (or-none _ (after-none _ _ _ n) ∙ after-none _ _ _ (atomic-none text (mark text) at (no_name text at e)))
+      deep-rule ∙ none_or _ (or-none _ (ap (too_deep at) n) ∙ after-none _ _ _ (no_name text at e))
 
   -- where an identifier stands, by its lead
   module _ {len : ℕ} (measured : identifier_length (drop at text) ≡ len) (filled : 1 ≤ len) {k : Lead} (e : k ≡ lead_of (take len (drop at text))) where
@@ -271,19 +379,17 @@ module _ (text : List ℕ) (at : ℕ) where
     said = e ∙ ap (λ n. lead_of (take n (drop at text))) (sym measured) ∙ classed-found leads Name (here text at)
 
     deep-words : (b : Bool) → any_found (found leads (here text at)) ≡ b
-        → (opened 0 text).stmt at ≡ (too_deep text at (pick b (blanks text at) Answer.none) or too_deep text at (atomic text (mark text) at))
+        → (opened 0 text).stmt at ≡ (too_deep at (pick b (blanks text at) Answer.none) or deep_mark)
+    unfolding too_deep
     deep-words b h =
         deep-rule
-        ∙ or-none _ (after-none _ _ _ (no-brace text at (omega (arith, measured))))
-        ∙ ap (λ r. too_deep text at r or too_deep text at (atomic text (mark text) at))
+        ∙ or-none _ (ap (too_deep at) (no-brace text at (omega (arith, measured))))
+        ∙ ap (λ r. too_deep at r or deep_mark)
         (words-tested text at statement_words ∙ ap (λ t. pick t (blanks text at) Answer.none) (statement-words (here text at) ∙ h))
 
-    -- a word; its blanks play no part, as they are never refused
+    -- a word; its blanks play no part
     pub deep-lead : (k ≡ Name → ⊥) → (opened 0 text).stmt at ≡ refused 3 at
-    unfolding lexeme
-    deep-lead w =
-        deep-words true (by-entry (found leads (here text at)) said)
-        ∙ after-refused _ _ _ (after-ok _ _ _ (ap (λ r. moved at (closed 0 (identifier_length (drop at text)) r)) (W-closed (drop (identifier_length (drop at text)) (drop at text)))))
+    deep-lead w = deep-words true (by-entry (found leads (here text at)) said) ∙ after-refused _ _ _ (deep-kept at (blanks text at) (blanks-keep text at))
       where
         by-entry : (o : Option Lead) → k ≡ or_else Name o → any_found o ≡ true
         by-entry none h = absurd (w h)
@@ -291,13 +397,14 @@ module _ (text : List ℕ) (at : ℕ) where
 
     -- a name
     module _ (h : k ≡ Name) where
-      deep-name : (opened 0 text).stmt at ≡ too_deep text at (atomic text (mark text) at)
+      deep-name : (opened 0 text).stmt at ≡ deep_mark
+      unfolding too_deep
       deep-name =
           deep-words false (ap any_found (none_found lead_least leads Name (here text at) refl (le_refl 1) (sym h ∙ said ∙ sym (classed-found leads Name (here text at)))))
-          ∙ or-none _ (after-none _ _ _ refl)
+          ∙ or-none deep_mark refl
 
-      pub deep-named : {n : Span} {next : ℕ} → parse_name text at ≡ ok n next → (opened 0 text).stmt at ≡ after (mark text next) Answer.none (λ _ _. refused 3 at)
-      deep-named d = deep-name ∙ atomic-named text (mark text) at _ d
+      pub deep-named : {n : Span} {next : ℕ} → parse_name text at ≡ ok n next → (opened 0 text).stmt at ≡ too_deep at (mark text next)
+      deep-named d = deep-name ∙ after-ok _ _ _ d
 
       pub deep-refused : {number place : ℕ} → parse_name text at ≡ refused number place → (opened 0 text).stmt at ≡ refused number place
-      deep-refused d = deep-name ∙ after-refused _ _ _ (atomic-refused text (mark text) at d)
+      deep-refused d = deep-name ∙ after-refused _ _ _ d

@@ -155,7 +155,7 @@ module _ (text : List ℕ) (at : ℕ) where
       by-blanks (unclosed k) = record { some = refl }
 
   -- a word keeps them, if the bytes are its own
-  keyword-tested : (w : List ℕ) → keyword_at text w at ≡ pick (same_bytes here w) blanks Answer.none
+  pub keyword-tested : (w : List ℕ) → keyword_at text w at ≡ pick (same_bytes here w) blanks Answer.none
   unfolding keyword
   keyword-tested w = by-test (same_bytes here w)
     where

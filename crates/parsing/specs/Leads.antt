@@ -1,5 +1,5 @@
 -- The words that begin statements, and the lead that a word's bytes are.
-use Rattle.std.specs.Prelude.{ℕ, List, [], ◌∷◌, ◌++◌}
+use Rattle.std.specs.Prelude.{ℕ, Bool, true, false, ◌&&◌, eqb, List, [], ◌∷◌, ◌++◌}
 use Prim.Native.String.{String}
 use Rattle.lexing.specs.Answer.{pick}
 use Rattle.lexing.specs.Bytes.{same_bytes, bytes}
@@ -33,6 +33,21 @@ leads_after = ("choose", lead.Choose) ∷ ("if", lead.If) ∷ ("loop", lead.Loop
 
 abbrev pub leads : List (String × Lead)
 leads = leads_before ++ leads_after
+
+-- whether it is that of `loop`, which alone of these words opens a level
+abbrev pub is_loop : Lead → Bool
+is_loop lead.Var = false
+is_loop lead.Val = false
+is_loop (lead.Simple kind) = false
+is_loop lead.Forall = false
+is_loop lead.Choose = false
+is_loop lead.If = false
+is_loop lead.Loop = true
+is_loop lead.Name = false
+
+-- whether it opens a level where none of `depth` is left
+unfoldable pub opens_none : Lead → ℕ → Bool
+opens_none k depth = eqb depth 0 && is_loop k
 
 unfoldable pub lead_of : List ℕ → Lead
 lead_of b = classed leads lead.Name b

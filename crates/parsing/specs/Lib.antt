@@ -9,4 +9,5 @@ pub mod ParseLaws
 pub mod Claims
 pub mod Declarations
 pub mod Expressions
+pub mod TooDeep
 pub mod Statements

@@ -1,6 +1,6 @@
 -- What the methods of the statement rules promise, in terms of the rules.
-use Rattle.std.specs.Prelude.{ℕ, zero, suc, ◌+◌, ◌*◌, ◌≤◌, ◌≡◌, List, ◌∷◌, Option, Some, None, Result, Ok, Err}
-use Rattle.lexing.specs.Answer.{Answer, ok, refused, level_too_deep}
+use Rattle.std.specs.Prelude.{ℕ, ◌+◌, ◌*◌, ◌-◌, ◌≤◌, ◌≡◌, List, ◌∷◌, Option, Some, None, Result, Ok, Err}
+use Rattle.lexing.specs.Answer.{Answer, ok, refused}
 use Rattle.lexing.specs.Bytes.{bytes}
 use Rattle.lexing.specs.CodeAnswers.{number}
 use Rattle.lexing.specs.declared.refusal.Refusal.{Refusal}
@@ -119,11 +119,11 @@ module _ (depth : ℕ) where
   abbrev pub scope_stmt : Rule (Stmt Span)
   scope_stmt text at = (opened depth text).block at or (opened depth text).loop at
 
--- after `loop`, which stands at `start`
-abbrev pub loop_body : ℕ → ℕ → Rule (Stmt Span)
-loop_body zero start text at = refused level_too_deep start
-loop_body (suc d) start text at =
-    need at (parse_a_expr_seq text (turns text) (opened d text) (bytes "invariant") at) (λ is at₁. must at₁ (mapped (Loop is) ((opened d text).block at₁)))
+-- after `loop`, where a level is left
+abbrev pub after_loop : ℕ → Rule (Stmt Span)
+after_loop depth text at =
+    need at (parse_a_expr_seq text (turns text) (opened (depth - 1) text) (bytes "invariant") at)
+    (λ is at₁. must at₁ (mapped (Loop is) ((opened (depth - 1) text).block at₁)))
 
 -- ---- repetitions
 

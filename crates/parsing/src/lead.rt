@@ -1,6 +1,6 @@
 // The words that begin a statement, told by their bytes.
 ghost use Rattle.std.specs.Prelude.{◌≡◌, ◌+◌, ◌≤◌, length, take, drop};
-ghost use Rattle.parsing.specs.Leads.{lead_of};
+ghost use Rattle.parsing.specs.Leads.{lead_of, opens_none};
 
 use crate::parser::Parser;
 use lexing::same_bytes;
@@ -16,6 +16,16 @@ pub(crate) enum Lead {
     If,
     Loop,
     Name,
+}
+
+impl Lead {
+    // Whether this word opens a level, as `loop` does alone, and none is left.
+    #[tactic(auto, unfolding(crate::specs::Leads::opens_none))]
+    pub(crate) fn opens_none(self, depth: usize) -> bool
+        ensures { result ≡ opens_none self depth }
+    {
+        depth == 0 && matches!(self, Lead::Loop)
+    }
 }
 
 // The words that begin a statement that holds no statement.

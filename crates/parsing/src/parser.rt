@@ -7,6 +7,7 @@ ghost use Rattle.tree.specs.Tags.{no_more};
 ghost use Rattle.grammar.specs.Steps.{parse_name, parse_literal_text, parse_nat};
 ghost use Rattle.grammar.specs.Statements.{mark as mark_rule};
 ghost use Rattle.parsing.specs.Arena.{most_arena, outside};
+ghost use Rattle.parsing.specs.TooDeep.{too_deep_if};
 ghost use Rattle.parsing.specs.declared.arena.Node.TheVariants.{Empty, One, Pair};
 
 use crate::arena::{EMPTY, END, Node};
@@ -357,6 +358,16 @@ pub(crate) fn too_deep(place: usize) -> Refusal
     ensures { result ≡ record { reason = LevelTooDeep; place = place } }
 {
     Refusal::new(Reason::LevelTooDeep, place)
+}
+
+// Refusal 3 at a place if a token stands, though the blanks after it be refused.
+pub(crate) fn too_deep_if(place: usize, stands: Result<bool, Refusal>) -> Result<(), Refusal>
+    ensures { result ≡ too_deep_if place stands }
+{
+    if stands.unwrap_or(true) {
+        return Err(too_deep(place));
+    }
+    Ok(())
 }
 
 // Refusal 2 at a place.

@@ -13,7 +13,7 @@ ghost use Rattle.parsing.specs.Statements.{Spares_if, Stops, headed, stmt_rule, 
 use crate::arena::{END, Node};
 use crate::expr::seq::Kind;
 use crate::lead::{Lead, Simple};
-use crate::parser::{Name, Parser, too_deep};
+use crate::parser::{Name, Parser, too_deep, too_deep_if};
 use lexing::refusal::Refusal;
 use tree::word::{MORE, NO_MORE, StmtTag};
 
@@ -110,22 +110,19 @@ impl<'a> Parser<'a> {
         Ok(self.pair(head, arguments))
     }
 
-    // "stmt" of `stmtGallery` where no level is left: refusal 3 if a statement's first token stands here.
+    // "stmt" of `stmtGallery` where no level is left: refusal 3 if a statement's first token stands here, or a name with its mark.
     pub(crate) fn too_deep_stmt(&mut self) -> Result<(), Refusal>
         ensures { Stops (stmt_rule 0) self.old self.new result }
     {
         let start = self.at;
-        let deep = too_deep(start);
         let Some(len) = self.word_ahead() else {
-            return if self.sym(b"{")? { Err(deep) } else { Ok(()) };
+            return too_deep_if(start, self.sym(b"{"));
         };
         let Lead::Name = self.lead_at(len) else {
-            return Err(deep);
+            return Err(too_deep(start));
         };
         self.pass_word(len)?;
-        if self.mark()? {
-            return Err(deep);
-        }
+        too_deep_if(start, self.mark())?;
         self.at = start;
         Ok(())
     }

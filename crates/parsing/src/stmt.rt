@@ -9,11 +9,11 @@ ghost use Rattle.tree.specs.Words.{stmt_words, a_expr_words};
 ghost use Rattle.grammar.specs.Statements.{rep, parse_stmt, parse_variable_declaration, after_forall, after_label};
 ghost use Rattle.parsing.specs.Contract.{Spare, Reads, Reads_if, same, needed, span};
 ghost use Rattle.parsing.specs.Code.{turns, opened, opening};
-ghost use Rattle.parsing.specs.Statements.{Spares, Spares_if, aexpr_rule, block_rule, stmt_rule, loop_body, named_stmt, scope_stmt, repeated, repeated_words, repetition_words, repeated_rule};
+ghost use Rattle.parsing.specs.Statements.{Spares, Spares_if, aexpr_rule, block_rule, stmt_rule, after_loop, named_stmt, scope_stmt, repeated, repeated_words, repetition_words, repeated_rule};
 
 use crate::arena::{EMPTY, Node};
 use crate::lead::Lead;
-use crate::parser::{Name, Parser, too_deep, unusable};
+use crate::parser::{Name, Parser, too_deep, too_deep_if, unusable};
 use lexing::refusal::Refusal;
 use tree::word::{AExprTag, StmtTag};
 
@@ -66,12 +66,12 @@ impl<'a> Parser<'a> {
     pub(crate) fn block(&mut self, depth: usize) -> Result<Option<u32>, Refusal>
         ensures { Spares_if (stmt_words same) (block_rule depth) self.old self.new result }
     {
-        let at = self.at;
-        if !self.sym(b"{")? {
+        if depth == 0 {
+            too_deep_if(self.at, self.sym(b"{"))?;
             return Ok(None);
         }
-        if depth == 0 {
-            return Err(too_deep(at));
+        if !self.sym(b"{")? {
+            return Ok(None);
         }
         let stmts = self.many(Repeated::Stmts, depth - 1)?;
         self.need_sym(b"}")?;
@@ -87,15 +87,12 @@ impl<'a> Parser<'a> {
         self.block(depth)?.ok_or(unusable(at))
     }
 
-    // After `loop`, which stands at `start`: its invariants and its body.
+    // After `loop`, where a level is left: its invariants and its body.
     #[cycle(statement)]
-    fn looped(&mut self, start: usize, depth: usize) -> Result<u32, Refusal>
-        requires { Spare self.old 3 }
-        ensures { Reads (stmt_words same) (loop_body depth start) 1 3 self.old self.new result }
+    fn looped(&mut self, depth: usize) -> Result<u32, Refusal>
+        requires { (1 ≤ depth) × Spare self.old 3 }
+        ensures { Reads (stmt_words same) (after_loop depth) 1 3 self.old self.new result }
     {
-        if depth == 0 {
-            return Err(too_deep(start));
-        }
         let invariants = self.many(Repeated::Invariants, depth - 1)?;
         let head = self.push(Node::Headed(StmtTag::Loop as u32, invariants));
         let body = self.need_block(depth - 1)?;
@@ -124,6 +121,9 @@ impl<'a> Parser<'a> {
             return self.block(depth);
         };
         let lead = self.lead_at(len);
+        if lead.opens_none(depth) {
+            return Err(too_deep(start));
+        }
         let name = self.pass_word(len)?;
         // Kept: the word that was read decides here, and only here, which rule goes on; a closure for it would be made and called in this place.
         match lead {
@@ -133,7 +133,7 @@ impl<'a> Parser<'a> {
             Lead::Forall => Ok(Some(self.forall_stmt(depth)?)),
             Lead::Choose => Ok(Some(self.choose(depth)?)),
             Lead::If => Ok(Some(self.if_cont(depth)?)),
-            Lead::Loop => Ok(Some(self.looped(start, depth)?)),
+            Lead::Loop => Ok(Some(self.looped(depth)?)),
             Lead::Name => {
                 let Some(stmt) = self.named_stmt(name, depth)? else {
                     self.at = start;
@@ -182,8 +182,12 @@ impl<'a> Parser<'a> {
         if let Some(block) = self.block(depth)? {
             return Ok(block);
         }
+        if depth == 0 {
+            too_deep_if(start, self.keyword(b"loop"))?;
+            return Err(unusable(start));
+        }
         if self.keyword(b"loop")? {
-            return self.looped(start, depth);
+            return self.looped(depth);
         }
         Err(unusable(start))
     }

@@ -1,19 +1,19 @@
-use Rattle.std.proofs.Common.{refl, true, false, ◌∙◌, ◌-◌, ap, arith, length}
+use Rattle.std.proofs.Common.{refl, sym, true, false, ◌∙◌, ◌-◌, ap, arith, length}
 use Rattle.lexing.specs.Bytes.{bytes}
-use Rattle.tree.specs.Ast.{a_expr, LabeledStmt, Loop}
+use Rattle.tree.specs.Ast.{Span, Stmt, a_expr, LabeledStmt, Loop}
 use Rattle.grammar.specs.Steps.{must}
-use Rattle.grammar.specs.Statements.{parse_stmt, parse_variable_declaration, after_forall, after_label, after_choose, parse_if_cont, parse_else, parse_case, parse_init, parse_optional_auto_invariant, over_type}
+use Rattle.grammar.specs.Statements.{too_deep, parse_stmt, parse_variable_declaration, after_forall, after_label, after_choose, parse_if_cont, parse_else, parse_case, parse_init, parse_optional_auto_invariant, over_type}
 use Rattle.parsing.specs.Contract.{word, sign, needed, span}
 use Rattle.parsing.specs.Code.{inner, opening}
-use Rattle.parsing.specs.Statements.{block_rule, cont_rule, cond_stmt, loop_body, named_stmt, scope_stmt}
+use Rattle.parsing.specs.Statements.{block_rule, cont_rule, cond_stmt, after_loop, named_stmt, scope_stmt}
 use Rattle.parsing.specs.declared.stmt.Repeated.TheVariants.{Stmts, Nested, Branches, Cases, Invariants}
 use Rattle.parsing.specs.declared.lead.Lead.TheVariants as lead
-use Rattle.parsing.proofs.Laws.{reads_err, after-ok, after-none, after-refused}
+use Rattle.parsing.proofs.Laws.{reads_err, after-none, after-refused}
 use Rattle.parsing.proofs.Places.{no_credit, begin, begin_with, later-next, said, read, took, taken, skipped, named, two-made, three-made, headed, paired, foured, as_run, tail, refused_at, refused_last, stood, absent, done}
-use Rattle.parsing.proofs.StatementPlaces.{spares_err, spares_if_err, says-of, stay, back, read-all, spared, spared_if, passed, room, took-least, refuses, without-next, ends, ends-mapped, ends-last, tail-spares, spares_if_same}
+use Rattle.parsing.proofs.StatementPlaces.{deep-says, deep-none, spares_err, spares_if_err, says-of, stay, back, read-all, spared, spared_if, passed, room, took-least, refuses, without-next, ends, ends-mapped, ends-last, tail-spares, spares_if_same}
 use Rattle.parsing.proofs.ExpressionRules.{bool-word}
 use Rattle.parsing.proofs.StatementEquations.{must-need, cond-rule, cont-rule, else-rule, aexpr-rule, case-rule, cont-deep, cont-none, forall-words}
-use Rattle.parsing.proofs.StatementRules.{block-rule, block-deep, block-opens, stmt-opens, cont-opens, loop-opens, scope-rule, wordless-stmt, stmt-refused}
+use Rattle.parsing.proofs.StatementRules.{block-deep, block-opens, stmt-opens, cont-opens, body-opens, loop-opens, scope-deep, scope-rule, level-left, wordless-stmt, stmt-refused, stmt-deep}
 use Rattle.parsing.proofs.StatementBranches.{lead_rule}
 use Rattle.parsing.proofs.StatementLeads.{led, declared}
 use Rattle.parsing.proofs.StatementLoops.{gathered-none, gathered-next, gathered-all, gathered-refused, repetition_rule}
@@ -59,18 +59,25 @@ many-returns t c = gathered-all _ _ c.loop-item.invariant (rw c.in_default.is at
 
 -- ---- blocks and loops
 
+pub block-returns-in_err-too_deep_if : goal.block-returns-in_err-too_deep_if
+block-returns-in_err-too_deep_if t c =
+    spares_if_err _ _ _ _ _
+    (block-deep _ c.args.depth _ c.if-depth-eq0.true ∙ deep-says (sign (bytes "{")) 1 _ _ _ _ c.sym.ensures c.in_err-too_deep_if.ensures) _ c.from_residual.ensures.1
+
+pub block-returns-then-depth-eq0 : goal.block-returns-then-depth-eq0
+block-returns-then-depth-eq0 t c =
+    let (n, same) = deep-none (sign (bytes "{")) 1 _ _ _ _ c.sym.ensures c.in_ok-too_deep_if.ensures in
+    record { says = block-deep _ c.args.depth _ c.if-depth-eq0.true ∙ n; stayed = stay same }
+
 pub block-returns-in_err-sym : goal.block-returns-in_err-sym
 block-returns-in_err-sym t c =
-    spares_if_err _ _ _ _ _ (refuses (sign (bytes "{")) _ _ c.in_err-sym.ensures (said (block-rule _ c.args.depth _) (begin {p = c.args.self.now}))) _ c.from_residual.ensures.1
+    spares_if_err _ _ _ _ _
+    (refuses (sign (bytes "{")) _ _ c.in_err-sym.ensures (said (block-opens _ c.args.depth _ c.if-depth-eq0.false) (begin {p = c.args.self.now}))) _ c.from_residual-in_err-sym.ensures.1
 
 pub block-returns-then-not-branch : goal.block-returns-then-not-branch
 block-returns-then-not-branch t c =
     let no = absent (sign (bytes "{")) 1 _ _ c.in_ok-sym.ensures c.if-not-branch.true in
-    record { says = block-rule _ c.args.depth _ ∙ after-none _ _ _ no.says; stayed = stay no.same }
-
-pub block-returns-then-depth-eq0 : goal.block-returns-then-depth-eq0
-block-returns-then-depth-eq0 t c =
-    rw c.too_deep.ensures (block-deep _ c.args.depth _ c.if-depth-eq0.true ∙ after-ok _ _ _ (stood (sign (bytes "{")) 1 _ _ c.in_ok-sym.ensures c.if-not-branch.false).says)
+    record { says = block-opens _ c.args.depth _ c.if-depth-eq0.false ∙ after-none _ _ _ no.says; stayed = stay no.same }
 
 pub block-returns-in_err-stmts : goal.block-returns-in_err-stmts
 block-returns-in_err-stmts t c =
@@ -95,38 +102,53 @@ block-returns t c =
 pub looped-returns-in_err-invariants : goal.looped-returns-in_err-invariants
 looped-returns-in_err-invariants t c =
     reads_err _ _ _ _ _ _ _ _ c.from_residual.ensures.1
-    (refuses (repetition_rule Invariants (c.args.depth - 1)) _ _ c.in_err-invariants.ensures (said (loop-opens c.args.depth _ _ _ c.if-depth-eq0.false) (begin_with c.requires)))
+    (refuses (repetition_rule Invariants (c.args.depth - 1)) _ _ c.in_err-invariants.ensures (said (loop-opens c.args.depth _ _) (begin_with c.requires.1)))
 
 pub looped-returns-in_err-body : goal.looped-returns-in_err-body
 looped-returns-in_err-body t c =
     reads_err _ _ _ _ _ _ _ _ c.from_residual-in_err-body.ensures.1
     (refused_at (block_rule (c.args.depth - 1)) _ (said (must-need (Loop _) _ _) (headed c.push-head.ensures
-    (read-all (repetition_rule Invariants (c.args.depth - 1)) _ c.in_ok-invariants.ensures (said (loop-opens c.args.depth _ _ _ c.if-depth-eq0.false) (begin_with c.requires)) refl) refl)) c.in_err-body.ensures)
+    (read-all (repetition_rule Invariants (c.args.depth - 1)) _ c.in_ok-invariants.ensures (said (loop-opens c.args.depth _ _) (begin_with c.requires.1)) refl) refl)) c.in_err-body.ensures)
 
 pub looped-returns : goal.looped-returns
 looped-returns t c =
     done _ (paired c.pair.ensures (spared (block_rule (c.args.depth - 1)) _ c.in_ok-body.ensures (said (must-need (Loop _) _ _) (headed c.push-head.ensures
-    (read-all (repetition_rule Invariants (c.args.depth - 1)) _ c.in_ok-invariants.ensures (said (loop-opens c.args.depth _ _ _ c.if-depth-eq0.false) (begin_with c.requires)) refl) refl))) refl)
+    (read-all (repetition_rule Invariants (c.args.depth - 1)) _ c.in_ok-invariants.ensures (said (loop-opens c.args.depth _ _) (begin_with c.requires.1)) refl) refl))) refl)
     refl refl
+
+pub need_scope-returns-in_err-too_deep_if : goal.need_scope-returns-in_err-too_deep_if
+need_scope-returns-in_err-too_deep_if t c =
+    let at = c.args.self.now.at in
+    let l = passed (block_rule c.args.depth) _ _ (rw c.in_default.is at c.in_ok-block.ensures) (said (scope-deep c.args.depth _ _ c.if-depth-eq0.true) begin) in
+    let n = deep-says (word (bytes "loop")) 4 _ _ {B = Stmt Span} at _ c.keyword.ensures c.in_err-too_deep_if.ensures in
+    spares_err _ _ _ _ _ (l.says ∙ after-refused _ _ _ (says-of (λ text k. too_deep at (word (bytes "loop") text k)) l.later (rw l.here at n)))
+    _ c.from_residual-in_err-too_deep_if.ensures.1
+
+pub need_scope-returns-then-depth-eq0 : goal.need_scope-returns-then-depth-eq0
+need_scope-returns-then-depth-eq0 t c =
+    let at = c.args.self.now.at in
+    let l = passed (block_rule c.args.depth) _ _ (rw c.in_default.is at c.in_ok-block.ensures) (said (scope-deep c.args.depth _ _ c.if-depth-eq0.true) begin) in
+    let (n, same) = deep-none (word (bytes "loop")) 4 _ _ {B = Stmt Span} at _ c.keyword.ensures c.in_ok-too_deep_if.ensures in
+    rw c.unusable.ensures (l.says ∙ after-none _ _ _ (says-of (λ text k. too_deep at (word (bytes "loop") text k)) l.later (rw l.here at n)))
 
 pub need_scope-returns-in_err-keyword : goal.need_scope-returns-in_err-keyword
 need_scope-returns-in_err-keyword t c =
     spares_err _ _ _ _ _
     (refuses (word (bytes "loop")) _ _ c.in_err-keyword.ensures
-    (passed (block_rule c.args.depth) _ _ (rw c.in_default.is at c.in_ok-block.ensures) (said (scope-rule c.args.depth _ _) begin)))
+    (passed (block_rule c.args.depth) _ _ (rw c.in_default.is at c.in_ok-block.ensures) (said (scope-rule c.args.depth _ _ c.if-depth-eq0.false) begin)))
     _ c.from_residual-in_err-keyword.ensures.1
 
 pub need_scope-returns-then-branch : goal.need_scope-returns-then-branch
 need_scope-returns-then-branch t c =
-    tail-spares _ _ (loop_body c.args.depth c.args.self.now.at) 1 3 _ _ c.looped.ensures
-    (taken _ _ _ (stood (word (bytes "loop")) 4 _ _ c.in_ok-keyword.ensures c.if-branch.true)
-    (passed (block_rule c.args.depth) _ _ (rw c.in_default.is at c.in_ok-block.ensures) (said (scope-rule c.args.depth _ _) begin))) refl refl
+    tail-spares _ _ (after_loop c.args.depth) 1 3 _ _ c.looped.ensures
+    (said (body-opens c.args.depth _ _ _ c.if-depth-eq0.false) (taken _ _ _ (stood (word (bytes "loop")) 4 _ _ c.in_ok-keyword.ensures c.if-branch.true)
+    (passed (block_rule c.args.depth) _ _ (rw c.in_default.is at c.in_ok-block.ensures) (said (scope-rule c.args.depth _ _ c.if-depth-eq0.false) begin)))) refl refl
 
 pub need_scope-returns : goal.need_scope-returns
 need_scope-returns t c =
-    let l = passed (block_rule c.args.depth) _ _ (rw c.in_default.is at c.in_ok-block.ensures) (said (scope-rule c.args.depth _ _) begin) in
+    let l = passed (block_rule c.args.depth) _ _ (rw c.in_default.is at c.in_ok-block.ensures) (said (scope-rule c.args.depth _ _ c.if-depth-eq0.false) begin) in
     let l = skipped _ _ _ (absent (word (bytes "loop")) 4 _ _ c.in_ok-keyword.ensures c.if-branch.false) l in
-    rw c.unusable.ensures l.says
+    rw c.unusable-2.ensures l.says
 
 -- ---- statements
 
@@ -137,7 +159,12 @@ stmt-returns-in_default t c =
 pub stmt-returns-in_err-name : goal.stmt-returns-in_err-name
 stmt-returns-in_err-name t c =
     let s = rw c.in-Some.is at c.word_ahead.ensures in
-    spares_if_err _ _ _ _ _ (stmt-refused _ c.args.depth _ s.measured s.filled c.in_err-name.ensures) _ c.from_residual.ensures.1
+    spares_if_err _ _ _ _ _ (stmt-refused _ c.args.depth _ s.measured s.filled _ c.lead_at-lead.ensures (sym c.if-opens_none.false ∙ c.opens_none.ensures) c.in_err-name.ensures) _ c.from_residual.ensures.1
+
+pub stmt-returns-then-opens_none : goal.stmt-returns-then-opens_none
+stmt-returns-then-opens_none t c =
+    let s = rw c.in-Some.is at c.word_ahead.ensures in
+    rw c.too_deep.ensures (stmt-deep _ c.args.depth _ s.measured s.filled _ c.lead_at-lead.ensures (sym c.if-opens_none.true ∙ c.opens_none.ensures))
 
 pub stmt-var_decl-requires : goal.stmt-var_decl-requires
 stmt-var_decl-requires t c =
@@ -189,13 +216,19 @@ stmt-returns-in_err-if_cont-in-If t c =
     (led c.args.depth (rw c.in-Some.is at c.word_ahead.ensures) c.lead_at-lead.ensures c.in_ok-name.ensures lead.If c.in-If.is) c.in_err-if_cont-in-If.ensures) _ c.from_residual-in_err-if_cont-in-If.ensures.1
 
 pub stmt-looped-requires : goal.stmt-looped-requires
-stmt-looped-requires t c =
-    (omega (arith, c.decreases), room 3 no_credit (led c.args.depth (rw c.in-Some.is at c.word_ahead.ensures) c.lead_at-lead.ensures c.in_ok-name.ensures lead.Loop c.in-Loop.is) refl)
+stmt-looped-requires t c = (
+  omega (arith, c.decreases),
+  (
+    omega (arith, level-left c.args.depth (sym c.if-opens_none.false ∙ c.opens_none.ensures) c.in-Loop.is),
+    room 3 no_credit (led c.args.depth (rw c.in-Some.is at c.word_ahead.ensures) c.lead_at-lead.ensures c.in_ok-name.ensures lead.Loop c.in-Loop.is) refl,
+  ),
+)
 
 pub stmt-returns-in_err-looped-in-Loop : goal.stmt-returns-in_err-looped-in-Loop
 stmt-returns-in_err-looped-in-Loop t c =
-    spares_if_err _ _ _ _ _ (refused_last (loop_body c.args.depth c.args.self.now.at)
-    (said (ap (λ k. loop_body c.args.depth k c.args.self.now.text.now c.pass_word.new.self.at) c.in_ok-name.ensures.named.start_is) (led c.args.depth (rw c.in-Some.is at c.word_ahead.ensures) c.lead_at-lead.ensures c.in_ok-name.ensures lead.Loop c.in-Loop.is)) c.in_err-looped-in-Loop.ensures) _ c.from_residual-in_err-looped-in-Loop.ensures.1
+    spares_if_err _ _ _ _ _ (refused_last (after_loop c.args.depth)
+    (said (body-opens c.args.depth _ _ _ (level-left c.args.depth (sym c.if-opens_none.false ∙ c.opens_none.ensures) c.in-Loop.is)) (led c.args.depth (rw c.in-Some.is at c.word_ahead.ensures) c.lead_at-lead.ensures c.in_ok-name.ensures lead.Loop c.in-Loop.is))
+    c.in_err-looped-in-Loop.ensures) _ c.from_residual-in_err-looped-in-Loop.ensures.1
 
 pub stmt-returns-in_err-stmt-in-Name : goal.stmt-returns-in_err-stmt-in-Name
 stmt-returns-in_err-stmt-in-Name t c =
@@ -245,8 +278,8 @@ stmt-returns-in_ok-if_cont-in-If t c =
 
 pub stmt-returns-in_ok-looped-in-Loop : goal.stmt-returns-in_ok-looped-in-Loop
 stmt-returns-in_ok-looped-in-Loop t c =
-    ends-last _ (loop_body c.args.depth c.args.self.now.at) c.in_ok-looped-in-Loop.ensures
-    (said (ap (λ k. loop_body c.args.depth k c.args.self.now.text.now c.pass_word.new.self.at) c.in_ok-name.ensures.named.start_is) (led c.args.depth (rw c.in-Some.is at c.word_ahead.ensures) c.lead_at-lead.ensures c.in_ok-name.ensures lead.Loop c.in-Loop.is)) refl refl
+    ends-last _ (after_loop c.args.depth) c.in_ok-looped-in-Loop.ensures
+    (said (body-opens c.args.depth _ _ _ (level-left c.args.depth (sym c.if-opens_none.false ∙ c.opens_none.ensures) c.in-Loop.is)) (led c.args.depth (rw c.in-Some.is at c.word_ahead.ensures) c.lead_at-lead.ensures c.in_ok-name.ensures lead.Loop c.in-Loop.is)) refl refl
 
 pub stmt-returns-in-Some-2 : goal.stmt-returns-in-Some-2
 stmt-returns-in-Some-2 t c =
