@@ -34,6 +34,16 @@ opening-alone : W (ascii "/*/x") ≡ unclosed 0
 unfolding computed
 opening-alone = refl
 
+-- nor is that of an inner one: no two marks share a byte
+inner-opening-alone : W (ascii "/*/*/*/") ≡ unclosed 0
+unfolding computed
+inner-opening-alone = refl
+
+-- a slash alone opens none
+slash-alone : W (ascii "/ */") ≡ passed 0
+unfolding computed
+slash-alone = refl
+
 -- one that is closed where the text ends is closed
 closed-at-the-end : W (ascii "/*a/*b*/*/") ≡ passed 10
 unfolding computed
@@ -85,6 +95,16 @@ slashes-inside = refl
 line-comment : W (ascii "//a\rb\nx") ≡ passed 6
 unfolding computed
 line-comment = refl
+
+-- and LF is no part of it
+line-comment-alone : blank (ascii "//a\nx") ≡ passed 3
+unfolding computed
+line-comment-alone = refl
+
+-- at the text's end no blank stands
+no-text : blank [] ≡ passed 0
+unfolding computed
+no-text = refl
 
 spaces : W (ascii "\t\r\n x") ≡ passed 4
 unfolding computed
