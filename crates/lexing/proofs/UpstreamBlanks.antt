@@ -166,7 +166,7 @@ module _ (s : List ℕ) (o : starts_with (47 ∷ 42 ∷ []) s ≡ true) where
             omega (arith, e, long-within, all, z, w)
         by-end (some n) p =
             let q : n ≡ position_after_end_of_long_comment (drop 2 s) = sym (ap (or_else (length (drop 2 s))) p) in
-            let l : Leads s (2 + position_after_end_of_long_comment (drop 2 s)) = one-blank s _ (blank-comment s o ∙ ap comment p ∙ ap (λ j. passed (2 + j)) q) in
+            let l = one-blank s (2 + position_after_end_of_long_comment (drop 2 s)) (blank-comment s o ∙ ap comment p ∙ ap (λ j. passed (2 + j)) q) in
             let l2 : Leads s (suc k) = rw e at (leads-append _ l (W1-leads _).0) in
             sym (led s (suc k) l2 ∙ ap (λ j. suc k + j) (sym i))
 
