@@ -1,4 +1,4 @@
--- Read expression and read program (REFERENCE, "The entries"): refusals 1 to 5, and the table afterwards.
+-- Read expression and read program (REFERENCE, "The entries"): refusals 1 to 5 and 12, and the table afterwards.
 use Rattle.std.specs.Prelude.{ℕ, suc, ◌-◌, ◌&&◌, List, [], ◌++◌, length, replicate, leb, eqb}
 use Rattle.lexing.specs.Answer.{Answer, ok, refused, unclosed_comment, pick, text_too_long, unusable_token, tree_too_large}
 use Rattle.lexing.specs.Blanks.{Blanks, passed, unclosed, W}

@@ -57,7 +57,7 @@ impl<'a> Parser<'a> {
     }
 }
 
-// Reads a whole text into an arena of 11 nodes and two for each byte: the tree's node, or refusal 2, 3 or 4. Refusal 5, where the arena has
+// Reads a whole text into an arena of 11 nodes and two for each byte: the tree's node, or refusal 2, 3, 4 or 12. Refusal 5, where the arena has
 // fewer nodes or more than 100,000, or the text more than 32,768 bytes. The nodes of the arena that are not of the tree are free afterwards,
 // after a refusal all of them.
 pub fn parse(text: &[u8], arena: &mut [Node], whole: Whole) -> Result<u32, Refusal>

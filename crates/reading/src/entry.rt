@@ -73,8 +73,7 @@ fn read(text: &[u8], table: &mut [u32], whole: Whole) -> Result<usize, Refusal>
 
 // Kept: the two entries are each one call of `read`, with the kind of tree that their name says.
 
-// Reads an expression: the words of its tree in the table, with zeros after them, and how many they are. Refusals 1 to 5 leave the table all
-// zero.
+// Reads an expression: the words of its tree in the table, with zeros after them, and how many they are. A refusal leaves the table all zero.
 pub fn read_expression(text: &[u8], table: &mut [u32]) -> Result<usize, Refusal>
     ensures { Answered text.now (length table.old) result table.new }
 {

@@ -12,7 +12,7 @@ use Rattle.tree.specs.Clash.{impossible}
 use Rattle.tree.specs.Limits.{most_text, most_words}
 use Rattle.tree.specs.Check.{program_refusal}
 use Rattle.grammar.specs.Reading.{words, refusal, read_program}
-use Rattle.grammar.proofs.Refusals.Entries.{Held, program-refused, program-held}
+use Rattle.grammar.proofs.Refusals.Entries.{Held, refusal-inside, program-refused, program-held}
 use Rattle.grammar.proofs.Claims.{read-program-accepted, program-table-long}
 use Rattle.reading.specs.TreeRead.{ProgramAnswered}
 use Rattle.rendering.specs.Errors.{print_error_number, print_error_place}
@@ -88,7 +88,7 @@ module _ (text table : List ℕ) (m : ℕ) (read : Result ℕ Refusal) (a : Prog
       record {
         answered = ap (of_reading text out) o;
         counted = λ k p. impossible cc;
-        placed = λ x p. let z : x ≡ Read e = cc in rw z l.inside;
+        placed = λ x p. let z : x ≡ Read e = cc in rw z (refusal-inside l);
       }
 
 -- ---- the size of the table

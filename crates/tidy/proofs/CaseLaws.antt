@@ -1,6 +1,6 @@
 -- Tidy's answer is one of the three cases, and what the answer's size says.
 use Rattle.std.specs.Prelude.{ℕ, ◌≤◌, ◌<◌, ◌≡◌, Bool, ◌&&◌, List, ◌++◌, length, take}
-use Rattle.std.proofs.Common.{arith, sym, ◌∙◌, inl, inr}
+use Rattle.std.proofs.Common.{arith, sym, ◌∙◌}
 use Rattle.std.proofs.Math.Path.{refl, subst}
 use Rattle.std.proofs.Math.Bool.{true, false, false≢true}
 use Rattle.std.proofs.Math.ListN.{drop}
@@ -13,10 +13,11 @@ use Rattle.tree.specs.Check.{NameIn}
 use Rattle.tree.specs.Limits.{most_words}
 use Rattle.grammar.specs.Reading.{Outcome, words, refusal, read_program}
 use Rattle.grammar.proofs.Claims.{read-program-accepted}
-use Rattle.grammar.proofs.Refusals.Entries.{Held, program-refused, program-held}
+use Rattle.grammar.proofs.Refusals.Entries.{Held, refusal-numbered, refusal-inside, program-refused, program-held}
+use Rattle.rendering.specs.Errors.{print_too_long}
 use Rattle.printing.specs.Entries.{most_print, written, refusal as unprinted, stored}
 use Rattle.tidy.specs.Tidy.{Answered, of_print, of_reading, tidied}
-use Rattle.tidy.specs.Cases.{ReadsAs, print_of, Cases, prints, refuses, overflows, Refusal}
+use Rattle.tidy.specs.Cases.{ReadsAs, print_of, Cases, prints, refuses, overflows, of-reading, short-output, Refusal}
 use Rattle.tidy.proofs.TidyLaws.{Stores, print-stores}
 
 module _ (text : List ℕ) where
@@ -50,11 +51,11 @@ module _ (text : List ℕ) where
   -- an answer below 2^32 is a byte count of at most 65,536
   pub below-is-count : {out : List ℕ} {w : Answered} → Cases text out w → w.answer < 4294967296 → w.answer ≤ most_print
   below-is-count (prints t r f) h = f.in-print
-  below-is-count (refuses {number} {place} l e) h = absurd (omega (arith, l.least, h))
+  below-is-count (refuses {number} {place} l e) h = absurd (omega (arith, refusal-numbered l, h))
   below-is-count (overflows t r f) h = absurd (omega (arith, h))
 
   pub above-is-refusal : {out : List ℕ} {w : Answered} → Cases text out w → 4294967296 ≤ w.answer → Refusal text out w
   above-is-refusal (prints t r f) h = absurd (omega (arith, f.in-print, h))
   above-is-refusal (refuses {number} {place} l e) h =
-      record { number = number; place = place; answered = refl; numbered = inl (l.least, l.most); inside = l.inside; kept = refl }
-  above-is-refusal (overflows t r f) h = record { number = 8; place = 0; answered = refl; numbered = inr refl; inside = omega arith; kept = refl }
+      record { number = number; place = place; answered = refl; refusal = of-reading l; inside = refusal-inside l; kept = refl }
+  above-is-refusal (overflows t r f) h = record { number = print_too_long; place = 0; answered = refl; refusal = short-output; inside = omega arith; kept = refl }

@@ -42,7 +42,7 @@ p11-resolved : resolve_expr (97 ∷ 32 ∷ 43 ∷ 32 ∷ 49 ∷ []) a+1 ≡ Oper
 unfolding part
 p11-resolved = refl
 
--- P12: the empty program; a word more
+-- the empty program; a word more
 empty-program : check_program (0 ∷ 0 ∷ 0 ∷ 0 ∷ 0 ∷ []) 4 ≡ one_tree
 unfolding check_program run
 empty-program = refl
