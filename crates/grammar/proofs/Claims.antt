@@ -100,7 +100,8 @@ pub read-program-accepted : (text : List ℕ) (n k : ℕ) (table : List ℕ) →
     → program_refusal (take k table) (length text) ≡ none
 read-program-accepted text n k table = program-passes text n
 
--- A reading is refused by 1 at 32,768, by 2, 3, 4 or 12 at a place of at most the text's length, or by 5 at 0 (`OfReading`).
+-- A reading is refused by 1 at 32,768; by 2, 3 or 4 at a place of at most the text's length; by 12 where a long comment opens that is not closed; or by
+-- 5 at 0 (`OfReading`).
 pub read-expression-refused : (text : List ℕ) (n number place : ℕ) (table : List ℕ) → read_expression text n ≡ refusal number place table
     → OfReading text number place
 read-expression-refused text n number place table = expression-refused text n

@@ -1,21 +1,24 @@
 -- The terms of the claims on the reading rules: by which numbers and where a reading is refused, and where a rule is opened.
-use Rattle.std.specs.Prelude.{ℕ, ◌≤◌, ◌<◌, ◌≡◌, ◌↔◌, List, length}
+use Rattle.std.specs.Prelude.{ℕ, ◌+◌, ◌≤◌, ◌<◌, ◌≡◌, ◌↔◌, List, length, drop}
+use Rattle.std.proofs.Math.Option.{none}
+use Rattle.lexing.specs.Blanks.{long_comment}
+use Rattle.lexing.specs.Refused.{Opens}
 use Rattle.lexing.specs.Answer.{Answer, refused, text_too_long, unusable_token, level_too_deep, large_natural, tree_too_large, unclosed_comment}
 use Rattle.tree.specs.Limits.{most_text}
 use Rattle.grammar.specs.Steps.{Reader, parse_name}
 use Rattle.grammar.specs.Statements.{Gallery}
 
--- the numbers by which the rules refuse: a token that cannot be used, depth 201, a natural above the largest, a long comment that is not closed
-pub data ByRule : ℕ → Type 0 where
-  unusable-token : ByRule unusable_token
-  depth : ByRule level_too_deep
-  large-natural : ByRule large_natural
-  open-comment : ByRule unclosed_comment
+-- the refusals of the rules: a token that cannot be used, depth 201, a natural above the largest; a long comment that is not closed, where it opens
+pub data ByRule (text : List ℕ) : ℕ → ℕ → Type 0 where
+  unusable-token : {place : ℕ} → ByRule text unusable_token place
+  depth : {place : ℕ} → ByRule text level_too_deep place
+  large-natural : {place : ℕ} → ByRule text large_natural place
+  open-comment : {place : ℕ} → Opens (drop place text) → long_comment 0 (drop (place + 2) text) ≡ none → ByRule text unclosed_comment place
 
 -- the refusals of a reading, by number and place: 1 of a text that is too long; those of the rules, at a place of at most its length; 5 at 0
 pub data OfReading (text : List ℕ) : ℕ → ℕ → Type 0 where
   long-text : most_text < length text → OfReading text text_too_long most_text
-  by-rule : {number place : ℕ} → length text ≤ most_text → ByRule number → place ≤ length text → OfReading text number place
+  by-rule : {number place : ℕ} → length text ≤ most_text → ByRule text number place → place ≤ length text → OfReading text number place
   many-words : length text ≤ most_text → OfReading text tree_too_large 0
 
 -- two rules keep nothing at the same places: a refusal is no `none`

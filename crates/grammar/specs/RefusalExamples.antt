@@ -7,18 +7,22 @@ use Rattle.grammar.specs.Reading.{Outcome, refusal, read_expression, read_progra
 use Rattle.grammar.specs.ProgramExamples.{computed}
 
 infixl 70 ◌stops◌
--- a text, and the place where it is refused by 2
-data Row : Type 0 where
+-- a text, and the place where it is refused
+pub data Row : Type 0 where
   ◌stops◌ : String → ℕ → Row
 
+-- by a number
+abbrev pub refused_by : ℕ → Row → Outcome
+refused_by number (◌stops◌ s place) = refusal number place []
+
 abbrev expected : Row → Outcome
-expected (◌stops◌ s place) = refusal 2 place []
+expected = refused_by 2
 
 -- what the two readings answer with a table of no words
-abbrev expression_of : Row → Outcome
+abbrev pub expression_of : Row → Outcome
 expression_of (◌stops◌ s place) = read_expression (bytes s) 0
 
-abbrev program_of : Row → Outcome
+abbrev pub program_of : Row → Outcome
 program_of (◌stops◌ s place) = read_program (bytes s) 0
 
 -- ---- expressions

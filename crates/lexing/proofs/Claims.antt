@@ -59,7 +59,7 @@ signs-not-prefix-inside = tokens.sign_not_prefix-within
 
 -- ---- blanks are refused at the long comment that they meet and that is not closed, and only there: `Meets`, an outermost opening mark
 
-unclosed-exactly : (s : List ℕ) (p : ℕ) → (W s ≡ unclosed p) ↔ (Meets s p × (long_comment 0 (drop (p + 2) s) ≡ none))
+pub unclosed-exactly : (s : List ℕ) (p : ℕ) → (W s ≡ unclosed p) ↔ (Meets s p × (long_comment 0 (drop (p + 2) s) ≡ none))
 unclosed-exactly = refusals.W-refused
 
 unclosed-once : (s : List ℕ) (p q : ℕ) → Meets s p × (long_comment 0 (drop (p + 2) s) ≡ none)

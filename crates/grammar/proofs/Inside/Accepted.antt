@@ -1,6 +1,6 @@
 -- A tree that is read is one over names inside the text, so the words that are stored pass the check.
 use Rattle.std.specs.Prelude.{ℕ, suc, ◌+◌, ◌≤◌, ◌≡◌, refl, Bool, true, false, List, [], length, take, leb, eqb}
-use Rattle.std.proofs.Common.{zero-le, sym, ap, ◌∙◌, leb-true, le-leb}
+use Rattle.std.proofs.Common.{arith, zero-le, sym, ap, ◌∙◌, leb-true, le-leb}
 use Rattle.std.proofs.Math.Option.{none}
 use Rattle.std.proofs.Math.Seq.{take-append_seam}
 use Rattle.lexing.specs.RunLaws.{pick-cases}
@@ -20,22 +20,25 @@ use Rattle.grammar.specs.OperatorTrees.{most_depth}
 use Rattle.grammar.specs.ClaimTerms.{open-comment}
 use Rattle.grammar.specs.Reading.{Outcome, words, refusal, leading, to_end, whole_text, unless_long, outcome_by, read_tree, read_expression, read_tree_of_program, read_program}
 use Rattle.grammar.proofs.Bridge.Limits.{stored-inv, stored-fits}
-use Rattle.grammar.proofs.Inside.Answers.{Gives, given, refuses, ReadsIn, gives-ok, unusable, step, picked, Keeping}
+use Rattle.grammar.proofs.Inside.Answers.{Gives, given, refuses, ReadsIn, gives-ok, unusable, step, picked, open-at, Keeping}
 use Rattle.grammar.proofs.Inside.Expressions.{parse_expr-kept}
 use Rattle.grammar.proofs.Inside.Statements.{gallery-kept}
 use Rattle.grammar.proofs.Inside.Declarations.{TopLevel-kept}
 
 -- what a rule gives of a whole text
-pub whole-gives : {A : Type 0} {P : A → Type 0} {rule : Reader A} (text : List ℕ) → ReadsIn P (length text) rule → Gives P (length text) (whole_text text rule)
+pub whole-gives : {A : Type 0} {P : A → Type 0} {rule : Reader A} (text : List ℕ) → ReadsIn P text rule → Gives P text (whole_text text rule)
 unfolding after
-whole-gives {P} {rule} text h = by-blanks (W text) (W-inside text)
+whole-gives {P} {rule} text h = by-blanks (W text) refl (W-inside text)
   where
-    by-blanks : (b : Blanks) → reach b ≤ length text → Gives P (length text) (after (leading b) Answer.none (λ at _. need at (rule at) (to_end text)))
-    by-blanks (passed n) l = step _ (h n l) (unusable l) (λ a g next m. picked (eqb next (length text)) (given g m) (unusable m))
-    by-blanks (unclosed n) l = refuses open-comment l
+    by-blanks : (b : Blanks) → W text ≡ b → reach b ≤ length text → Gives P text (after (leading b) Answer.none (λ at _. need at (rule at) (to_end text)))
+    by-blanks (passed n) e l = step _ (h n (record { inside = l })) (unusable (record { inside = l })) (λ a g next m. picked (eqb next (length text)) (given g m) (unusable m))
+    by-blanks (unclosed n) e l =
+        let (o, c) = open-at text 0 n e in
+        let z : 0 + n ≡ n = omega arith in
+        refuses {place = n} (open-comment (rw z at o) (rw z at c)) (record { inside = l })
 
 -- so it is of what is read
-read-gives : {A : Type 0} {P : A → Type 0} {rule : Reader A} (text : List ℕ) → ReadsIn P (length text) rule → {a : A} {next : ℕ}
+read-gives : {A : Type 0} {P : A → Type 0} {rule : Reader A} (text : List ℕ) → ReadsIn P text rule → {a : A} {next : ℕ}
     → unless_long text (whole_text text rule) ≡ ok a next → P a
 read-gives text h e = pick-cases (leb (length text) most_text) e (λ _ r. gives-ok (whole-gives text h) r) (λ _ r. impossible (cc))
 

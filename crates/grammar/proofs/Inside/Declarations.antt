@@ -1,5 +1,5 @@
 -- A function that changes no span inside the text changes no program that `TopLevel` (Declarations.antt) gives, and its places lie inside the text.
-use Rattle.std.specs.Prelude.{ℕ, refl, List, map, length}
+use Rattle.std.specs.Prelude.{ℕ, refl, List, map}
 use Rattle.std.proofs.Math.Option.{Option, none, some}
 use Rattle.lexing.specs.Answer.{Answer, ok}
 use Rattle.tree.specs.Ast.{Span, Exprs, no_exprs, ◌then◌, FParameter, FunctionDefinition, PParameter, Program}
@@ -19,7 +19,7 @@ module _ {text : List ℕ} (K : Keeping text) where
   keep = K.keep
 
   abbrev Reads : {A : Type 0} → (A → Type 0) → Reader A → Type 0
-  Reads P = ReadsIn P (length text)
+  Reads P = ReadsIn P text
 
   -- ---- sequences
 
@@ -48,7 +48,7 @@ module _ {text : List ℕ} (K : Keeping text) where
 
   -- ---- declarations
 
-  module _ (m : ℕ) {c : Gallery} (k : KeptBy K.keep (length text) c) where
+  module _ (m : ℕ) {c : Gallery} (k : KeptBy K.keep text c) where
     formals-kept : Reads (Fixed (map (map_f_parameter keep))) (parse_listed text m rules.formals (rules.parse_function_formal text) (bytes ")"))
     unfolding rules.parse_function_formal
     formals-kept = listed-gives text formals-closed _ (λ at l. search (by-id_type K, steps) depth 8) m _
@@ -119,6 +119,6 @@ module _ {text : List ℕ} (K : Keeping text) where
         (declared _ _ TProc after_procedure-kept
         (λ _ h _ g i. declare (TProc (record { name = h.0 i; parameters = h.1 i; pre = h.2 i; post = h.3 i; body = h.4 i })) (g i)) at l))))
 
-    pub TopLevel-kept : ReadsIn (Fixed (map_program K.keep)) (length text) (rules.TopLevel text m c)
+    pub TopLevel-kept : ReadsIn (Fixed (map_program K.keep)) text (rules.TopLevel text m c)
     unfolding rules.TopLevel
     TopLevel-kept at l = step _ (rep-gives text declarations-closed _ parse_top_level_decl-declares m at l) nothing (λ _ h _. given h)

@@ -1,8 +1,8 @@
 -- A function that changes no span inside the text changes no tree that a rule of expressions (Rules.antt) gives, and the rule's places lie inside
 -- the text, if the same holds of the rule "expr" one deeper.
-use Prim.Native.Nat.{ℕ, zero, suc, ◌≤◌}
+use Prim.Native.Nat.{ℕ, zero, suc}
 use Rattle.std.proofs.Math.Path.{refl}
-use Rattle.std.specs.Prelude.{Bool, List, map, length, drop}
+use Rattle.std.specs.Prelude.{Bool, List, map, drop}
 use Rattle.lexing.specs.Answer.{Answer}
 use Rattle.tree.specs.Ast.{Span, Binding, binding, Expr, ◌then◌, Patterns, no_patterns, pattern, closure_binding, closure_property}
 use Rattle.tree.specs.Resolve.{map_option, map_binding, map_expr, map_exprs, map_patterns, map_closure_bindings, map_closure_properties}
@@ -11,14 +11,14 @@ use Rattle.grammar.specs.Grammar.{Build, straight, swapped, build, single}
 use Rattle.grammar.specs.Grammar.{Class, product, sum, comparison, conjunction, disjunction, implication, explication, equivalence}
 use Rattle.grammar.specs.Steps.{Reader, after}
 use Rattle.grammar.specs.Rules as rules
-use Rattle.grammar.proofs.Inside.Answers.{Gives, given, nothing, ReadsIn, Any, Fixed, unusable, too-deep, step, by, token, picked, sign-placed, steps, Closed, list-closed, nonempty-gives, listed-gives, Keeping, name-kept, literal-kept}
+use Rattle.grammar.proofs.Inside.Answers.{Inside, Gives, given, nothing, ReadsIn, Any, Fixed, unusable, too-deep, step, by, token, picked, sign-placed, steps, Closed, list-closed, nonempty-gives, listed-gives, Keeping, name-kept, literal-kept}
 
 module _ {text : List ℕ} (K : Keeping text) where
   abbrev keep : Span → Span
   keep = K.keep
 
   abbrev Reads : {A : Type 0} → (A → Type 0) → Reader A → Type 0
-  Reads P = ReadsIn P (length text)
+  Reads P = ReadsIn P text
 
   -- no name in it changes
   abbrev Kept : Expr Span → Type 0
@@ -77,8 +77,8 @@ module _ {text : List ℕ} (K : Keeping text) where
   type_of (binding n t) = t
 
   -- after a name with a type
-  pub by-id_type : {B : Type 0} {Q : B → Type 0} {stop : Answer B} (go : Binding Span → ℕ → Answer B) (at : ℕ) → at ≤ length text → Gives Q (length text) stop
-      → ((n t : Span) → Fixed keep n → Fixed keep t → Reads Q (go (binding n t))) → Gives Q (length text) (after (rules.parse_id_type text at) stop go)
+  pub by-id_type : {B : Type 0} {Q : B → Type 0} {stop : Answer B} (go : Binding Span → ℕ → Answer B) (at : ℕ) → Inside text at → Gives Q text stop
+      → ((n t : Span) → Fixed keep n → Fixed keep t → Reads Q (go (binding n t))) → Gives Q text (after (rules.parse_id_type text at) stop go)
   by-id_type {Q} go at l s f = step _ (parse_id_type-kept at l) s parts
     where
       parts : (b : Binding Span) → Fixed (map_binding keep) b → Reads Q (go b)
@@ -174,7 +174,7 @@ module _ {text : List ℕ} (K : Keeping text) where
         (λ e h at₁ l₁. by (o implication) at₁ l₁ (left_tail-kept (o explication) logical m e h at₁ l₁) (λ _ _ _ _. right_tail-kept (o implication) logical m e h at₁ l₁)) in
         step _ (imp_exp at l) nothing (left_tail-kept (o equivalence) imp_exp m)
 
-  pub parse_expr-kept : (m d : ℕ) → ReadsIn (Fixed (map_expr K.keep)) (length text) (rules.parse_expr text m d)
+  pub parse_expr-kept : (m d : ℕ) → ReadsIn (Fixed (map_expr K.keep)) text (rules.parse_expr text m d)
   unfolding rules.parse_expr
   parse_expr-kept m zero at l = picked (rules.opens_expr (drop at text)) (too-deep l) nothing
   parse_expr-kept m (suc d) at l = parse_equiv_expr-kept m (parse_expr-kept m d) at l

@@ -1,11 +1,10 @@
 -- A function that changes no span inside the text changes no tree that a rule of statements (Statements.antt) gives, and the rule's places lie inside
 -- the text, if the same holds of the rules in its gallery.
-use Prim.Native.Nat.{ℕ, zero, suc, ◌≤◌}
+use Prim.Native.Nat.{ℕ, zero, suc}
 use Prim.Native.String.{String}
 use Rattle.std.specs.Prelude.{refl, Bool, true, false, drop}
 use mathlib.Core.List.{List, [], ◌∷◌, map}
 use Rattle.std.proofs.Math.Option.{Option}
-use Rattle.std.proofs.Math.ListN.{length}
 use Rattle.lexing.specs.Answer.{Answer}
 use Rattle.tree.specs.Ast.{Span, Expr, Stmt, VarDecl, Block, IfCase, stmts, case, AExprs, a_exprs}
 use Rattle.tree.specs.Resolve.{map_option, map_expr, map_call_argument, map_stmt, map_stmts, map_cases, map_a_expr, map_a_exprs}
@@ -14,23 +13,23 @@ use Rattle.grammar.specs.Steps.{Reader, after, sign_at, parse_name}
 use Rattle.grammar.specs.Rules.{opens_expr, parse_nonempty_comma_delimited_seq, parse_listed}
 use Rattle.grammar.specs.Statements as rules
 use Rattle.grammar.specs.Statements.{Gallery}
-use Rattle.grammar.proofs.Inside.Answers.{Gives, given, nothing, refuses, ReadsIn, Any, Fixed, unusable, too-deep, step, by, token, either, picked, sign-placed, keyword-placed, steps, Closed, list-closed, rep-gives, nonempty-gives, listed-gives, Keeping, name-kept}
+use Rattle.grammar.proofs.Inside.Answers.{Inside, Gives, given, nothing, refuses, ReadsIn, Any, Fixed, unusable, too-deep, step, by, token, either, picked, sign-placed, keyword-placed, steps, Closed, list-closed, rep-gives, nonempty-gives, listed-gives, Keeping, name-kept}
 use Rattle.grammar.proofs.Inside.Expressions.{by-id_type, parse_optional_type-kept, parse_expr-kept}
 
 -- it holds of the rules of a gallery
-pub record KeptBy (keep : Span → Span) (len : ℕ) (c : Gallery) : Type 0 where
-  pub expr : ReadsIn (Fixed (map_expr keep)) len c.expr
-  pub block : ReadsIn (Fixed (map_stmt keep)) len c.block
-  pub stmt : ReadsIn (Fixed (map_stmt keep)) len c.stmt
-  pub if_cont : ReadsIn (Fixed (map_stmt keep)) len c.if_cont
-  pub loop : ReadsIn (Fixed (map_stmt keep)) len c.loop
+pub record KeptBy (keep : Span → Span) (text : List ℕ) (c : Gallery) : Type 0 where
+  pub expr : ReadsIn (Fixed (map_expr keep)) text c.expr
+  pub block : ReadsIn (Fixed (map_stmt keep)) text c.block
+  pub stmt : ReadsIn (Fixed (map_stmt keep)) text c.stmt
+  pub if_cont : ReadsIn (Fixed (map_stmt keep)) text c.if_cont
+  pub loop : ReadsIn (Fixed (map_stmt keep)) text c.loop
 
 module _ {text : List ℕ} (K : Keeping text) where
   abbrev keep : Span → Span
   keep = K.keep
 
   abbrev Reads : {A : Type 0} → (A → Type 0) → Reader A → Type 0
-  Reads P = ReadsIn P (length text)
+  Reads P = ReadsIn P text
 
   abbrev Kept : Stmt Span → Type 0
   Kept = Fixed (map_stmt keep)
@@ -73,7 +72,7 @@ module _ {text : List ℕ} (K : Keeping text) where
   marked-kept : Reads (Fixed keep) (rules.atomic text (rules.mark text))
   marked-kept = atomic-kept (rules.mark text) mark-placed
 
-  module _ (m : ℕ) {c : Gallery} (k : KeptBy K.keep (length text) c) where
+  module _ (m : ℕ) {c : Gallery} (k : KeptBy K.keep text c) where
     pub parse_optional_auto_invariant-kept : Reads (Fixed (map_option (map_expr K.keep))) (rules.parse_optional_auto_invariant text m c)
     unfolding rules.parse_optional_auto_invariant
     parse_optional_auto_invariant-kept at l = search (by k.expr, steps) depth 8
@@ -83,9 +82,9 @@ module _ {text : List ℕ} (K : Keeping text) where
     arguments-kept = listed-gives text arguments-closed _ (λ at l. search (by k.expr, by (name-kept K), steps) depth 12) m _
 
     -- after clauses that begin with a word
-    pub by-clauses : {B : Type 0} {Q : B → Type 0} {stop : Answer B} {go : AExprs Span → ℕ → Answer B} (w : List ℕ) (at : ℕ) → at ≤ length text
-        → Gives Q (length text) stop → ((es : AExprs Span) → Fixed (map_a_exprs K.keep) es → Reads Q (go es))
-        → Gives Q (length text) (after (rules.parse_a_expr_seq text m c w at) stop go)
+    pub by-clauses : {B : Type 0} {Q : B → Type 0} {stop : Answer B} {go : AExprs Span → ℕ → Answer B} (w : List ℕ) (at : ℕ) → Inside text at
+        → Gives Q text stop → ((es : AExprs Span) → Fixed (map_a_exprs K.keep) es → Reads Q (go es))
+        → Gives Q text (after (rules.parse_a_expr_seq text m c w at) stop go)
     unfolding rules.parse_a_expr_seq
     by-clauses w at l =
         step _ (rep-gives text aexprs-closed (rules.parse_a_expr text m c w) (λ at l. search (by k.expr, by k.block, steps) depth 12) m at l)
@@ -113,7 +112,7 @@ module _ {text : List ℕ} (K : Keeping text) where
 
     parse_else-kept : Reads Kept (rules.parse_else text m c)
     unfolding rules.parse_else
-    parse_else-kept at l = search (by k.if_cont, step {len = length text} Kept, k.block, steps) depth 12
+    parse_else-kept at l = search (by k.if_cont, step {text = text} Kept, k.block, steps) depth 12
 
     parse_if_cont-kept : Reads Kept (rules.parse_if_cont text m c)
     unfolding rules.parse_if_cont
@@ -152,13 +151,13 @@ module _ {text : List ℕ} (K : Keeping text) where
         (either (led "if" (λ at l. search (by parse_if_cont-kept, steps)) at l)
         (either (k.loop at l)
         (either (by (signed-kept _) at l nothing (λ n h at l. search (by k.expr, steps)))
-        (either (by (signed-kept _) at l nothing (λ n h at l. search (step {len = length text} Kept, k.block, k.loop, steps)))
+        (either (by (signed-kept _) at l nothing (λ n h at l. search (step {text = text} Kept, k.block, k.loop, steps)))
         (by (signed-kept _) at l nothing (λ n h at l. search (by arguments-kept, steps)))))))))))))))))))
 
     parse_block-kept : Reads Kept (rules.parse_block text m c)
     unfolding rules.parse_block rules.rep_till
     parse_block-kept at l =
-        search (step {len = length text} (Fixed (map_stmts keep)), by (rep-gives text statements-closed (rules.parse_stmt text m c) parse_stmt-kept m), steps) depth 12
+        search (step {text = text} (Fixed (map_stmts keep)), by (rep-gives text statements-closed (rules.parse_stmt text m c) parse_stmt-kept m), steps) depth 12
 
   -- ---- depth
 
@@ -168,13 +167,13 @@ module _ {text : List ℕ} (K : Keeping text) where
   word_of-placed (w ∷ ws) at l = either (keyword-placed text at l (bytes w)) (word_of-placed ws at l)
 
   -- refusal 3 at a place where a token stands
-  deep : {r : Answer ℕ} (at : ℕ) → at ≤ length text → Gives Any (length text) r → Gives Kept (length text) (rules.too_deep at r)
+  deep : {r : Answer ℕ} (at : ℕ) → Inside text at → Gives Any text r → Gives Kept text (rules.too_deep at r)
   unfolding rules.too_deep
   deep at l (given h i) = too-deep l
   deep at l nothing = nothing
   deep at l (refuses n i) = too-deep l
 
-  pub gallery-kept : (m d : ℕ) → KeptBy K.keep (length text) (rules.gallery text m d)
+  pub gallery-kept : (m d : ℕ) → KeptBy K.keep text (rules.gallery text m d)
   unfolding rules.gallery
   gallery-kept m zero =
       record {

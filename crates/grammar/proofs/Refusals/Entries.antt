@@ -19,17 +19,17 @@ use Rattle.grammar.proofs.Inside.Declarations.{TopLevel-kept}
 use Rattle.grammar.proofs.Inside.Accepted.{whole-gives}
 
 -- no rule refuses by 0 or by 5
-not-zero : {number : ℕ} → ByRule number → 1 ≤ number
+not-zero : {text : List ℕ} {number place : ℕ} → ByRule text number place → 1 ≤ number
 not-zero unusable-token = omega arith
 not-zero depth = omega arith
 not-zero large-natural = omega arith
-not-zero open-comment = omega arith
+not-zero (open-comment o c) = omega arith
 
-not-five : {number : ℕ} → ByRule number → number ≡ 5 → ⊥
+not-five : {text : List ℕ} {number place : ℕ} → ByRule text number place → number ≡ 5 → ⊥
 not-five unusable-token e = omega arith
 not-five depth e = omega arith
 not-five large-natural e = omega arith
-not-five open-comment e = omega arith
+not-five (open-comment o c) e = omega arith
 
 -- The number of a reading's refusal is not 0, and its place at most 32,768.
 pub refusal-numbered : {text : List ℕ} {number place : ℕ} → OfReading text number place → 1 ≤ number
@@ -53,11 +53,11 @@ Limited text n (words k table) = Held text n k
 Limited text n (refusal number place table) = OfReading text number place
 
 -- no text is refused by 5 before its words are stored
-whole-refused : {A : Type 0} {P : A → Type 0} (text : List ℕ) {rule : Reader A} → ReadsIn P (length text) rule → {number place : ℕ}
+whole-refused : {A : Type 0} {P : A → Type 0} (text : List ℕ) {rule : Reader A} → ReadsIn P text rule → {number place : ℕ}
     → unless_long text (whole_text text rule) ≡ refused number place → number ≡ 5 → ⊥
 whole-refused {A} {P} text {rule} h {number} {place} = by_length (leb (length text) most_text)
   where
-    of-rules : {r : Answer A} → Gives P (length text) r → r ≡ refused number place → number ≡ 5 → ⊥
+    of-rules : {r : Answer A} → Gives P text r → r ≡ refused number place → number ≡ 5 → ⊥
     of-rules (given g l) e f = impossible (cc)
     of-rules nothing e f = impossible (cc)
     of-rules (refuses {number = k} n i) e f = let same : k ≡ number = cc in not-five n (same ∙ f)
@@ -77,13 +77,13 @@ stored-limited text n h ws = by-fit (leb (length ws) n && leb (length ws) most_w
 
 module _ {A : Type 0} {P : A → Type 0} (words_of : A → List ℕ) (text : List ℕ) (n : ℕ) where
   -- of a text of at most 32,768 bytes
-  answer-limited : length text ≤ most_text → {r : Answer A} → Gives P (length text) r → Limited text n (outcome_by words_of n r)
+  answer-limited : length text ≤ most_text → {r : Answer A} → Gives P text r → Limited text n (outcome_by words_of n r)
   answer-limited h (given {a} g l) = stored-limited text n h (words_of a)
   answer-limited h nothing = by-rule h unusable-token zero-le
-  answer-limited h (refuses n i) = by-rule h n i
+  answer-limited h (refuses n i) = by-rule h n i.inside
 
   -- of any text
-  text-limited : {rule : Reader A} → ReadsIn P (length text) rule → Limited text n (outcome_by words_of n (unless_long text (whole_text text rule)))
+  text-limited : {rule : Reader A} → ReadsIn P text rule → Limited text n (outcome_by words_of n (unless_long text (whole_text text rule)))
   text-limited {rule} h = by_length (leb (length text) most_text) refl
     where
       by_length : (b : Bool) → leb (length text) most_text ≡ b → Limited text n (outcome_by words_of n (pick b (whole_text text rule) (refused 1 most_text)))
@@ -98,7 +98,7 @@ module _ (text : List ℕ) where
   abbrev turns : ℕ
   turns = suc (length text)
 
-  program-reads : ReadsIn (Fixed (map_program (λ s. s))) (length text) (TopLevel text turns (gallery text turns most_depth))
+  program-reads : ReadsIn (Fixed (map_program (λ s. s))) text (TopLevel text turns (gallery text turns most_depth))
   program-reads = TopLevel-kept same turns (gallery-kept same turns most_depth)
 
 -- No rule of programs refuses by 5.
