@@ -188,12 +188,18 @@ impl<'a> Reader<'a> {
         Ok(self.node(3, Stmt::VarDecl(Box::new(VarDecl { variable, init, body }))))
     }
 
-    /// No label where the name leads the next statement.
+    /// No label where the name leads the next statement. The name and its mark are looked at with the blanks after them.
     fn exit_label(&mut self) -> Result<Option<Name<'a>>> {
         let name = self.cursor.identifier();
         let mut after = self.cursor;
         after.take(name.len())?;
-        let label = if name.is_empty() || matches!(after.peek(), b':' | b'(') {
+        let mark = match after.rest() {
+            [b':', b'=', ..] => 2,
+            [b':' | b'(', ..] => 1,
+            _ => 0,
+        };
+        let label = if name.is_empty() || mark != 0 {
+            after.take(mark)?;
             None
         } else {
             self.cursor = after;
