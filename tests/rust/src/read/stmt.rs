@@ -194,12 +194,15 @@ impl<'a> Reader<'a> {
         let mut after = self.cursor;
         after.take(name.len())?;
         let mark = match after.rest() {
+            _ if name.is_empty() => 0,
             [b':', b'=', ..] => 2,
             [b':' | b'(', ..] => 1,
             _ => 0,
         };
-        let label = if name.is_empty() || mark != 0 {
+        let label = if mark != 0 {
             after.take(mark)?;
+            None
+        } else if name.is_empty() {
             None
         } else {
             self.cursor = after;
