@@ -18,6 +18,7 @@ pub mod SimpleStatements
 pub mod StatementBranches
 pub mod StatementEquations
 pub mod StatementLeads
+pub mod StatementLevels
 pub mod StatementLoops
 pub mod StatementPlaces
 pub mod StatementRules

@@ -1,6 +1,5 @@
--- The statement rules by what stands at a place: no level left, a word, a name, or neither.
-use Rattle.std.proofs.Common.{ℕ, eqb, eqb-true, zero, suc, ◌-◌, ◌≤◌, ◌<◌, ◌≡◌, ◌∙◌, refl, sym, ap, Bool, true, false, not, ◌&&◌, ◌||◌, List, [], ◌∷◌, ◌++◌, take, drop, arith}
-use mathlib.Core.Path.{fun_ext}
+-- The rule of a statement by what stands at a place: a word, a name, or neither.
+use Rattle.std.proofs.Common.{ℕ, eqb, eqb-true, ◌≤◌, ◌<◌, ◌≡◌, ◌∙◌, refl, sym, ap, Bool, true, false, not, ◌&&◌, ◌||◌, List, [], ◌∷◌, ◌++◌, take, drop, arith}
 use Rattle.std.proofs.Math.Option.{Option, none, some}
 use Rattle.std.proofs.Math.Nat.{le_refl}
 use Prim.Native.String.{String}
@@ -9,138 +8,20 @@ use Rattle.lexing.specs.Bytes.{starts_with, same_bytes, can_start_identifier_cha
 use Rattle.lexing.specs.Tokens.{identifier_length, sign}
 use Rattle.lexing.specs.RunLaws.{both_true}
 use Rattle.lexing.specs.TokenLaws.{same_bytes-true, starts_with-true}
-use Rattle.tree.specs.Ast.{Span, Stmt, Block, Loop as Loop-stmt}
+use Rattle.tree.specs.Ast.{Span, Stmt}
 use Rattle.tree.specs.Clash.{impossible}
-use Rattle.grammar.specs.Steps.{after, need, must, mapped, ◌or◌, T, Sym, sign_at, parse_name}
-use Rattle.grammar.specs.Statements.{Gallery, gallery, statements, aexprs, rep, rep_till, atomic, mark, word_of, too_deep, simple_words, statement_words, parse_stmt, parse_block, parse_loop, parse_a_expr, parse_a_expr_seq, parse_if_cont, after_assign, after_label, after_call}
+use Rattle.grammar.specs.Steps.{after, ◌or◌, T, Sym, sign_at, parse_name}
+use Rattle.grammar.specs.Statements.{Gallery, gallery, atomic, mark, word_of, too_deep, simple_words, statement_words, parse_stmt, after_assign, after_label, after_call}
 use Rattle.parsing.specs.Code.{turns, opened}
 use Rattle.parsing.specs.Leads.{classed, leads_before, leads_after, leads, is_loop, opens_none, lead_of}
-use Rattle.parsing.specs.Contract.{needed}
-use Rattle.parsing.specs.Statements.{after_loop, named_stmt, scope_stmt}
+use Rattle.parsing.specs.Statements.{named_stmt}
 use Rattle.parsing.specs.declared.lead.Lead.{Lead}
 use Rattle.parsing.specs.declared.lead.Lead.TheVariants.{Choose, If, Loop, Name}
 use Rattle.parsing.proofs.Laws.{after-ok, after-none, after-refused}
-use Rattle.parsing.proofs.StatementEquations.{must-after, must-first, ok-keeps, atomic-none, atomic-refused, atomic-named}
-use Rattle.parsing.proofs.StatementWords.{Keeps, found, or_else, classed-found, none_found, any_word, any_found, any-listed, listed, here, blanks, blanks-keep, keyword-tested, words-tested, branches, chosen, branches-chosen, no_name, blanks-passed, blanks-refused, no-branch}
-use Rattle.parsing.proofs.StatementBranches.{loop_body, lead_rule, lead_least, lead-keeps, loop-keeps}
-
--- ---- levels
-
--- a step that keeps something is too deep where it stands
-deep-kept : {A B : Type 0} (at : ℕ) (r : Answer A) → Keeps r → too_deep {B = B} at r ≡ refused 3 at
-unfolding too_deep
-deep-kept at (ok a next) k = refl
-deep-kept at Answer.none k = absurd (omega (arith, k.some))
-deep-kept at (refused number place) k = refl
-
--- a step that is not refused
-pub data Unrefused {A : Type 0} : Answer A → Type 0 where
-  reads : {a : A} {next : ℕ} → Unrefused (ok a next)
-  misses : Unrefused Answer.none
-
--- Where no level is left, a block and a loop are too deep where their token stands. A loop begins with its word, if that is not refused there.
-module _ (text : List ℕ) (depth at : ℕ) where
-  pub block-deep : depth ≡ 0 → (opened depth text).block at ≡ too_deep at (Sym text "{" at)
-  unfolding gallery
-  block-deep e = rw e refl
-
-  pub loop-deep : depth ≡ 0 → (opened depth text).loop at ≡ too_deep at (T text "loop" at)
-  unfolding gallery
-  loop-deep e = rw e refl
-
-block-none : (text : List ℕ) (depth at : ℕ) → Sym text "{" at ≡ Answer.none → (opened depth text).block at ≡ Answer.none
-unfolding gallery parse_block too_deep
-block-none text zero at e = rw e refl
-block-none text (suc d) at e = after-none _ _ _ e
-
-loop_rule : (text : List ℕ) (depth at : ℕ) → (depth ≡ 0 → Unrefused (T text "loop" at))
-    → (opened depth text).loop at ≡ after (T text "loop" at) Answer.none (λ _ at₁. loop_body depth at text at₁)
-unfolding gallery parse_loop too_deep after
-loop_rule text zero at u = by-word (T text "loop" at) (u refl)
-  where
-    by-word : (r : Answer ℕ) → Unrefused r → ◌≡◌ {A = Answer (Stmt Span)} (too_deep at r) (after r Answer.none (λ _ _. refused 3 at))
-    by-word (ok a next) reads = refl
-    by-word Answer.none misses = refl
-    by-word (refused number place) u = elim u [ ]
-loop_rule text (suc d) at u = refl
-
--- a sequence and what must follow it, made into something that must follow
-list-made : {A B : Type 0} (f : A → B) (at : ℕ) (x : Answer A) (y : ℕ → Answer ℕ)
-    → must at (mapped f (need at x (λ l at₁. need at₁ (y at₁) (λ _ at₂. ok l at₂))))
-    ≡ need at x (λ l at₁. need at₁ (y at₁) (λ _ at₂. ok (f l) at₂))
-unfolding after
-list-made f at (ok l next) y = ended (y next)
-  where
-    ended : (z : Answer ℕ) → must at (mapped f (need next z (λ _ at₂. ok l at₂))) ≡ need next z (λ _ at₂. ok (f l) at₂)
-    ended (ok v n) = refl
-    ended Answer.none = refl
-    ended (refused number place) = refl
-list-made f at Answer.none y = refl
-list-made f at (refused number place) y = refl
-
-module _ (text : List ℕ) (depth at : ℕ) where
-  -- a block with a level left
-  pub block-opens : (depth ≡ 0 → ⊥)
-      → (opened depth text).block at
-      ≡ after (Sym text "{" at) Answer.none
-      (λ _ at₁. need at₁ (rep statements (turns text) (parse_stmt text (turns text) (opened (depth - 1) text)) at₁)
-      (λ l at₂. need at₂ (Sym text "}" at₂) (λ _ at₃. ok (Block l) at₃)))
-  unfolding gallery parse_block rep_till
-  block-opens h = by-level depth h
-    where
-      by-level : (d : ℕ) → (d ≡ 0 → ⊥)
-          → (opened d text).block at
-          ≡ after (Sym text "{" at) Answer.none
-          (λ _ at₁. need at₁ (rep statements (turns text) (parse_stmt text (turns text) (opened (d - 1) text)) at₁)
-          (λ l at₂. need at₂ (Sym text "}" at₂) (λ _ at₃. ok (Block l) at₃)))
-      by-level zero h = absurd (h refl)
-      by-level (suc d) h =
-          let e : suc d - 1 ≡ d = omega arith in
-          rw e (ap (after (Sym text "{" at) Answer.none) (fun_ext (λ _. fun_ext (λ at₁. list-made Block at₁ _ (Sym text "}")))))
-
-  -- the other rules with a level left
-  pub cont-opens : (depth ≡ 0 → ⊥) → (opened depth text).if_cont at ≡ parse_if_cont text (turns text) (opened (depth - 1) text) at
-  unfolding gallery
-  cont-opens h = by-level depth h
-    where
-      by-level : (d : ℕ) → (d ≡ 0 → ⊥) → (opened d text).if_cont at ≡ parse_if_cont text (turns text) (opened (d - 1) text) at
-      by-level zero h = absurd (h refl)
-      by-level (suc d) h = let e : suc d - 1 ≡ d = omega arith in rw e refl
-
-  pub stmt-opens : (depth ≡ 0 → ⊥) → (opened depth text).stmt at ≡ parse_stmt text (turns text) (opened (depth - 1) text) at
-  unfolding gallery
-  stmt-opens h = by-level depth h
-    where
-      by-level : (d : ℕ) → (d ≡ 0 → ⊥) → (opened d text).stmt at ≡ parse_stmt text (turns text) (opened (d - 1) text) at
-      by-level zero h = absurd (h refl)
-      by-level (suc d) h = let e : suc d - 1 ≡ d = omega arith in rw e refl
-
--- a block or a loop, which must follow, with no level left and with one
-pub scope-deep : (depth : ℕ) (text : List ℕ) (at : ℕ) → depth ≡ 0
-    → needed (scope_stmt depth) text at ≡ after ((opened depth text).block at) (must at (too_deep at (T text "loop" at))) (λ s at₁. ok s at₁)
-scope-deep depth text at e =
-    ap (λ r. must at ((opened depth text).block at or r)) (loop-deep text depth at e)
-    ∙ must-after at ((opened depth text).block at) (too_deep at (T text "loop" at)) (λ s at₁. ok s at₁) (λ s at₁. ok-keeps _ _)
-
-pub scope-rule : (depth : ℕ) (text : List ℕ) (at : ℕ) → (depth ≡ 0 → ⊥)
-    → needed (scope_stmt depth) text at
-    ≡ after ((opened depth text).block at) (need at (T text "loop" at) (λ _ at₁. loop_body depth at text at₁)) (λ s at₁. ok s at₁)
-scope-rule depth text at h =
-    ap (λ r. must at ((opened depth text).block at or r)) (loop_rule text depth at (λ z. absurd (h z)))
-    ∙ must-after at ((opened depth text).block at) (after (T text "loop" at) Answer.none (λ _ at₁. loop_body depth at text at₁)) (λ s at₁. ok s at₁) (λ s at₁. ok-keeps _ _)
-    ∙ ap (λ r. after ((opened depth text).block at) r (λ s at₁. ok s at₁)) (must-first at (T text "loop" at) _ (λ _ at₁. loop-keeps depth at text at₁))
-
--- a loop's body
-pub body-opens : (depth start : ℕ) (text : List ℕ) (at : ℕ) → (depth ≡ 0 → ⊥) → loop_body depth start text at ≡ after_loop depth text at
-body-opens zero start text at h = absurd (h refl)
-body-opens (suc d) start text at h = let e : suc d - 1 ≡ d = omega arith in rw e refl
-
-pub loop-opens : (depth : ℕ) (text : List ℕ) (at : ℕ)
-    → after_loop depth text at
-    ≡ need at (rep aexprs (turns text) (parse_a_expr text (turns text) (opened (depth - 1) text) (bytes "invariant")) at)
-    (λ is at₁. must at₁ (mapped (Loop-stmt is) ((opened (depth - 1) text).block at₁)))
-unfolding parse_a_expr_seq
-loop-opens depth text at = refl
+use Rattle.parsing.proofs.StatementEquations.{atomic-none, atomic-refused, atomic-named}
+use Rattle.parsing.proofs.StatementWords.{found, or_else, classed-found, none_found, any_word, any_found, any-listed, listed, here, blanks, blanks-keep, keyword-tested, words-tested, branches, chosen, branches-chosen, no_name, blanks-passed, blanks-refused, no-branch}
+use Rattle.parsing.proofs.StatementBranches.{lead_rule, lead_least, lead-keeps}
+use Rattle.parsing.proofs.StatementLevels.{deep-kept, Unrefused, reads, misses, loop-deep, block-none, loop_rule}
 
 -- ---- signs and words that can't stand
 

@@ -13,7 +13,8 @@ use Rattle.parsing.proofs.Places.{no_credit, begin, begin_with, later-next, said
 use Rattle.parsing.proofs.StatementPlaces.{deep-says, deep-none, spares_err, spares_if_err, says-of, stay, back, read-all, spared, spared_if, passed, room, took-least, refuses, without-next, ends, ends-mapped, ends-last, tail-spares, spares_if_same}
 use Rattle.parsing.proofs.ExpressionRules.{bool-word}
 use Rattle.parsing.proofs.StatementEquations.{must-need, cond-rule, cont-rule, else-rule, aexpr-rule, case-rule, cont-deep, cont-none, forall-words}
-use Rattle.parsing.proofs.StatementRules.{block-deep, block-opens, stmt-opens, cont-opens, body-opens, loop-opens, scope-deep, scope-rule, level-left, wordless-stmt, stmt-refused, stmt-deep}
+use Rattle.parsing.proofs.StatementLevels.{block-deep, block-opens, stmt-opens, cont-opens, body-opens, loop-opens, scope-deep, scope-rule}
+use Rattle.parsing.proofs.StatementRules.{level-left, wordless-stmt, stmt-refused, stmt-deep}
 use Rattle.parsing.proofs.StatementBranches.{lead_rule}
 use Rattle.parsing.proofs.StatementLeads.{led, declared}
 use Rattle.parsing.proofs.StatementLoops.{gathered-none, gathered-next, gathered-all, gathered-refused, repetition_rule}
