@@ -4,9 +4,8 @@ use Rattle.std.specs.Prelude.{◌≡◌, refl, List, [], ◌∷◌, map}
 use Prim.Native.String.{String}
 use Rattle.lexing.specs.Answer.{refused}
 use Rattle.lexing.specs.Bytes.{bytes}
-use Rattle.grammar.specs.Statements.{Gallery, gallery}
 use Rattle.grammar.specs.Reading.{words, refusal, read_expression}
-use Rattle.grammar.specs.ProgramExamples.{computed}
+use Rattle.grammar.specs.ProgramExamples.{computed, none_left}
 use Rattle.grammar.specs.RefusalExamples.{Row, ◌stops◌, refused_by, expression_of, program_of}
 
 -- ---- expressions
@@ -91,9 +90,6 @@ unfolding computed
 no-declaration = refl
 
 -- ---- depth: where no level is left the first token decides, of a statement that a name leads the name with its mark
-
-abbrev none_left : String → Gallery
-none_left s = gallery (bytes s) 20 0
 
 comment-block-deep : (none_left "{ /*").block 0 ≡ refused 3 0
 unfolding computed

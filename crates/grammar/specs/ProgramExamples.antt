@@ -267,7 +267,7 @@ when_alone = refl
 
 -- ---- depth: the four rules where no level is left, refused at their first token or kept nothing
 
-abbrev none_left : String → Statements.Gallery
+abbrev pub none_left : String → Statements.Gallery
 none_left s = Statements.gallery (bytes s) 20 0
 
 block-deep : (none_left "{ }").block 0 ≡ refused 3 0

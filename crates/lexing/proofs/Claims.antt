@@ -77,7 +77,7 @@ blanks-as-upstream = blanks.W-to_end
 -- ---- a token is refused in the blanks after it alone, at the comment's place; a natural also where it is too large
 
 module _ (number place : ℕ) where
-  names-refused : (s : List ℕ) → (parse_id s ≡ refused number place) ↔ ((0 < identifier_length s) × Refused (identifier_length s) s number place)
+  pub names-refused : (s : List ℕ) → (parse_id s ≡ refused number place) ↔ ((0 < identifier_length s) × Refused (identifier_length s) s number place)
   names-refused = refusals.parse_id-refused
 
   keywords-refused : (w s : List ℕ) → (keyword w s ≡ refused number place)

@@ -66,42 +66,28 @@ list-made f at (ok l next) y = ended (y next)
 list-made f at Answer.none y = refl
 list-made f at (refused number place) y = refl
 
-module _ (text : List ℕ) (depth at : ℕ) where
-  -- a block with a level left
-  pub block-opens : (depth ≡ 0 → ⊥)
-      → (opened depth text).block at
+-- with a level left, the depth is one more than another
+one-more : (depth : ℕ) → (depth ≡ 0 → ⊥) → depth ≡ suc (depth - 1)
+one-more depth h = omega (arith, h)
+
+-- there a rule is upstream's
+module _ (text : List ℕ) (depth at : ℕ) (h : depth ≡ 0 → ⊥) where
+  pub block-opens : (opened depth text).block at
       ≡ after (Sym text "{" at) Answer.none
       (λ _ at₁. need at₁ (rep statements (turns text) (parse_stmt text (turns text) (opened (depth - 1) text)) at₁)
       (λ l at₂. need at₂ (Sym text "}" at₂) (λ _ at₃. ok (Block l) at₃)))
   unfolding gallery parse_block rep_till
-  block-opens h = by-level depth h
-    where
-      by-level : (d : ℕ) → (d ≡ 0 → ⊥)
-          → (opened d text).block at
-          ≡ after (Sym text "{" at) Answer.none
-          (λ _ at₁. need at₁ (rep statements (turns text) (parse_stmt text (turns text) (opened (d - 1) text)) at₁)
-          (λ l at₂. need at₂ (Sym text "}" at₂) (λ _ at₃. ok (Block l) at₃)))
-      by-level zero h = absurd (h refl)
-      by-level (suc d) h =
-          let e : suc d - 1 ≡ d = omega arith in
-          rw e (ap (after (Sym text "{" at) Answer.none) (fun_ext (λ _. fun_ext (λ at₁. list-made Block at₁ _ (Sym text "}")))))
+  block-opens =
+      ap (λ d. (opened d text).block at) (one-more depth h)
+      ∙ ap (after (Sym text "{" at) Answer.none) (fun_ext (λ _. fun_ext (λ at₁. list-made Block at₁ _ (Sym text "}"))))
 
-  -- the other rules with a level left
-  pub cont-opens : (depth ≡ 0 → ⊥) → (opened depth text).if_cont at ≡ parse_if_cont text (turns text) (opened (depth - 1) text) at
+  pub cont-opens : (opened depth text).if_cont at ≡ parse_if_cont text (turns text) (opened (depth - 1) text) at
   unfolding gallery
-  cont-opens h = by-level depth h
-    where
-      by-level : (d : ℕ) → (d ≡ 0 → ⊥) → (opened d text).if_cont at ≡ parse_if_cont text (turns text) (opened (d - 1) text) at
-      by-level zero h = absurd (h refl)
-      by-level (suc d) h = let e : suc d - 1 ≡ d = omega arith in rw e refl
+  cont-opens = ap (λ d. (opened d text).if_cont at) (one-more depth h)
 
-  pub stmt-opens : (depth ≡ 0 → ⊥) → (opened depth text).stmt at ≡ parse_stmt text (turns text) (opened (depth - 1) text) at
+  pub stmt-opens : (opened depth text).stmt at ≡ parse_stmt text (turns text) (opened (depth - 1) text) at
   unfolding gallery
-  stmt-opens h = by-level depth h
-    where
-      by-level : (d : ℕ) → (d ≡ 0 → ⊥) → (opened d text).stmt at ≡ parse_stmt text (turns text) (opened (d - 1) text) at
-      by-level zero h = absurd (h refl)
-      by-level (suc d) h = let e : suc d - 1 ≡ d = omega arith in rw e refl
+  stmt-opens = ap (λ d. (opened d text).stmt at) (one-more depth h)
 
 -- a block or a loop, which must follow, with no level left and with one
 pub scope-deep : (depth : ℕ) (text : List ℕ) (at : ℕ) → depth ≡ 0
@@ -120,8 +106,7 @@ scope-rule depth text at h =
 
 -- a loop's body
 pub body-opens : (depth start : ℕ) (text : List ℕ) (at : ℕ) → (depth ≡ 0 → ⊥) → loop_body depth start text at ≡ after_loop depth text at
-body-opens zero start text at h = absurd (h refl)
-body-opens (suc d) start text at h = let e : suc d - 1 ≡ d = omega arith in rw e refl
+body-opens depth start text at h = ap (λ d. loop_body d start text at) (one-more depth h)
 
 pub loop-opens : (depth : ℕ) (text : List ℕ) (at : ℕ)
     → after_loop depth text at

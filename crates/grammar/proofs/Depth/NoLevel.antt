@@ -1,9 +1,10 @@
 -- Where no level is left, each rule of a gallery (Statements.antt) keeps nothing or is refused by 3 where it stands. The blanks after a statement's first
 -- name stand before its mark, and may be refused.
-use Rattle.std.specs.Prelude.{◌≡◌, refl, ℕ, zero, suc, Bool, true, false, List, drop}
+use Rattle.std.specs.Prelude.{◌≡◌, refl, ℕ, zero, Bool, true, false, List, drop}
 use Rattle.lexing.specs.Answer.{Answer, ok, refused, moved, unclosed_comment, pick}
-use Rattle.lexing.specs.Blanks.{Blanks, passed, unclosed, W}
-use Rattle.lexing.specs.Tokens.{closed, lexeme, unless_empty, identifier_length, parse_id}
+use Rattle.lexing.specs.Tokens.{parse_id}
+use Rattle.lexing.proofs.Claims.{names-refused}
+use Rattle.std.proofs.Common.{sym, ◌∙◌}
 use Rattle.tree.specs.Ast.{Span}
 use Rattle.grammar.specs.Steps.{after, ◌or◌, spanned, parse_name}
 use Rattle.grammar.specs.Rules.{opens_expr, parse_expr}
@@ -31,13 +32,13 @@ either too-deep h = unopened too-deep
 module _ (text : List ℕ) where
   -- a name is refused only by the blanks after it
   named : (at : ℕ) {number place : ℕ} → parse_name text at ≡ refused number place → number ≡ unclosed_comment
-  unfolding after parse_id lexeme
-  named at {number} {place} e = by_length (identifier_length (drop at text)) (W (drop (identifier_length (drop at text)) (drop at text))) e
+  unfolding after
+  named at {number} {place} e = by_answer (parse_id (drop at text)) refl e
     where
-      by_length : (n : ℕ) (b : Blanks) → spanned text at (moved at (unless_empty n (closed n n b))) ≡ refused number place → number ≡ unclosed_comment
-      by_length zero b e = cc
-      by_length (suc n) (passed k) e = cc
-      by_length (suc n) (unclosed k) e = cc
+      by_answer : (r : Answer ℕ) → parse_id (drop at text) ≡ r → spanned text at (moved at r) ≡ refused number place → number ≡ unclosed_comment
+      by_answer (ok v n) p e = cc
+      by_answer Answer.none p e = cc
+      by_answer (refused m k) p e = let h : m ≡ number = cc in let (filled, blanks) = (names-refused m k (drop at text)).0 p in sym h ∙ blanks.1
 
   -- a name and its mark
   deep_name : {B : Type 0} (at : ℕ) → UnopenedStmt text at (after (parse_name text at) Answer.none (λ _ at₁. rules.too_deep {B = B} at (rules.mark text at₁)))
