@@ -13,12 +13,12 @@ lt-or-le m n = by-test (ltb m n) refl
     by-test true e = inl (ltb-true m n e)
     by-test false e = inr (ltb-false m n e)
 
-same_refl : (a : List ℕ) → same a a ≡ true
+pub same_refl : (a : List ℕ) → same a a ≡ true
 unfolding same
 same_refl [] = refl
 same_refl (x ∷ a) = rw (eq-eqb x x refl) (same_refl a)
 
-same_true : (a b : List ℕ) → same a b ≡ true → a ≡ b
+pub same_true : (a b : List ℕ) → same a b ≡ true → a ≡ b
 unfolding same
 same_true [] [] e = refl
 same_true [] (y ∷ b) e = impossible cc

@@ -11,6 +11,7 @@
 //   x START LENGTH TEXT              the part of the text that a name occupies
 //   a NUMBERS SPANS/TEXT             `names`: the numbers of spans, into so many numbers, each 65535 before
 //   r R WORDS TEXT                   `reading`: an expression's and a program's reading, into a table of so many words
+//   j TABLE/TEXT                     `profile`: the judgement of a program's table
 //   q HEX                            `settings`: reading, answered by the step and the form, or by the refusal and the step and the form after it
 //   Q STEP FORM BYTES                writing, into so many bytes
 //   p BYTES TABLE/TEXT               `printing`: an expression's print on one line, into so many bytes
@@ -23,13 +24,14 @@
 // otherwise has no answer. A print of more than 4,096 bytes is answered by its length and CRC-32, more numbers than 256 by how many they are and
 // the CRC-32 of two bytes each, the high one first.
 //
-// A number at once after `o`, `a`, `r`, `R`, `Q` or a print's letter says how often the entry is run, for measuring; the answer is then only how much
-// the last run gave: of an outline the table's words, of spans the distinct names.
+// A number at once after `o`, `a`, `j`, `r`, `R`, `Q` or a print's letter says how often the entry is run, for measuring; the answer is then
+// only how much the last run gave: of an outline the table's words, of spans the distinct names, of a judgement all.
 
 #![tactic(auto)]
 
 mod entries;
 mod hex;
+mod judgements;
 mod lines;
 mod numbers;
 mod outlines;
@@ -43,6 +45,7 @@ mod tokens;
 
 use entries::{print_case, read_case};
 use hex::with_hex;
+use judgements::judge_case;
 use lexing::{keyword, natural, parse_custom_literal, parse_id, sym, sym_not_prefix};
 use lines::tail;
 use numbers::number;
@@ -110,6 +113,7 @@ fn answer(to: &mut impl Write, entry: u8, line: &[u8]) -> io::Result<()> {
         b'a' => names_case(to, times, rest),
         b'r' => read_case(to, times, rest, |text, table| read_expression(text, table)),
         b'R' => read_case(to, times, rest, |text, table| read_program(text, table)),
+        b'j' => judge_case(to, times, rest),
         b'q' => settings_case(to, rest),
         b'Q' => record_case(to, times, rest),
         b'p' => print_case(to, times, rest, |s, out| {

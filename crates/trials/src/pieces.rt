@@ -74,10 +74,23 @@ pub(crate) fn with_words<
     requires small { (WORDS < 2 ^ 61) × (DIGITS < 2 ^ 63) }
     requires asked { F.IsAlwaysCallable ask }
 {
-    let mut table = [0u32; WORDS];
     let first = number(rest);
-    let parts = tail(rest, first.digits);
-    let n = until(parts, b'/');
-    let words = build_words::<DIGITS>(&parts[..n], &mut table);
-    ask(first.value, &table[..words], tail(parts, n))
+    with_table::<WORDS, DIGITS, _, _>(tail(rest, first.digits), |words, line| {
+        ask(first.value, words, line)
+    })
+}
+
+// The same of a line that begins with the words.
+#[inline(never)]
+pub(crate) fn with_table<const WORDS: usize, const DIGITS: usize, R, F: FnOnce(&[u32], &[u8]) -> R>(
+    rest: &[u8],
+    ask: F,
+) -> R
+    requires small { (WORDS < 2 ^ 61) × (DIGITS < 2 ^ 63) }
+    requires asked { F.IsAlwaysCallable ask }
+{
+    let mut table = [0u32; WORDS];
+    let n = until(rest, b'/');
+    let words = build_words::<DIGITS>(&rest[..n], &mut table);
+    ask(&table[..words], tail(rest, n))
 }

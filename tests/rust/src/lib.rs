@@ -5,6 +5,7 @@
 
 pub mod escape;
 pub mod generate;
+pub mod judge;
 #[cfg(feature = "linked")]
 pub mod linked;
 pub mod numbering;
@@ -21,6 +22,7 @@ pub mod tree;
 pub mod trials;
 pub mod words;
 
+pub use judge::judge_program;
 pub use print::{print_expression, print_expression_by, print_program, print_program_by, Format};
 pub use read::{read_expression, read_program};
 pub use refusal::Refusal;

@@ -5,8 +5,9 @@ use b3_compare::print::check_print_input;
 use b3_compare::refusal::{OUTPUT_LIMIT, TABLE_LIMIT};
 use b3_compare::trials::{bytes, hex};
 use b3_compare::words::{decode_expression, decode_program, encode_expression, encode_program};
+use b3_compare::{judge_program, read_expression, read_program, tidy, write_settings};
 use b3_compare::{on_deep_stack, print_expression, print_expression_by, print_program, print_program_by};
-use b3_compare::{read_expression, read_program, tidy, write_settings, Format, Refusal, Settings};
+use b3_compare::{Format, Refusal, Settings};
 use std::{env, fs, path::PathBuf};
 
 fn folder() -> PathBuf {
@@ -44,8 +45,13 @@ fn natural(field: &str) -> usize {
     field.parse().expect("it is a natural")
 }
 
+/// A table's words; `-` is none.
 fn words(field: &str) -> Vec<u32> {
-    field.split_whitespace().map(|word| word.parse().expect("a word is a natural")).collect()
+    field
+        .trim_end_matches('-')
+        .split_whitespace()
+        .map(|word| word.parse().expect("a word is a natural"))
+        .collect()
 }
 
 fn shown_words(answer: Result<Vec<u32>, Refusal>) -> String {
@@ -103,6 +109,14 @@ fn print_programs() {
                 .and_then(|()| decode_program(&text, &words))
                 .and_then(|program| print_program(&program, OUTPUT_LIMIT)),
         )
+    });
+}
+
+#[test]
+fn judged_programs() {
+    check("profile.txt", |given| match judge_program(&text(given[0]), &words(given[1])) {
+        Ok(verdict) => verdict.to_string(),
+        Err(refusal) => refusal.to_string(),
     });
 }
 

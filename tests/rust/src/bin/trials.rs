@@ -1,10 +1,10 @@
 //! Compares a program that takes crates/trials' lines with the Rust implementation, on seeded lines about print
-//! settings: records with bytes changed, settings written, and prints of random trees, also such as no reading gives,
-//! and of texts' trees by records.
+//! settings: records with bytes changed, settings written, and prints by records; and about the bench profile. Their
+//! tables are those of random trees, also such as no reading gives, and of texts' trees, some of them damaged.
 //!
 //! trials PROGRAM [COUNT [SEED]]
 
-use b3_compare::generate::{case, random_expression, random_program, NAMES};
+use b3_compare::generate::{case, random_expression, random_flow, random_program, NAMES};
 use b3_compare::generate::{expression_text, random_record, random_writing};
 use b3_compare::random::Random;
 use b3_compare::refusal::{INDENT_LIMIT, OUTPUT_LIMIT, TABLE_LIMIT};
@@ -60,7 +60,7 @@ fn compare(program: &str, count: u64, seed: u64) -> usize {
 
 fn line(seed: u64, index: u64) -> String {
     let random = &mut Random::new(seed, index);
-    match random.below(8) {
+    match random.below(12) {
         0 => format!("q {}", hex(&random_record(random, 2))),
         1 => {
             let [step, form, room] = random_writing(random);
@@ -70,6 +70,8 @@ fn line(seed: u64, index: u64) -> String {
             let table = program_table(random, seed, index);
             format!("d {} {} {table}", hex(&random_record(random, 8)), room(random))
         }
+        5 => format!("j {}", program_table(random, seed, index)),
+        6..=8 => format!("j {}", flow_table(random)),
         _ => {
             let table = expression_table(random);
             let indent = random.below(INDENT_LIMIT + 9);
@@ -113,13 +115,23 @@ fn expression_table(random: &mut Random) -> String {
     source(&damaged(random, words), NAMES)
 }
 
-/// A table, once in eight cut or with a word changed.
+/// The table of a program for a bench.
+fn flow_table(random: &mut Random) -> String {
+    let fuel = random.below(60);
+    let words = encode_program(NAMES, &random_flow(random, fuel));
+    source(&damaged(random, words), NAMES)
+}
+
+/// A table, once in eight cut, or with a word changed, left out or put in.
 fn damaged(random: &mut Random, mut words: Vec<u32>) -> Vec<u32> {
     if random.once_in(8) {
         let place = random.below(words.len());
-        match random.below(2) {
-            0 => words.truncate(place),
-            _ => words[place] = random.below(40) as u32,
+        let word = random.below(40) as u32;
+        match random.below(6) {
+            0 | 1 => words.truncate(place),
+            2 | 3 => words[place] = word,
+            4 => drop(words.remove(place)),
+            _ => words.insert(place, word),
         }
     }
     words

@@ -1,11 +1,12 @@
-//! Seeded cases: whole programs, damaged ones, runs of tokens, texts at each limit, trees that no reading gives, and
-//! print settings.
+//! Seeded cases: whole programs, damaged ones, runs of tokens, texts at each limit, trees that no reading gives,
+//! bench programs, and print settings.
 
 mod blanks;
 mod damage;
 mod decl;
 mod depth;
 mod expr;
+mod flows;
 mod limits;
 mod names;
 mod settings;
@@ -17,6 +18,7 @@ mod trees;
 use crate::random::Random;
 use crate::refusal::{OUTPUT_LIMIT, TABLE_LIMIT};
 use crate::{print_program, read_program};
+pub use flows::random_flow;
 pub use settings::{random_record, random_settings, random_writing};
 pub use source::Source;
 pub use trees::{random_expression, random_program, NAMES};

@@ -19,9 +19,24 @@ pub fn random_program(random: &mut Random, fuel: usize) -> Program<'static> {
     }
 }
 
+/// A procedure of about `fuel` nodes.
+pub fn random_procedure(random: &mut Random, fuel: usize) -> Procedure<'static> {
+    Grower { random, fuel }.procedure()
+}
+
 /// An expression of about `fuel` nodes.
 pub fn random_expression(random: &mut Random, fuel: usize) -> Expr<'static> {
     Grower { random, fuel }.expr()
+}
+
+/// A name, once in two one of four.
+pub fn random_name(random: &mut Random) -> Name<'static> {
+    if random.once_in(2) {
+        return random.pick::<[u8]>(&[&NAMES[..1], &NAMES[1..2], &NAMES[..3], &NAMES[4..7]]);
+    }
+    let start = random.below(NAMES.len() + 1);
+    let len = random.below((NAMES.len() - start).min(6) + 1);
+    &NAMES[start..start + len]
 }
 
 struct Grower<'r> {
@@ -31,12 +46,7 @@ struct Grower<'r> {
 
 impl Grower<'_> {
     fn name(&mut self) -> Name<'static> {
-        if self.random.once_in(2) {
-            return self.random.pick::<[u8]>(&[&NAMES[..1], &NAMES[1..2], &NAMES[..3], &NAMES[4..7]]);
-        }
-        let start = self.random.below(NAMES.len() + 1);
-        let len = self.random.below((NAMES.len() - start).min(6) + 1);
-        &NAMES[start..start + len]
+        random_name(self.random)
     }
 
     /// Fewer than `bound` items.

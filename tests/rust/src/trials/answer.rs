@@ -1,11 +1,13 @@
-//! What this implementation answers to a line about outlines, numbers of names, readings, prints or settings.
+//! What this implementation answers to a line about outlines, numbers of names, judgements, readings, prints or
+//! settings.
 
 use super::parts::{bytes, hex, joined, number, numbers, printed, split, table, text};
 use crate::numbering::number_spans;
 use crate::print::check_print_input;
 use crate::refusal::{Result, OUTPUT_LIMIT, TABLE_LIMIT};
 use crate::words::{decode_expression, decode_program, encode_expression, encode_program, outline_program};
-use crate::{print_expression, print_expression_by, print_program_by, read_expression, read_program};
+use crate::{judge_program, print_expression, print_expression_by, print_program_by};
+use crate::{read_expression, read_program};
 use crate::{write_settings, Format, Settings};
 
 /// What the program has room for: a text's bytes, a table's words, and of names the text's bytes, the words of spans
@@ -18,12 +20,13 @@ const NUMBERS: usize = 32_772;
 
 /// The answer to a line; none where it is no case of these.
 pub fn answer(line: &str) -> Option<String> {
-    let entry = line.chars().next().filter(|entry| "oarRpmPqQde".contains(*entry))?;
+    let entry = line.chars().next().filter(|entry| "oajrRpmPqQde".contains(*entry))?;
     let digits = line[1..].bytes().take_while(u8::is_ascii_digit).count();
     let (counted, rest) = (digits > 0, &line[digits + 2..]);
     Some(match entry {
         'o' => outline(rest, counted),
         'a' => names(rest, counted),
+        'j' => judged(rest),
         'r' | 'R' => {
             let (size, rest) = number(rest);
             shown(read(entry, &text(rest, TEXT), size), counted, "words", joined)
@@ -69,6 +72,14 @@ fn names(rest: &str, counted: bool) -> String {
     let mut given = vec![u16::MAX; size.min(NUMBERS)];
     fill(&mut given, &found);
     format!("{count} /{}", numbers(&given, "numbers"))
+}
+
+fn judged(rest: &str) -> String {
+    let (words, pieces) = split(rest, '/');
+    match judge_program(&text(pieces, TEXT), &table(words, WORDS)) {
+        Ok(verdict) => verdict.to_string(),
+        Err(refusal) => refusal.to_string(),
+    }
 }
 
 /// Puts numbers at the start of a slice, as far as it goes.

@@ -4,21 +4,36 @@ use crate::tree::*;
 
 /// The words of a program over `text`.
 pub fn encode_program(text: &[u8], program: &Program) -> Vec<u32> {
-    let mut encoder = Encoder { text, words: Vec::new() };
-    encoder.program(program);
-    encoder.words
+    encoded(text, |encoder| encoder.program(program)).words
 }
 
 /// The words of an expression over `text`.
 pub fn encode_expression(text: &[u8], expr: &Expr) -> Vec<u32> {
-    let mut encoder = Encoder { text, words: Vec::new() };
-    encoder.expr(expr);
-    encoder.words
+    encoded(text, |encoder| encoder.expr(expr)).words
+}
+
+/// Where a program's procedures and statements begin in its words, each in their order: a procedure with its name.
+#[derive(Debug, Default, PartialEq, Eq)]
+pub struct Places {
+    pub procedures: Vec<usize>,
+    pub statements: Vec<usize>,
+}
+
+/// The places of a program over `text`.
+pub fn places(text: &[u8], program: &Program) -> Places {
+    encoded(text, |encoder| encoder.program(program)).places
 }
 
 struct Encoder<'a> {
     text: &'a [u8],
     words: Vec<u32>,
+    places: Places,
+}
+
+fn encoded<'a>(text: &'a [u8], tree: impl FnOnce(&mut Encoder<'a>)) -> Encoder<'a> {
+    let mut encoder = Encoder { text, words: Vec::new(), places: Places::default() };
+    tree(&mut encoder);
+    encoder
 }
 
 impl Encoder<'_> {
@@ -81,6 +96,7 @@ impl Encoder<'_> {
     }
 
     fn procedure(&mut self, procedure: &Procedure) {
+        self.places.procedures.push(self.words.len());
         self.name(&procedure.name);
         self.seq(&procedure.parameters, |e, param| {
             e.name(&param.name);
@@ -107,6 +123,7 @@ impl Encoder<'_> {
     }
 
     fn stmt(&mut self, stmt: &Stmt) {
+        self.places.statements.push(self.words.len());
         self.word(stmt_word(stmt));
         match stmt {
             Stmt::VarDecl(decl) => self.var_decl(decl),

@@ -5,5 +5,5 @@ mod encode;
 mod outline;
 
 pub use decode::{decode_expression, decode_program};
-pub use encode::{encode_expression, encode_program};
+pub use encode::{encode_expression, encode_program, places, Places};
 pub use outline::{outline_program, Kind, Outline};
