@@ -56,21 +56,25 @@ module _ (text words : List ℕ) where
 
     -- where a slice had no other number than 0 before
     module _ (before : List ℕ) (zero : (i : ℕ) → get_or before i 0 ≡ 0) (room : length before ≡ most_words) where
+      -- by what it has at the words' places, and past them
+      there : (numbers slice : List ℕ) → length numbers ≤ length words → ((at : ℕ) → at < length words → get_or slice at 0 ≡ get_or numbers at 0)
+          → ((at : ℕ) → length words ≤ at → get_or slice at 0 ≡ get_or before at 0) → (at : ℕ) → get_or slice at 0 ≡ get_or numbers at 0
+      there numbers slice n at-words past at =
+          ⊎_elim (at-words at) (λ l. past at l ∙ zero at ∙ sym (get_or_past numbers at 0 (omega arith))) (cases_lt at (length words))
+
       kinds-there : (at : ℕ) → get_or (program_kinds words (length text) before) at 0 ≡ get_or (kind_numbers (within (length text)) program_fields words) at 0
-      kinds-there at =
+      kinds-there =
           let a = (program-unrefused words (length text)).0 (sym r) in
-          ⊎_elim (λ l. (outlined words (length text) before a.1.0 a.1.1 a.0 (omega (arith, room, a.0)) at l).0)
-          (λ l. (later words (length text) before at l).0 ∙ zero at
-          ∙ sym (get_or_past (kind_numbers (within (length text)) program_fields words) at 0 (let b = (bounded (within (length text)) program_fields 0 words).0 in omega arith)))
-          (cases_lt at (length words))
+          there (kind_numbers (within (length text)) program_fields words) (program_kinds words (length text) before) (bounded (within (length text)) program_fields 0 words).0
+          (λ at l. (outlined words (length text) before a.1.0 a.1.1 a.0 (omega (arith, room, a.0)) at l).0)
+          (λ at l. (later words (length text) before at l).0)
 
       ends-there : (at : ℕ) → get_or (program_ends words (length text) before) at 0 ≡ get_or (end_places (within (length text)) program_fields 0 words) at 0
-      ends-there at =
+      ends-there =
           let a = (program-unrefused words (length text)).0 (sym r) in
-          ⊎_elim (λ l. (outlined words (length text) before a.1.0 a.1.1 a.0 (omega (arith, room, a.0)) at l).1)
-          (λ l. (later words (length text) before at l).1 ∙ zero at
-          ∙ sym (get_or_past (end_places (within (length text)) program_fields 0 words) at 0 (let b = (bounded (within (length text)) program_fields 0 words).1 in omega arith)))
-          (cases_lt at (length words))
+          there (end_places (within (length text)) program_fields 0 words) (program_ends words (length text) before) (bounded (within (length text)) program_fields 0 words).1
+          (λ at l. (outlined words (length text) before a.1.0 a.1.1 a.0 (omega (arith, room, a.0)) at l).1)
+          (λ at l. (later words (length text) before at l).1)
 
     module _ (kinds ends : List ℕ) {kinds' ends' : List ℕ} (k : kinds' ≡ program_kinds words (length text) kinds) (e : ends' ≡ program_ends words (length text) ends)
         (few-kinds : length kinds ≡ most_words) (no-kinds : (i : ℕ) → get_or kinds i 0 ≡ 0)

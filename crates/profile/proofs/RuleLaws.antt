@@ -274,15 +274,10 @@ module _ (text : List ℕ) (p : Program (NameIn (length text))) where
   not-of : (at tag w : ℕ) → t.word at ≡ w → eqb w tag ≡ false → is_statement t tag at ≡ false
   not-of at tag w e d = and_right _ _ (ap (λ (v : ℕ). eqb v tag) e ∙ d)
 
-  loop-suited : (at : ℕ) → t.word at ≡ loop_tag → unsuited t at ≡ false
-  loop-suited at e =
-      or_from _ _ (or_from _ _ (or_from _ _ (not-of at reach_tag loop_tag e refl) (not-of at a_forall_tag loop_tag e refl)) (not-of at choose_tag loop_tag e refl))
-      (not-of at probe_tag loop_tag e refl)
-
-  exit-suited : (at : ℕ) → t.word at ≡ exit_tag → unsuited t at ≡ false
-  exit-suited at e =
-      or_from _ _ (or_from _ _ (or_from _ _ (not-of at reach_tag exit_tag e refl) (not-of at a_forall_tag exit_tag e refl)) (not-of at choose_tag exit_tag e refl))
-      (not-of at probe_tag exit_tag e refl)
+  -- nor does it break rule 1, where the word is none of that rule's
+  suited : (at w : ℕ) → t.word at ≡ w → eqb w reach_tag ≡ false → eqb w a_forall_tag ≡ false → eqb w choose_tag ≡ false → eqb w probe_tag ≡ false → unsuited t at ≡ false
+  suited at w e r a c b =
+      or_from _ _ (or_from _ _ (or_from _ _ (not-of at reach_tag w e r) (not-of at a_forall_tag w e a)) (not-of at choose_tag w e c)) (not-of at probe_tag w e b)
 
   exit-no-loop : (at : ℕ) → t.word at ≡ exit_tag → lacks_invariant t at ≡ false
   exit-no-loop at e = and_left _ _ (not-of at loop_tag exit_tag e refl)
@@ -325,10 +320,10 @@ module _ (text : List ℕ) (p : Program (NameIn (length text))) where
   found-broken (procedure {mark} f e) =
       let n = (first-procedure f (first-word f _ _ refl)).name-found in
       simp (procedure-suited (suc mark) (in-table n) (kind-at text p n.stands), found-no-body f e)
-  found-broken (loop {at} f) = simp (loop-suited at (first-word f _ _ refl), no-procedure f, found-no-invariant f)
+  found-broken (loop {at} f) = simp (suited at loop_tag (first-word f _ _ refl) refl refl refl refl, no-procedure f, found-no-invariant f)
   found-broken (exit {at} f out) =
       let w = first-word f _ _ refl in
-      simp (exit-suited at w, no-procedure f, exit-no-loop at w, found-no-label f out)
+      simp (suited at exit_tag w refl refl refl refl, no-procedure f, exit-no-loop at w, found-no-label f out)
 
   pub broken-in : {r at : ℕ} → Broken text p r at → at < length (table text p)
   broken-in (statement f u) = in-table f
