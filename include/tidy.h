@@ -25,7 +25,7 @@ enum tidy_refusal {
     TIDY_NO_REFUSAL = 0,
     /* The text is longer than 32,768 bytes; the place is 32,768. */
     TIDY_LONG_TEXT = 1,
-    /* The text is no program: the place is where the first unusable token begins, or the text's length where more must follow. */
+    /* The text is no program: the place is where the first unusable token begins. */
     TIDY_UNUSABLE_TOKEN = 2,
     /* More than 200 rules lie inside one another; the place is that of the first token of the 201st. */
     TIDY_TOO_DEEP = 3,
@@ -36,7 +36,9 @@ enum tidy_refusal {
     /* The print is longer than the output, or than 65,536 bytes; the place is 0. */
     TIDY_SHORT_OUTPUT = 8,
     /* A long comment is never closed; the place is that of its outermost opening mark. */
-    TIDY_UNCLOSED_COMMENT = 12
+    TIDY_UNCLOSED_COMMENT = 12,
+    /* The text ends where more of the program must follow; the place is the text's length. */
+    TIDY_ENDED_TOO_SOON = 13
 };
 
 /*
@@ -91,6 +93,8 @@ static inline const char *tidy_meaning(uint32_t refusal) {
         return "the print is longer than the output or than 65,536 bytes";
     case TIDY_UNCLOSED_COMMENT:
         return "this comment is never closed";
+    case TIDY_ENDED_TOO_SOON:
+        return "the program isn't finished: something must follow";
     default:
         return "no refusal of tidy";
     }

@@ -27,6 +27,11 @@ int main() {
                     std::strcmp(tidy_meaning(tidy_refusal_of(open)), "this comment is never closed") == 0;
     ++(unclosed ? passed : failed);
 
+    uint64_t ended = tidy(bytes("type A type "), 12, out, sizeof out);
+    bool unfinished = tidy_refusal_of(ended) == TIDY_ENDED_TOO_SOON && TIDY_ENDED_TOO_SOON == 13 && tidy_place_of(ended) == 12 &&
+                      std::strcmp(tidy_meaning(tidy_refusal_of(ended)), "the program isn't finished: something must follow") == 0;
+    ++(unfinished ? passed : failed);
+
     std::printf("%d passed, %d failed\n", passed, failed);
     return failed == 0 ? 0 : 1;
 }

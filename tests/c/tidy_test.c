@@ -262,13 +262,28 @@ static void test_long_texts(struct memory memory) {
 
 static void test_unusable_tokens(struct memory memory) {
     test_string(memory, "type 5", refused(TIDY_UNUSABLE_TOKEN, 5));
-    test_string(memory, "type", refused(TIDY_UNUSABLE_TOKEN, 4));
     test_string(memory, "  x", refused(TIDY_UNUSABLE_TOKEN, 2));
     test_string(memory, "type A /* x */ \xff", refused(TIDY_UNUSABLE_TOKEN, 15));
     test_string(memory, "axiom a < b < c", refused(TIDY_UNUSABLE_TOKEN, 12));
     test_string(memory, "procedure p() { x", refused(TIDY_UNUSABLE_TOKEN, 16));
     struct bytes zero = {(const uint8_t *)"type A\0", 7};
     count(calls_hold(memory, "a byte 0", zero, refused(TIDY_UNUSABLE_TOKEN, 6)));
+}
+
+static void test_ended_too_soon(struct memory memory) {
+    test_string(memory, "type", refused(TIDY_ENDED_TOO_SOON, 4));
+    test_string(memory, "type \n", refused(TIDY_ENDED_TOO_SOON, 6));
+    test_string(memory, "type /* x */ // y", refused(TIDY_ENDED_TOO_SOON, 17));
+    test_string(memory, "procedure p() {", refused(TIDY_ENDED_TOO_SOON, 15));
+    test_string(memory, "procedure p() { x :", refused(TIDY_ENDED_TOO_SOON, 19));
+    test_string(memory, "axiom |//x:int|", refused(TIDY_ENDED_TOO_SOON, 15));
+    test_string(memory, "axiom (18446744073709551615", refused(TIDY_ENDED_TOO_SOON, 27));
+    test_string(memory, "axiom a + ?", refused(TIDY_UNUSABLE_TOKEN, 10));
+    test_string(memory, "axiom a + /* q", refused(TIDY_UNCLOSED_COMMENT, 10));
+    test_string(memory, "axiom (18446744073709551616", refused(TIDY_LARGE_NATURAL, 7));
+    test_text(memory, "32,768 bytes that end too soon", repeated("type", 32764, " ", ""), refused(TIDY_ENDED_TOO_SOON, 32768));
+    test_text(memory, "32,769 bytes that end too soon", repeated("type", 32765, " ", ""), refused(TIDY_LONG_TEXT, 32768));
+    test_text(memory, "too many words and no operand", repeated("axiom ", 4094, "-", ""), refused(TIDY_ENDED_TOO_SOON, 4100));
 }
 
 static void test_unclosed_comments(struct memory memory) {
@@ -291,7 +306,7 @@ static void test_depth(struct memory memory) {
     test_text(memory, "199 brackets", nested(nests[0], 199, 0), prints_string("// B3 program\n\naxiom\n  a\n"));
     test_text(memory, "200 brackets", nested(nests[0], 200, 0), refused(TIDY_TOO_DEEP, 206));
     test_text(memory, "201 blocks", repeated("procedure p() ", 201, "{", ""), refused(TIDY_TOO_DEEP, 214));
-    test_text(memory, "200 blocks never closed", repeated("procedure p() ", 200, "{", ""), refused(TIDY_UNUSABLE_TOKEN, 214));
+    test_text(memory, "200 blocks never closed", repeated("procedure p() ", 200, "{", ""), refused(TIDY_ENDED_TOO_SOON, 214));
     test_text(memory, "200 brackets and a large natural", repeated("axiom ", 200, "(", "18446744073709551616"), refused(TIDY_TOO_DEEP, 206));
 }
 
@@ -368,6 +383,7 @@ static void test_null(void) {
     count(tidy((const uint8_t *)"type A", 6, NULL, 0) == (uint64_t)TIDY_SHORT_OUTPUT << 32);
     count(tidy((const uint8_t *)"type 5", 6, NULL, 0) == ((uint64_t)TIDY_UNUSABLE_TOKEN << 32) + 5);
     count(tidy((const uint8_t *)"type A/*", 8, NULL, 0) == ((uint64_t)TIDY_UNCLOSED_COMMENT << 32) + 6);
+    count(tidy((const uint8_t *)"type", 4, NULL, 0) == ((uint64_t)TIDY_ENDED_TOO_SOON << 32) + 4);
 }
 
 /* ---- two threads */
@@ -423,6 +439,7 @@ int main(int argc, char **argv) {
     test_examples(memory, argv[1]);
     test_long_texts(memory);
     test_unusable_tokens(memory);
+    test_ended_too_soon(memory);
     test_unclosed_comments(memory);
     test_depth(memory);
     test_naturals(memory);

@@ -1,8 +1,8 @@
 -- What is proved of the operator grammar (REFERENCE, "The operator grammar"), from the definitions in Words, Tokens, Grammar and Parser, and of
 -- the reading rules of expressions and programs, from those in Steps, Rules, Statements, Declarations and Reading.
-use Rattle.std.specs.Prelude.{ℕ, suc, ◌+◌, ◌*◌, ◌≤◌, ◌<◌, length, take, ◌≡◌, ◌↔◌, true, false, List, []}
+use Rattle.std.specs.Prelude.{ℕ, suc, ◌+◌, ◌*◌, ◌≤◌, ◌<◌, length, take, ◌≡◌, refl, ◌↔◌, true, false, List, []}
 use Rattle.std.proofs.Math.Option.{none, some}
-use Rattle.lexing.specs.Answer.{ok}
+use Rattle.lexing.specs.Answer.{ok, unusable_token, ended_too_soon}
 use Rattle.tree.specs.Ast.{Span, Expr, Program}
 use Rattle.tree.specs.Resolve.{bytes_of, map_expr, map_program, resolve_expr}
 use Rattle.tree.specs.Limits.{most_words}
@@ -14,14 +14,14 @@ use Rattle.grammar.specs.Grammar.{Tree, Whole, Derives}
 use Rattle.grammar.specs.OperatorTrees.{OperatorTree, small_naturals, word_count, DerivesWithin}
 use Rattle.grammar.specs.Parser.{parse, whole, parse_expr}
 use Rattle.grammar.specs.Statements.{gallery}
-use Rattle.grammar.specs.Reading.{words, refusal, parse_text, read_tree, read_expression, parse_program, read_tree_of_program, read_program}
+use Rattle.grammar.specs.Reading.{words, refusal, parse_text, read_tree, expression_outcome, read_expression, parse_program, read_tree_of_program, program_outcome, read_program}
 use Rattle.grammar.specs.TreeRead.{GivesTree}
-use Rattle.grammar.specs.ClaimTerms.{OfReading, GalleriesKeptAlike, GalleryUnopened}
+use Rattle.grammar.specs.ClaimTerms.{OfReading, ToldAs, GalleriesKeptAlike, GalleryUnopened}
 use Rattle.grammar.proofs.Bridge.Limits.{read-derives, gives-derives, derives-gives, derives-operators, gives_same}
 use Rattle.grammar.proofs.Depth.Statements.{levels-alike}
 use Rattle.grammar.proofs.Depth.NoLevel.{none_left}
 use Rattle.grammar.proofs.Inside.Accepted.{expression-inside, program-inside, expression-passes, program-passes}
-use Rattle.grammar.proofs.Refusals.Entries.{expression-refused, program-refused}
+use Rattle.grammar.proofs.Refusals.Entries.{expression-refused, program-refused, unusable-inside, told-as, expression-ended, program-ended}
 use Rattle.grammar.proofs.Size.Entries.{expression-few, program-few, program-roomy}
 use Rattle.grammar.proofs.Tables.{short}
 use Rattle.grammar.proofs.Laws.Exact.{parse-sound, parse-complete, no-parse, deeper, unambiguous}
@@ -100,8 +100,8 @@ pub read-program-accepted : (text : List ℕ) (n k : ℕ) (table : List ℕ) →
     → program_refusal (take k table) (length text) ≡ none
 read-program-accepted text n k table = program-passes text n
 
--- A reading is refused by 1 at 32,768; by 2, 3 or 4 at a place of at most the text's length; by 12 where a long comment opens that is not closed; or by
--- 5 at 0 (`OfReading`).
+-- A reading is refused by 1 at 32,768; by 2, 3 or 4 at a byte of the text; by 12 where a long comment opens that is not closed; by 13 at the text's
+-- end; or by 5 at 0 (`OfReading`).
 pub read-expression-refused : (text : List ℕ) (n number place : ℕ) (table : List ℕ) → read_expression text n ≡ refusal number place table
     → OfReading text number place
 read-expression-refused text n number place table = expression-refused text n
@@ -109,6 +109,28 @@ read-expression-refused text n number place table = expression-refused text n
 pub read-program-refused : (text : List ℕ) (n number place : ℕ) (table : List ℕ) → read_program text n ≡ refusal number place table
     → OfReading text number place
 read-program-refused text n number place table = program-refused text n
+
+-- So 2 stands before the text's end.
+pub unusable-token-inside : (text : List ℕ) (place : ℕ) → OfReading text unusable_token place → place < length text
+unusable-token-inside text place r = unusable-inside r refl
+
+-- What is answered is the outcome by the rules' refusals, of which 2 at the text's end is told by 13 there, and everything else stays.
+pub read-expression-told : (text : List ℕ) (n : ℕ) → ToldAs text (expression_outcome text n) (read_expression text n)
+unfolding read_expression
+read-expression-told text n = told-as text (expression_outcome text n)
+
+pub read-program-told : (text : List ℕ) (n : ℕ) → ToldAs text (program_outcome text n) (read_program text n)
+unfolding read_program
+read-program-told text n = told-as text (program_outcome text n)
+
+-- It is 13 exactly where the rules refuse by 2 at the text's end, and stands there.
+pub read-expression-ended : (text : List ℕ) (n place : ℕ) (table : List ℕ)
+    → (read_expression text n ≡ refusal ended_too_soon place table) ↔ ((place ≡ length text) × (expression_outcome text n ≡ refusal unusable_token (length text) table))
+read-expression-ended text n = expression-ended text n
+
+pub read-program-ended : (text : List ℕ) (n place : ℕ) (table : List ℕ)
+    → (read_program text n ≡ refusal ended_too_soon place table) ↔ ((place ≡ length text) × (program_outcome text n ≡ refusal unusable_token (length text) table))
+read-program-ended text n = program-ended text n
 
 -- The tree that a text holds has few words: a program's at most five for each byte and five more, as the empty text's five; an expression's fewer
 -- than five for each byte, as the four of a name of one byte.

@@ -3,6 +3,8 @@
 pub mod Laws
 -- The reading rules of expressions against the token parser:
 pub mod Bridge
+-- What becomes of an outcome as it is told:
+pub mod Told
 -- What is read passes the check over the same text; by which refusals, and where, a reading is refused; how many words a tree has; where a rule
 -- is opened; a table's length:
 pub mod Inside

@@ -14,6 +14,7 @@ use Rattle.grammar.specs.RefusalExamples.{Row, ◌stops◌, refused_by, expressi
 abbrev expression_rows : List Row
 expression_rows =
     "/* a" stops 0
+    ∷ "/*" stops 0
     ∷ "/**/ /*/" stops 5
     ∷ "a /* b */ /* c" stops 10
     ∷ "a /* /* */" stops 2
@@ -67,6 +68,7 @@ abbrev program_rows : List Row
 program_rows =
     "type /* T" stops 5
     ∷ "type T /* q" stops 7
+    ∷ "type A /*" stops 7
     ∷ "axiom /* a" stops 6
     ∷ "function f /* (): t" stops 11
     ∷ "procedure p() /* { }" stops 14

@@ -261,7 +261,7 @@ unfolding computed
 no-declaration = refl
 
 -- a definition's body must follow `when`
-when_alone : read "function f(): t when a" ≡ refused_by 2 22
+when_alone : read "function f(): t when a" ≡ refused_by 13 22
 unfolding computed
 when_alone = refl
 

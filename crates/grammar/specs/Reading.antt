@@ -1,6 +1,6 @@
--- Read expression and read program (REFERENCE, "The entries"): refusals 1 to 5 and 12, and the table afterwards.
+-- Read expression and read program (REFERENCE, "The entries"): refusals 1 to 5, 12 and 13, and the table afterwards.
 use Rattle.std.specs.Prelude.{ℕ, suc, ◌-◌, ◌&&◌, List, [], ◌++◌, length, replicate, leb, eqb}
-use Rattle.lexing.specs.Answer.{Answer, ok, refused, unclosed_comment, pick, text_too_long, unusable_token, tree_too_large}
+use Rattle.lexing.specs.Answer.{Answer, ok, refused, unclosed_comment, pick, text_too_long, unusable_token, tree_too_large, ended_too_soon}
 use Rattle.lexing.specs.Blanks.{Blanks, passed, unclosed, W}
 use Rattle.tree.specs.Ast.{Span, Expr, Program}
 use Rattle.tree.specs.Limits.{most_text, most_words}
@@ -48,6 +48,15 @@ outcome_by words_of n (ok a at) = stored n (words_of a)
 outcome_by words_of n Answer.none = refusal unusable_token 0 (replicate n 0)
 outcome_by words_of n (refused number place) = refusal number place (replicate n 0)
 
+-- the number that a refusal of the rules is told by: a token that cannot be used, at the text's end, is that the text ended too soon
+abbrev pub told_number : List ℕ → ℕ → ℕ → ℕ
+told_number text number place = pick (eqb number unusable_token && eqb place (length text)) ended_too_soon number
+
+-- an outcome by the rules' refusals, with the number that each is told by
+abbrev pub told : List ℕ → Outcome → Outcome
+told text (words k table) = words k table
+told text (refusal number place table) = refusal (told_number text number place) place table
+
 -- ---- read expression
 
 -- the tree that a text of at most 32,768 bytes holds
@@ -61,10 +70,14 @@ read_tree text = unless_long text (parse_text text)
 abbrev pub outcome : ℕ → Answer (Expr Span) → Outcome
 outcome = outcome_by (λ e. tree_words e [])
 
--- a text and a table of n words
+-- a text and a table of n words, by the rules' refusals
+abbrev pub expression_outcome : List ℕ → ℕ → Outcome
+expression_outcome text n = outcome n (read_tree text)
+
+-- and as it is told
 unfoldable pub read_expression : List ℕ → ℕ → Outcome
 unfolding read_tree
-read_expression text n = outcome n (read_tree text)
+read_expression text n = told text (expression_outcome text n)
 
 -- ---- read program
 
@@ -75,7 +88,11 @@ unfoldable pub read_tree_of_program : List ℕ → Answer (Program Span)
 unfolding parse_program
 read_tree_of_program text = unless_long text (parse_program text)
 
--- a text and a table of n words
+-- a text and a table of n words, by the rules' refusals
+abbrev pub program_outcome : List ℕ → ℕ → Outcome
+program_outcome text n = outcome_by (λ p. program_words (λ s. s) p []) n (read_tree_of_program text)
+
+-- and as it is told
 unfoldable pub read_program : List ℕ → ℕ → Outcome
 unfolding read_tree_of_program
-read_program text n = outcome_by (λ p. program_words (λ s. s) p []) n (read_tree_of_program text)
+read_program text n = told text (program_outcome text n)

@@ -1,36 +1,42 @@
--- Where a step must follow and does not: refusal 2 at the first token that cannot be used (REFERENCE, "Choice and repetition"), by computation. Each step
--- that a rule must take stands here, at a place that no other place before it has. A keyword with nothing after it is no name.
-use Rattle.std.specs.Prelude.{ℕ, ◌≡◌, refl, List, [], ◌∷◌, map}
+-- Where a step must follow and does not: refusal 2 at the first token that cannot be used, or 13 at the text's end (REFERENCE, "Choice and repetition"),
+-- by computation. Each step that a rule must take stands here, at a place that no other place before it has. A keyword with nothing after it is no name.
+use Rattle.std.specs.Prelude.{ℕ, ◌≡◌, refl, List, [], ◌∷◌, map, replicate}
 use Prim.Native.String.{String}
 use Rattle.lexing.specs.Bytes.{bytes}
-use Rattle.grammar.specs.Reading.{Outcome, refusal, read_expression, read_program}
+use Rattle.grammar.specs.Reading.{Outcome, words, refusal, read_expression, read_program}
 use Rattle.grammar.specs.ProgramExamples.{computed}
 
-infixl 70 ◌stops◌
--- a text, and the place where it is refused
+infixl 70 ◌stops◌ ◌ends◌
+-- a text, and the place where it is refused: that of a token, or the text's end
 pub data Row : Type 0 where
   ◌stops◌ : String → ℕ → Row
+  ◌ends◌ : String → ℕ → Row
 
--- by a number
+-- at its place by a number
 abbrev pub refused_by : ℕ → Row → Outcome
 refused_by number (◌stops◌ s place) = refusal number place []
+refused_by number (◌ends◌ s place) = refusal number place []
 
+-- by the number of its kind
 abbrev expected : Row → Outcome
-expected = refused_by 2
+expected (◌stops◌ s place) = refusal 2 place []
+expected (◌ends◌ s place) = refusal 13 place []
 
 -- what the two readings answer with a table of no words
 abbrev pub expression_of : Row → Outcome
 expression_of (◌stops◌ s place) = read_expression (bytes s) 0
+expression_of (◌ends◌ s place) = read_expression (bytes s) 0
 
 abbrev pub program_of : Row → Outcome
 program_of (◌stops◌ s place) = read_program (bytes s) 0
+program_of (◌ends◌ s place) = read_program (bytes s) 0
 
 -- ---- expressions
 
 -- operators, operands, brackets and calls
 abbrev operator_rows : List Row
 operator_rows =
-    "" stops 0
+    "" ends 0
     ∷ "  )" stops 2
     ∷ "a b" stops 2
     ∷ "a + )" stops 4
@@ -46,7 +52,7 @@ operator_rows =
     ∷ "! - )" stops 4
     ∷ "( )" stops 2
     ∷ "(a b" stops 3
-    ∷ "old" stops 3
+    ∷ "old" ends 3
     ∷ "old 5" stops 4
     ∷ "l : )" stops 4
     ∷ "f(]" stops 2
@@ -65,20 +71,20 @@ operator-places = refl
 -- conditionals, `val` and quantifiers
 abbrev form_rows : List Row
 form_rows =
-    "if" stops 2
+    "if" ends 2
     ∷ "if )" stops 3
     ∷ "if a )" stops 5
     ∷ "if a b c" stops 7
     ∷ "if a b else )" stops 12
-    ∷ "val" stops 3
+    ∷ "val" ends 3
     ∷ "val 5" stops 4
     ∷ "val x a" stops 6
     ∷ "val x : 5" stops 8
     ∷ "val x : t a" stops 10
     ∷ "val x := )" stops 9
     ∷ "val x := a )" stops 11
-    ∷ "forall" stops 6
-    ∷ "exists" stops 6
+    ∷ "forall" ends 6
+    ∷ "exists" ends 6
     ∷ "forall 5" stops 7
     ∷ "exists 5" stops 7
     ∷ "forall x t" stops 9
@@ -97,7 +103,7 @@ form-places = refl
 -- closures
 abbrev closure_rows : List Row
 closure_rows =
-    "lift" stops 4
+    "lift" ends 4
     ∷ "lift 5" stops 5
     ∷ "lift f a" stops 7
     ∷ "lift f(5" stops 7
@@ -190,9 +196,9 @@ declaration_rows =
     ∷ "tagger 5" stops 7
     ∷ "tagger g t" stops 9
     ∷ "tagger g for 5" stops 13
-    ∷ "axiom" stops 5
+    ∷ "axiom" ends 5
     ∷ "axiom }" stops 6
-    ∷ "axiom explains" stops 14
+    ∷ "axiom explains" ends 14
     ∷ "axiom explains a, 5" stops 18
     ∷ "axiom explains a }" stops 17
     ∷ "function (" stops 9
@@ -238,3 +244,83 @@ procedure_rows =
 procedure-places : map program_of procedure_rows ≡ map expected procedure_rows
 unfolding computed
 procedure-places = refl
+
+-- ---- the text's end
+
+-- after a token, blanks or a comment, where more must follow; the last byte is refused itself where it cannot be used, as a blank after a custom
+-- literal's text
+abbrev end_rows : List Row
+end_rows =
+    "  " ends 2
+    ∷ "//" ends 2
+    ∷ "a +" ends 3
+    ∷ "a + " ends 4
+    ∷ "a + // b" ends 8
+    ∷ "a + /* b */" ends 11
+    ∷ "a )" stops 2
+    ∷ "(a" ends 2
+    ∷ "(a)\n)" stops 4
+    ∷ "f(a," ends 4
+    ∷ "|s:t" ends 4
+    ∷ "|s " stops 2
+    ∷ "|//x:int|" ends 9
+    ∷ []
+
+expression-ends : map expression_of end_rows ≡ map expected end_rows
+unfolding computed
+expression-ends = refl
+
+-- the same; a name that begins no declaration, or a statement without its mark, is refused itself, though it ends the text
+abbrev program_end_rows : List Row
+program_end_rows =
+    "type" ends 4
+    ∷ "type " ends 5
+    ∷ "type // t" ends 9
+    ∷ "type /* t */" ends 12
+    ∷ "type t t" stops 7
+    ∷ "t" stops 0
+    ∷ "procedure p() {" ends 15
+    ∷ "procedure p() { x" stops 16
+    ∷ "procedure p() { x " stops 16
+    ∷ "procedure p() { x :=" ends 20
+    ∷ []
+
+program-ends : map program_of program_end_rows ≡ map expected program_end_rows
+unfolding computed
+program-ends = refl
+
+-- a natural that ends the text
+natural-ends : read_expression (bytes "18446744073709551616") 0 ≡ refusal 4 0 []
+unfolding computed
+natural-ends = refl
+
+-- a text of no bytes: no expression, and as a program five words
+empty-expression : read_expression [] 2 ≡ refusal 13 0 (0 ∷ 0 ∷ [])
+unfolding computed
+empty-expression = refl
+
+short-table : read_program [] 4 ≡ refusal 5 0 (0 ∷ 0 ∷ 0 ∷ 0 ∷ [])
+unfolding computed
+short-table = refl
+
+empty-program : read_program [] 5 ≡ words 5 (0 ∷ 0 ∷ 0 ∷ 0 ∷ 0 ∷ [])
+unfolding computed
+empty-program = refl
+
+-- two words, and as many as bytes
+two-words : read_expression (bytes "true") 2 ≡ words 2 (1 ∷ 1 ∷ [])
+unfolding computed
+two-words = refl
+
+words-as-bytes : read_expression (bytes "abcd") 4 ≡ words 4 (4 ∷ 0 ∷ 4 ∷ 0 ∷ [])
+unfolding computed
+words-as-bytes = refl
+
+-- a text of the greatest length, and one of a byte more
+longest-text : read_expression (replicate 32768 32) 0 ≡ refusal 13 32768 []
+unfolding computed
+longest-text = refl
+
+long-text : read_expression (replicate 32769 32) 0 ≡ refusal 1 32768 []
+unfolding computed
+long-text = refl

@@ -34,6 +34,10 @@ tree_too_large = 5
 abbrev pub unclosed_comment : ℕ
 unclosed_comment = 12
 
+-- the text ends where more must follow:
+abbrev pub ended_too_soon : ℕ
+ended_too_soon = 13
+
 -- the answer of a step over `drop at text`, with its places counted in `text`
 abbrev pub moved : {A : Type 0} → ℕ → Answer A → Answer A
 moved at (ok v n) = ok v (at + n)

@@ -1,14 +1,14 @@
 -- What the code's answers stand for.
 use Rattle.std.specs.Prelude.{◌≡◌, List, ℕ, ◌-◌, ◌≤◌, leb, Option, Some, None, Result, Ok, Err}
 use Rattle.std.proofs.Math.Option as math
-use Rattle.lexing.specs.Answer.{Answer, ok, refused, text_too_long, unusable_token, level_too_deep, large_natural, tree_too_large, unclosed_comment, pick}
+use Rattle.lexing.specs.Answer.{Answer, ok, refused, text_too_long, unusable_token, level_too_deep, large_natural, tree_too_large, unclosed_comment, ended_too_soon, pick}
 use Rattle.lexing.specs.Blanks.{Blanks, passed, unclosed, Mark, closing, opening, neither, long_comment}
 use Rattle.lexing.specs.Tokens.{most_natural}
 use Rattle.lexing.specs.declared.blank.Unclosed.{Unclosed}
 use Rattle.lexing.specs.declared.blank.Mark.{Mark as CodeMark}
 use Rattle.lexing.specs.declared.blank.Mark.TheVariants.{Closing, Opening}
 use Rattle.lexing.specs.declared.refusal.Reason.{Reason}
-use Rattle.lexing.specs.declared.refusal.Reason.TheVariants.{TextTooLong, UnusableToken, LevelTooDeep, LargeNatural, TreeTooLarge, UnclosedComment}
+use Rattle.lexing.specs.declared.refusal.Reason.TheVariants.{TextTooLong, UnusableToken, LevelTooDeep, LargeNatural, TreeTooLarge, UnclosedComment, EndedTooSoon}
 use Rattle.lexing.specs.declared.refusal.Refusal.{Refusal}
 use Rattle.lexing.specs.declared.token.Token.{Token}
 
@@ -36,6 +36,7 @@ number LevelTooDeep = level_too_deep
 number LargeNatural = large_natural
 number TreeTooLarge = tree_too_large
 number UnclosedComment = unclosed_comment
+number EndedTooSoon = ended_too_soon
 
 -- a token that stands here, one that doesn't, or a refusal by its number and place
 abbrev pub answer_of : Result (Option Token) Refusal → Answer ℕ

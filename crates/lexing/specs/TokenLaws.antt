@@ -23,16 +23,16 @@ lexeme-within v k n s h l = by-blanks (W (drop n s)) (W-inside (drop n s))
     by-blanks (passed m) i = (omega arith, omega (arith, length-drop n s))
     by-blanks (unclosed m) i = omega (arith, length-drop n s)
 
--- What the readers of tokens answer: nothing, a natural that is too large, or a token of at least k bytes with the blanks after it.
+-- What the readers of tokens answer: nothing, a natural that is too large, in a text of some bytes, or a token of at least k bytes with the blanks after it.
 pub data Token (k : ℕ) (s : List ℕ) : Answer ℕ → Type 0 where
   absent : Token k s none
-  too_large : Token k s (refused large_natural 0)
+  too_large : 0 < length s → Token k s (refused large_natural 0)
   present : (v n : ℕ) → k ≤ n → n ≤ length s → Token k s (lexeme v n s)
 
 -- a token lies inside the text
 pub token-within : {k : ℕ} {s : List ℕ} {r : Answer ℕ} → Token k s r → Within k (length s) r
 token-within absent = tt
-token-within too_large = zero-le
+token-within (too_large h) = zero-le
 token-within {k} {s} (present v n h l) = lexeme-within v k n s h l
 
 -- and no blank stands after it
@@ -53,7 +53,7 @@ lexeme-stops v n s = by-blanks (W (drop n s)) refl
 -- so no blank stands after a token
 pub token-stops : {k : ℕ} {s : List ℕ} {r : Answer ℕ} → Token k s r → Stopped s r
 token-stops absent = tt
-token-stops too_large = tt
+token-stops (too_large h) = tt
 token-stops {k} {s} (present v n h l) = lexeme-stops v n s
 
 -- a token of no bytes is none
@@ -119,7 +119,7 @@ pub natural-token : (s : List ℕ) → Token 1 s (natural s)
 unfolding natural
 natural-token s =
     unless_empty-token (run is_digit s) 1 s _
-    (λ h. pick-case (Token 1 s) (leb (decimal 0 (take (run is_digit s) s)) most_natural) (λ _. present _ _ h (run_inside is_digit s)) (λ _. too_large))
+    (λ h. pick-case (Token 1 s) (leb (decimal 0 (take (run is_digit s) s)) most_natural) (λ _. present _ _ h (run_inside is_digit s)) (λ _. too_large (omega (arith, h, run_inside is_digit s))))
 
 -- so it lies inside the text
 pub natural-within : (s : List ℕ) → Within 1 (length s) (natural s)

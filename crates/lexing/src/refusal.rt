@@ -19,6 +19,8 @@ pub enum Reason {
     TreeTooLarge,
     // A long comment is not closed.
     UnclosedComment,
+    // The text ends where more must follow.
+    EndedTooSoon,
 }
 
 impl Reason {
@@ -33,6 +35,7 @@ impl Reason {
             Reason::LargeNatural => 4,
             Reason::TreeTooLarge => 5,
             Reason::UnclosedComment => 12,
+            Reason::EndedTooSoon => 13,
         }
     }
 }

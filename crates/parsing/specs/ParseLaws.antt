@@ -4,7 +4,7 @@ use Rattle.std.proofs.Common.{sym, ap, subst, ◌∙◌}
 use Rattle.lexing.specs.Answer.{Answer, ok, refused, pick, tree_too_large}
 use Rattle.lexing.specs.CodeAnswers.{number}
 use Rattle.lexing.specs.declared.refusal.Reason.{Reason}
-use Rattle.lexing.specs.declared.refusal.Reason.TheVariants.{TextTooLong, UnusableToken, LevelTooDeep, LargeNatural, TreeTooLarge, UnclosedComment}
+use Rattle.lexing.specs.declared.refusal.Reason.TheVariants.{TextTooLong, UnusableToken, LevelTooDeep, LargeNatural, TreeTooLarge, UnclosedComment, EndedTooSoon}
 use Rattle.lexing.specs.declared.refusal.Refusal.{Refusal}
 use Rattle.tree.specs.Clash.{impossible}
 use Rattle.grammar.specs.Steps.{after, mapped}
@@ -47,6 +47,7 @@ large-reason LevelTooDeep e = impossible cc
 large-reason LargeNatural e = impossible cc
 large-reason TreeTooLarge e = refl
 large-reason UnclosedComment e = impossible cc
+large-reason EndedTooSoon e = impossible cc
 
 module _ {whole : Whole} {text : List ℕ} {arena later : List Node} {r : Result ℕ Refusal} (p : Parses whole text arena later r) where
   -- with room

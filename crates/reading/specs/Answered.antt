@@ -13,6 +13,7 @@ use Rattle.grammar.specs.Grammar.{Tree}
 use Rattle.grammar.specs.OperatorTrees.{OperatorTree, DerivesWithin}
 use Rattle.grammar.specs.Reading.{Outcome, words, refusal, tree_words, outcome, read_tree, read_expression}
 use Rattle.reading.specs.TreeRead.{Answered, Leaves}
+use Rattle.grammar.proofs.Told.{told-words}
 use Rattle.grammar.proofs.Bridge.Limits.{read-derives, derives-gives, stored-inv, stored-fits}
 use Rattle.std.specs.Prelude.{Result, Ok, Err}
 use Rattle.lexing.specs.declared.refusal.Refusal.{Refusal}
@@ -35,7 +36,7 @@ module _ (text : List ℕ) (n : ℕ) where
   -- the tree whose words are in the table is the one that was read
   read_held : (e : Expr Span) (m : ℕ) {k : ℕ} → read_expression text n ≡ words k (tree_words e [] ++ replicate m 0) → (next : ℕ) × (read_tree text ≡ ok e next)
   unfolding read_expression
-  read_held e m {k} h = by_answer (read_tree text) refl h
+  read_held e m {k} h = by_answer (read_tree text) refl (told-words text (outcome n (read_tree text)) h)
     where
       by_answer : (a : Answer (Expr Span)) → read_tree text ≡ a → outcome n a ≡ words k (tree_words e [] ++ replicate m 0) → (next : ℕ) × (read_tree text ≡ ok e next)
       by_answer (ok e' next) r h =

@@ -1,6 +1,6 @@
 // Read expression and read program.
-ghost use Rattle.std.specs.Prelude.{◌≡◌, ◌≤◌, [], length, replicate};
-ghost use Rattle.grammar.specs.Reading.{stored};
+ghost use Rattle.std.specs.Prelude.{ℕ, ◌≡◌, ◌≤◌, List, [], length, replicate, Err};
+ghost use Rattle.grammar.specs.Reading.{stored, told};
 ghost use Rattle.parsing.specs.Arena.{Run, Holds, most_arena};
 ghost use Rattle.reading.specs.Entry.{Sized, whole_outcome, read_outcome};
 ghost use Rattle.reading.specs.Flat.{Rooted};
@@ -37,6 +37,18 @@ fn store<const SIZE: usize>(arena: &[Node], root: u32, table: &mut [u32]) -> Res
     }
 }
 
+// A refusal of the rules, as it is told: a token that can't be used, at the text's end, is that the text ended too soon.
+fn told(text: &[u8], refusal: Refusal) -> Refusal
+    ensures { (table : List ℕ) → outcome_of (Err result) table ≡ told text.now (outcome_of (Err refusal) table) }
+{
+    match refusal.reason {
+        Reason::UnusableToken if refusal.place == text.len() => {
+            Refusal::new(Reason::EndedTooSoon, refusal.place)
+        }
+        _ => refusal,
+    }
+}
+
 // Reads a text by way of an arena and a stack of so many places: eleven, and two for each byte.
 fn read_sized<const SIZE: usize>(
     text: &[u8],
@@ -44,11 +56,13 @@ fn read_sized<const SIZE: usize>(
     whole: Whole,
 ) -> Result<usize, Refusal>
     requires { Sized text.now SIZE table.old }
-    ensures { outcome_of result table.new ≡ whole_outcome whole (length table.old) text.now }
+    ensures { outcome_of result table.new ≡ told text.now (whole_outcome whole (length table.old) text.now) }
 {
     let mut arena = [Node::Three(0, 0, 0); SIZE];
-    let root = parse(text, &mut arena, whole)?;
-    store::<SIZE>(&arena, root, table)
+    match parse(text, &mut arena, whole) {
+        Ok(root) => store::<SIZE>(&arena, root, table),
+        Err(refusal) => Err(told(text, refusal)),
+    }
 }
 
 // Reads a text with buffers by its length.

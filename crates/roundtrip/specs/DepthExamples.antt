@@ -1,4 +1,5 @@
--- The limit of the depth (REFERENCE, "Depth"), by computation: 201 is refused by 3 where its first token stands, and by 2 where there is none.
+-- The limit of the depth (REFERENCE, "Depth"), by computation: 201 is refused by 3 where its first token stands, by 2 at another token, and by 13 at the
+-- text's end.
 use Rattle.std.specs.Prelude.{ℕ, zero, suc, ◌≡◌, refl, List, [], ◌++◌}
 use Prim.Native.String.{String}
 use Rattle.lexing.specs.Bytes.{bytes}
@@ -21,6 +22,22 @@ brackets-deep = refl
 brackets-ended : read_expression (copies 200 "(" (bytes ")")) 0 ≡ refusal 2 200 []
 unfolding computed copies
 brackets-ended = refl
+
+brackets-unfinished : read_expression (copies 200 "(" []) 0 ≡ refusal 13 200 []
+unfolding computed copies
+brackets-unfinished = refl
+
+brackets-past : read_expression (copies 201 "(" []) 0 ≡ refusal 3 200 []
+unfolding computed copies
+brackets-past = refl
+
+blocks-unfinished : read_program (bytes "procedure p() " ++ copies 200 "{" []) 0 ≡ refusal 13 214 []
+unfolding computed copies
+blocks-unfinished = refl
+
+blocks-past : read_program (bytes "procedure p() " ++ copies 201 "{" []) 0 ≡ refusal 3 214 []
+unfolding computed copies
+blocks-past = refl
 
 loop-deep : nested 199 "x: loop { } }" ≡ refusal 3 1213 []
 unfolding computed copies

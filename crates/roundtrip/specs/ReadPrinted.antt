@@ -1,13 +1,12 @@
 -- The table of a text that was read is refused by its print neither by 6 nor by 7: one law over the kind of tree.
-use Rattle.std.specs.Prelude.{ℕ, ◌≤◌, ◌≡◌, refl, Bool, true, false, List, [], length, take, leb, Result}
+use Rattle.std.specs.Prelude.{ℕ, ◌≤◌, ◌≡◌, List, length, take, Result}
 use Rattle.std.proofs.Math.Option.{none}
-use Rattle.std.proofs.Common.{lit≤, leb-true}
+use Rattle.std.proofs.Common.{lit≤}
 use Rattle.tree.specs.Check.{oversized, misfitting}
-use Rattle.lexing.specs.Answer.{Answer, refused, pick, text_too_long}
 use Rattle.tree.specs.Clash.{impossible}
 use Rattle.tree.specs.Limits.{most_text}
-use Rattle.tree.specs.Words.{program_words}
-use Rattle.grammar.specs.Reading.{words, unless_long, outcome_by, read_tree_of_program, parse_program, read_program}
+use Rattle.grammar.specs.Reading.{words, read_program}
+use Rattle.grammar.proofs.Refusals.Entries.{program-held}
 use Rattle.grammar.proofs.Claims as Grammar
 use Rattle.rendering.specs.declared.PrintError.{PrintError}
 use Rattle.rendering.specs.Errors.{Refuses}
@@ -22,15 +21,6 @@ pub record Unrefused (r : Result ℕ PrintError) : Type 0 where
   pub within : Refuses r oversized 0 → ⊥
   pub one-tree : (place : ℕ) → Refuses r misfitting place → ⊥
 
--- a text that was read is not too long
-pub read_fits : {A : Type 0} (words_of : A → List ℕ) (text : List ℕ) (a : Answer A) (n : ℕ) {k : ℕ} {l : List ℕ} → outcome_by words_of n (unless_long text a) ≡ words k l
-    → length text ≤ most_text
-read_fits words_of text a n {k} {l} p = by_length (leb (length text) most_text) refl p
-  where
-    by_length : (b : Bool) → leb (length text) most_text ≡ b → outcome_by words_of n (pick b a (refused text_too_long most_text)) ≡ words k l → length text ≤ most_text
-    by_length true q p = leb-true (length text) most_text q
-    by_length false q p = impossible cc
-
 -- a table that the check accepts, over a text that is not too long
 pub accepted-unrefused : (P : Printable) (L : Lawful P.kind) (text table out out' : List ℕ) (r : Result ℕ PrintError) → Answered P text table out r out' → length text ≤ most_text → P.indent ≤ most_indent
     → P.kind.refused table ≡ none → Unrefused r
@@ -44,7 +34,6 @@ accepted-unrefused P L text table out out' r a t i e =
 -- the table of a program
 pub program-unrefused : (settings : Settings) (text : List ℕ) (n k : ℕ) (table out out' : List ℕ) (r : Result ℕ PrintError) → read_program text n ≡ words k table → ProgramAnswered settings text (take k table) out r out'
     → Unrefused r
-unfolding read_program read_tree_of_program
 program-unrefused settings text n k table out out' r e a =
     accepted-unrefused (programs settings text) (program-laws text) text (take k table) out out' r a
-    (read_fits (λ p. program_words (λ s. s) p []) text (parse_program text) n e) (lit≤ tt) (Grammar.read-program-accepted text n k table e)
+    (program-held text n e).short (lit≤ tt) (Grammar.read-program-accepted text n k table e)

@@ -4,7 +4,7 @@ use native.Mathlib.Omega.{arith}
 use mathlib.Core.Path.{◌≡◌, refl, sym, ap, subst, ◌∙◌}
 use mathlib.Core.Option.{none}
 use mathlib.Core.List.{List}
-use lib.ListN.{length, take, length-take, length-append}
+use lib.ListN.{length, take, length-append}
 use Rattle.std.specs.Prelude.{Result, Ok, Err}
 use Rattle.lexing.specs.CodeAnswers.{number}
 use Rattle.lexing.specs.declared.refusal.Refusal.{Refusal}

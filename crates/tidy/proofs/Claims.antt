@@ -17,6 +17,6 @@ module _ (text out : List ℕ) (r : ℕ) (out' : List ℕ) (a : Tidied text out 
   pub counted : r < 4294967296 → r ≤ most_print
   counted = below-is-count text answer-cases
 
-  -- From 2^32 on it is a refusal by 1, 2, 3, 4, 5, 8 or 12 with a place of at most 32,768, and the output is as it was.
+  -- From 2^32 on it is a refusal by 1, 2, 3, 4, 5, 8, 12 or 13 with a place of at most 32,768, and the output is as it was.
   pub refused : 4294967296 ≤ r → Refusal text out (record { answer = r; output = out' })
   refused = above-is-refusal text answer-cases

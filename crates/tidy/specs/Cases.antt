@@ -29,7 +29,7 @@ module _ (text : List ℕ) where
     -- the print, before the output's old bytes
     prints : (t : Program (NameIn (length text))) → ReadsAs text t → Fits (print_of t) out
         → Cases out (record { answer = length (print_of t); output = print_of t ++ drop (length (print_of t)) out })
-    -- a refusal of reading: 1 to 5, or 12
+    -- a refusal of reading: 1 to 5, 12 or 13
     refuses : {number place : ℕ} {table : List ℕ} → OfReading text number place → read_program text most_words ≡ refusal number place table
         → Cases out (record { answer = refusal_number number place; output = out })
     -- refusal 8

@@ -18,8 +18,9 @@ pub const LAYOUT: u32 = 9;
 pub const VERSION: u32 = 10;
 pub const RANGE: u32 = 11;
 pub const UNCLOSED_COMMENT: u32 = 12;
+pub const ENDED_TOO_SOON: u32 = 13;
 
-/// A refusal's number, 1 to 12, and its place.
+/// A refusal's number, 1 to 13, and its place.
 #[derive(Clone, Copy, Debug, PartialEq, Eq)]
 pub struct Refusal {
     pub number: u32,

@@ -79,16 +79,54 @@ fn comments_stand_before_each_token() {
     });
 }
 
-/// Texts with a comment that never closes are among the cases, some refused for it and some for what is met before.
+/// Texts of `whole` that are read, cut before some of their tokens: how many cuts are read, how many end too soon, and
+/// how many end with a name whose mark is cut off, which is refused. There are no others.
+fn cuts(whole: fn(&mut Random) -> Source<'_>, read: fn(&[u8]) -> Result<(), Refusal>) -> [usize; 3] {
+    let mut counts = [0; 3];
+    for index in 0..CASES {
+        let random = &mut Random::new(SEED, index);
+        let Source { text, starts, random, .. } = whole(random);
+        if read(&text).is_err() || starts.len() < 2 {
+            continue;
+        }
+        for _ in 0..starts.len().min(16) {
+            let next = random.between(1, starts.len() - 1);
+            let (cut, rest) = text.split_at(starts[next]);
+            let name = Refusal::new(2, starts[next - 1]);
+            counts[match read(cut) {
+                Ok(()) => 0,
+                Err(refusal) if refusal == Refusal::new(13, cut.len()) => 1,
+                Err(refusal) if refusal == name && matches!(rest[0], b':' | b'(') => 2,
+                Err(refusal) => panic!("{refusal}: {}", escape(cut)),
+            }] += 1;
+        }
+    }
+    counts
+}
+
 #[test]
-fn unclosed_comments_are_met() {
-    let mut numbers = [0; 13];
+fn texts_cut_before_a_token_end_too_soon() {
+    on_deep_stack(|| {
+        let programs = cuts(program, |text| read_program(text, TABLE_LIMIT).map(drop));
+        assert!(programs[0] > 500 && programs[1] > 5000 && programs[2] > 20, "{programs:?}");
+        let expressions = cuts(expression, |text| read_expression(text, TABLE_LIMIT).map(drop));
+        assert!(expressions[0] > 500 && expressions[1] > 5000 && expressions[2] == 0, "{expressions:?}");
+    });
+}
+
+/// Among the cases are texts with an unusable token, with a comment that never closes, and such as end too soon, which
+/// alone are refused at their end.
+#[test]
+fn tokens_comments_and_ends_are_met() {
+    let mut numbers = [0; 14];
     for case in (0..CASES).map(|index| case(SEED, index)) {
         if let Err(refusal) = read_program(&case.text, TABLE_LIMIT) {
             numbers[refusal.number as usize] += 1;
+            let at_end = refusal.place as usize == case.text.len();
+            assert_eq!(refusal.number == 13, at_end, "{refusal}: {}", escape(&case.text));
         }
     }
-    assert!(numbers[12] > 50 && numbers[2] > 500, "{numbers:?}");
+    assert!(numbers[2] > 500 && numbers[12] > 50 && numbers[13] > 50, "{numbers:?}");
 }
 
 #[test]

@@ -84,7 +84,7 @@ fn words_are_the_papers() {
 
 #[test]
 fn texts_have_limits() {
-    read_refused("", 2, 0);
+    read_refused("", 13, 0);
     read_refused("18446744073709551616", 4, 0);
     assert_eq!(read("18446744073709551615"), Ok(Expr::ILiteral(u64::MAX)));
     assert!(read_program(&[b' '; 32_768], TABLE_LIMIT).is_ok());
@@ -109,7 +109,6 @@ fn tidy_answers_one_number() {
 
 #[test]
 fn places_of_unusable_tokens() {
-    read_refused("  ", 2, 2);
     read_refused("|| a", 2, 1);
     read_refused("x := 1", 2, 3);
     read_refused("!=a", 2, 0);
@@ -117,6 +116,39 @@ fn places_of_unusable_tokens() {
     program_refused("procedure p() { x", 2, 16);
     program_refused("procedure p() { var v autoinv w := 1 }", 2, 33);
     program_refused("function f() := int", 2, 14);
+}
+
+#[test]
+fn texts_that_end_too_soon() {
+    read_refused("  ", 13, 2);
+    read_refused("a + // x", 13, 8);
+    read_refused("a + /* x */\n", 13, 12);
+    read_refused("|//x:int|", 13, 9);
+    read_refused("(18446744073709551615", 13, 21);
+    program_refused("type", 13, 4);
+    program_refused("procedure p() { x :", 13, 19);
+    program_refused("procedure p() { exit x", 13, 22);
+    program_refused("type a type", 13, 11);
+    assert!(read_program(b"", TABLE_LIMIT).is_ok());
+    assert_eq!(read_expression(b"a +", 0).map(drop), refused(13, 3));
+    assert_eq!(tidied("procedure p() {\n"), Err(13 << 32 | 16));
+    let long = [b"type".as_slice(), &[b' '; 32_764]].concat();
+    assert_eq!(read_program(&long, TABLE_LIMIT).map(drop), refused(13, 32_768));
+    assert_eq!(read_program(&[&long[..], b" "].concat(), TABLE_LIMIT).map(drop), refused(1, 32_768));
+}
+
+/// Tokens that can't stand there, names without their mark, and refusals that are met before the end.
+#[test]
+fn other_refusals_near_the_end() {
+    read_refused("a + )", 2, 4);
+    read_refused("a !", 2, 2);
+    read_refused("|a ", 2, 2);
+    program_refused("typ", 2, 0);
+    program_refused("procedure p() { xyz", 2, 16);
+    program_refused("procedure p() { x \n", 2, 16);
+    program_refused("procedure p() { x // c", 2, 16);
+    read_refused("a + /* x", 12, 4);
+    read_refused("(18446744073709551616", 4, 1);
 }
 
 #[test]
@@ -190,9 +222,11 @@ fn depth_counts_each_rule() {
 #[test]
 fn depth_201_needs_its_first_token() {
     let brackets = "(".repeat(200);
-    for end in ["", ")", "!=", "{", "/* c */"] {
-        let place = if end.starts_with('/') { 207 } else { 200 };
-        read_refused(&format!("{brackets}{end}"), 2, place);
+    for end in [")", "!=", "{"] {
+        read_refused(&format!("{brackets}{end}"), 2, 200);
+    }
+    for end in ["", "/* c */"] {
+        read_refused(&format!("{brackets}{end}"), 13, 200 + end.len());
     }
     for end in ["(", "|", "old", "18446744073709551616", "!a"] {
         read_refused(&format!("{brackets}{end}"), 3, 200);

@@ -12,7 +12,8 @@ use Rattle.tree.specs.Resolve.{bytes_of, resolve_expr}
 use Rattle.grammar.specs.Grammar.{Tree}
 use Rattle.grammar.specs.OperatorTrees.{OperatorTree, DerivesWithin, word_count, most_depth}
 use Rattle.grammar.specs.Tokens.{cut}
-use Rattle.grammar.specs.Reading.{words, refusal, tree_words, stored, outcome, parse_text, read_tree, read_expression}
+use Rattle.grammar.proofs.Told.{told-stored}
+use Rattle.grammar.specs.Reading.{words, refusal, tree_words, stored, outcome, told, parse_text, read_tree, read_expression}
 use Rattle.grammar.specs.TreeRead.{GivesTree}
 use Rattle.tree.specs.Clash.{impossible}
 use Rattle.grammar.proofs.Laws.Limited.{parse-limited}
@@ -56,7 +57,7 @@ module _ (text : List ℕ) (n : ℕ) where
 
   stored-read : {e : Expr Span} {next : ℕ} → read_tree text ≡ ok e next → read_expression text n ≡ stored n (tree_words e [])
   unfolding read_expression
-  stored-read p = ap (outcome n) p
+  stored-read {e} p = ap (λ r. told text (outcome n r)) p ∙ told-stored text n (tree_words e [])
 
   -- an operator tree that is stored has a derivation within the limits
   pub read-derives : {k next : ℕ} {ws : List ℕ} {e : Expr Span} → read_expression text n ≡ words k ws → read_tree text ≡ ok e next

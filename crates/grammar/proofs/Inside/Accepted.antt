@@ -18,8 +18,9 @@ use Rattle.tree.specs.Clash.{impossible}
 use Rattle.grammar.specs.Steps.{Reader, after, need}
 use Rattle.grammar.specs.OperatorTrees.{most_depth}
 use Rattle.grammar.specs.ClaimTerms.{open-comment}
-use Rattle.grammar.specs.Reading.{Outcome, words, refusal, leading, to_end, whole_text, unless_long, outcome_by, read_tree, read_expression, read_tree_of_program, read_program}
+use Rattle.grammar.specs.Reading.{Outcome, words, refusal, leading, to_end, whole_text, unless_long, stored, outcome_by, told, read_tree, read_expression, read_tree_of_program, read_program}
 use Rattle.grammar.proofs.Bridge.Limits.{stored-inv, stored-fits}
+use Rattle.grammar.proofs.Told.{told-words}
 use Rattle.grammar.proofs.Inside.Answers.{Gives, given, refuses, ReadsIn, gives-ok, unusable, step, picked, open-at, Keeping}
 use Rattle.grammar.proofs.Inside.Expressions.{parse_expr-kept}
 use Rattle.grammar.proofs.Inside.Statements.{gallery-kept}
@@ -102,24 +103,25 @@ held (refusal number place ws) = []
 table-passes : {A B : Type 0} (words_of : A → List ℕ) (spans : B → A) (Passes : List ℕ → Type 0)
     → ((b : B) → length (words_of (spans b)) ≤ most_words → Passes (words_of (spans b)))
     → (r : Answer A) → ((a : A) (next : ℕ) → r ≡ ok a next → (b : B) × (spans b ≡ a))
-    → (n : ℕ) {k : ℕ} {ws : List ℕ} → outcome_by words_of n r ≡ words k ws → Passes (take k ws)
-table-passes words_of spans Passes passes (ok a next) inside n {k} {ws} p =
+    → (text : List ℕ) (n : ℕ) {k : ℕ} {ws : List ℕ} → told text (outcome_by words_of n r) ≡ words k ws → Passes (take k ws)
+table-passes words_of spans Passes passes (ok a next) inside text n {k} {ws} t =
     let (b, q) = inside a next refl in
+    let p : stored n (words_of a) ≡ words k ws = told-words text (stored n (words_of a)) t in
     let (fits, few) = stored-inv [] n (words_of a) p in
     let taken : take k ws ≡ words_of a = ap held (sym p ∙ stored-fits [] n (words_of a) fits few) ∙ take-append_seam (words_of a) _ in
     rw (taken, ← q) (passes b (rw q few))
-table-passes words_of spans Passes passes Answer.none inside n p = impossible (cc)
-table-passes words_of spans Passes passes (refused number place) inside n p = impossible (cc)
+table-passes words_of spans Passes passes Answer.none inside text n p = impossible (cc)
+table-passes words_of spans Passes passes (refused number place) inside text n p = impossible (cc)
 
 module _ (text : List ℕ) (n : ℕ) {k : ℕ} {ws : List ℕ} where
   pub expression-passes : read_expression text n ≡ words k ws → expression_refusal (take k ws) (length text) ≡ none
   unfolding read_expression
   expression-passes =
       table-passes (λ e. expr_words (λ s. s) e []) (map_expr (λ n. n.span)) (λ ws. expression_refusal ws (length text) ≡ none)
-      (λ t few. (expression-accepted _ _).1 (few, (t, λ i. expression-spans _ t i []))) (read_tree text) (λ e next. expression-inside text) n
+      (λ t few. (expression-accepted _ _).1 (few, (t, λ i. expression-spans _ t i []))) (read_tree text) (λ e next. expression-inside text) text n
 
   pub program-passes : read_program text n ≡ words k ws → program_refusal (take k ws) (length text) ≡ none
   unfolding read_program
   program-passes =
       table-passes (λ p. program_words (λ s. s) p []) (map_program (λ n. n.span)) (λ ws. program_refusal ws (length text) ≡ none)
-      (λ t few. (program-accepted _ _).1 (few, (t, λ i. program-spans _ t i []))) (read_tree_of_program text) (λ p next. program-inside text) n
+      (λ t few. (program-accepted _ _).1 (few, (t, λ i. program-spans _ t i []))) (read_tree_of_program text) (λ p next. program-inside text) text n

@@ -1,9 +1,9 @@
 -- What a rule gives at a place of a text: the laws of tokens, of the combinators (Steps.antt), of the sequences (Rules.antt, Statements.antt) and of
 -- names.
-use Prim.Native.Nat.{ℕ, zero, suc, ◌+◌, ◌≤◌}
+use Prim.Native.Nat.{ℕ, zero, suc, ◌+◌, ◌≤◌, ◌<◌}
 use Rattle.std.proofs.Common.{arith, subst}
 use Rattle.std.specs.Prelude.{◌≡◌, Bool, true, false, List, [], ◌∷◌, map, drop}
-use Rattle.std.proofs.Math.Path.{refl}
+use Rattle.std.proofs.Math.Path.{refl, ap}
 use Rattle.std.proofs.Math.ListN.{length, length-drop}
 use Rattle.lexing.specs.Answer.{Answer, ok, refused, moved, pick}
 use Rattle.lexing.specs.Bytes.{custom_literal_char, run}
@@ -59,8 +59,8 @@ module _ {text : List ℕ} where
   pub unusable : {A : Type 0} {P : A → Type 0} {at : ℕ} → Inside text at → Gives P text (refused 2 at)
   unusable = refuses unusable-token
 
-  pub too-deep : {A : Type 0} {P : A → Type 0} {at : ℕ} → Inside text at → Gives P text (refused 3 at)
-  too-deep = refuses depth
+  pub too-deep : {A : Type 0} {P : A → Type 0} {at : ℕ} → at < length text → Gives P text (refused 3 at)
+  too-deep l = refuses (depth l) (record { inside = omega (arith, l) })
 
   module _ {A : Type 0} (P : A → Type 0) {B : Type 0} {Q : B → Type 0} {stop : Answer B} {go : A → ℕ → Answer B} where
     -- after a step that gives something with the property P
@@ -117,7 +117,7 @@ module _ (text : List ℕ) (at : ℕ) (h : Inside text at) where
 
   lexed : {k : ℕ} {r : Answer ℕ} → Token k (drop at text) r → Gives Any text (moved at r)
   lexed absent = nothing
-  lexed too_large = refuses {place = at + 0} large-natural (record { inside = omega (arith, h.inside) })
+  lexed (too_large p) = refuses {place = at + 0} (large-natural (omega (arith, p, length-drop at text))) (record { inside = omega (arith, h.inside) })
   lexed (present v n k l) = weaker (λ _ _. tt) (lexeme-given v n l)
 
   pub natural-placed : Gives Any text (moved at (natural (drop at text)))
@@ -131,6 +131,17 @@ module _ (text : List ℕ) (at : ℕ) (h : Inside text at) where
 
   pub keyword-placed : (w : List ℕ) → Gives Any text (moved at (keyword w (drop at text)))
   keyword-placed w = lexed (keyword-token w _)
+
+-- ---- the text's end
+
+module _ {A : Type 0} {P : A → Type 0} {text : List ℕ} (at : ℕ) where
+  -- a rule that keeps nothing at the text's end need be looked at only before it
+  pub before-end : {r : Answer A} → (drop at text ≡ [] → r ≡ Answer.none) → (at < length text → Gives P text r) → Gives P text r
+  before-end {r} e f = by-rest (drop at text) refl
+    where
+      by-rest : (s : List ℕ) → drop at text ≡ s → Gives P text r
+      by-rest [] d = rw (e d) nothing
+      by-rest (b ∷ s) d = f (omega (arith, ap length d, length-drop at text))
 
 -- what `search` lists after the laws of a rule's own steps
 pub ruleset steps = (either, token, given, nothing, unusable, natural-placed, sign-placed, not_prefix-placed, keyword-placed)

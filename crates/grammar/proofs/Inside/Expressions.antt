@@ -4,14 +4,15 @@ use Prim.Native.Nat.{ℕ, zero, suc}
 use Rattle.std.proofs.Math.Path.{refl}
 use Rattle.std.specs.Prelude.{Bool, List, map, drop}
 use Rattle.lexing.specs.Answer.{Answer}
+use Rattle.lexing.specs.Tokens.{identifier_length}
 use Rattle.tree.specs.Ast.{Span, Binding, binding, Expr, ◌then◌, Patterns, no_patterns, pattern, closure_binding, closure_property}
 use Rattle.tree.specs.Resolve.{map_option, map_binding, map_expr, map_exprs, map_patterns, map_closure_bindings, map_closure_properties}
-use Rattle.lexing.specs.Bytes.{bytes}
+use Rattle.lexing.specs.Bytes.{bytes, is_digit}
 use Rattle.grammar.specs.Grammar.{Build, straight, swapped, build, single}
 use Rattle.grammar.specs.Grammar.{Class, product, sum, comparison, conjunction, disjunction, implication, explication, equivalence}
 use Rattle.grammar.specs.Steps.{Reader, after}
 use Rattle.grammar.specs.Rules as rules
-use Rattle.grammar.proofs.Inside.Answers.{Inside, Gives, given, nothing, ReadsIn, Any, Fixed, unusable, too-deep, step, by, token, picked, sign-placed, steps, Closed, list-closed, nonempty-gives, listed-gives, Keeping, name-kept, literal-kept}
+use Rattle.grammar.proofs.Inside.Answers.{Inside, Gives, given, nothing, ReadsIn, Any, Fixed, unusable, too-deep, before-end, step, by, token, picked, sign-placed, steps, Closed, list-closed, nonempty-gives, listed-gives, Keeping, name-kept, literal-kept}
 
 module _ {text : List ℕ} (K : Keeping text) where
   abbrev keep : Span → Span
@@ -175,6 +176,6 @@ module _ {text : List ℕ} (K : Keeping text) where
         step _ (imp_exp at l) nothing (left_tail-kept (o equivalence) imp_exp m)
 
   pub parse_expr-kept : (m d : ℕ) → ReadsIn (Fixed (map_expr K.keep)) text (rules.parse_expr text m d)
-  unfolding rules.parse_expr
-  parse_expr-kept m zero at l = picked (rules.opens_expr (drop at text)) (too-deep l) nothing
+  unfolding rules.parse_expr rules.opens_expr rules.opens_at identifier_length is_digit
+  parse_expr-kept m zero at l = before-end at (λ e. rw e refl) (λ i. picked (rules.opens_expr (drop at text)) (too-deep i) nothing)
   parse_expr-kept m (suc d) at l = parse_equiv_expr-kept m (parse_expr-kept m d) at l

@@ -1,19 +1,20 @@
 -- A function that changes no span inside the text changes no tree that a rule of statements (Statements.antt) gives, and the rule's places lie inside
 -- the text, if the same holds of the rules in its gallery.
-use Prim.Native.Nat.{ℕ, zero, suc}
+use Prim.Native.Nat.{zero, suc}
 use Prim.Native.String.{String}
-use Rattle.std.specs.Prelude.{refl, Bool, true, false, drop}
-use mathlib.Core.List.{List, [], ◌∷◌, map}
+use Rattle.std.specs.Prelude.{ℕ, ◌<◌, length, refl, Bool, true, false, drop}
+use mathlib.Core.List.{List, map}
 use Rattle.std.proofs.Math.Option.{Option}
-use Rattle.lexing.specs.Answer.{Answer}
+use Rattle.lexing.specs.Answer.{Answer, ok, refused}
+use Rattle.lexing.specs.Tokens.{parse_id, keyword, sign, identifier_length}
 use Rattle.tree.specs.Ast.{Span, Expr, Stmt, VarDecl, Block, IfCase, stmts, case, AExprs, a_exprs}
 use Rattle.tree.specs.Resolve.{map_option, map_expr, map_call_argument, map_stmt, map_stmts, map_cases, map_a_expr, map_a_exprs}
-use Rattle.lexing.specs.Bytes.{bytes}
+use Rattle.lexing.specs.Bytes.{bytes, is_digit, starts_with, same_bytes}
 use Rattle.grammar.specs.Steps.{Reader, after, sign_at, parse_name}
-use Rattle.grammar.specs.Rules.{opens_expr, parse_nonempty_comma_delimited_seq, parse_listed}
+use Rattle.grammar.specs.Rules.{opens_expr, opens_at, parse_nonempty_comma_delimited_seq, parse_listed}
 use Rattle.grammar.specs.Statements as rules
 use Rattle.grammar.specs.Statements.{Gallery}
-use Rattle.grammar.proofs.Inside.Answers.{Inside, Gives, given, nothing, refuses, ReadsIn, Any, Fixed, unusable, too-deep, step, by, token, either, picked, sign-placed, keyword-placed, steps, Closed, list-closed, rep-gives, nonempty-gives, listed-gives, Keeping, name-kept}
+use Rattle.grammar.proofs.Inside.Answers.{Inside, Gives, given, nothing, ReadsIn, Any, Fixed, unusable, too-deep, before-end, step, by, token, either, picked, sign-placed, keyword-placed, steps, Closed, list-closed, rep-gives, nonempty-gives, listed-gives, Keeping, name-kept}
 use Rattle.grammar.proofs.Inside.Expressions.{by-id_type, parse_optional_type-kept, parse_expr-kept}
 
 -- it holds of the rules of a gallery
@@ -161,29 +162,24 @@ module _ {text : List ℕ} (K : Keeping text) where
 
   -- ---- depth
 
-  word_of-placed : (ws : List String) → Reads Any (rules.word_of text ws)
-  unfolding rules.word_of
-  word_of-placed [] at l = nothing
-  word_of-placed (w ∷ ws) at l = either (keyword-placed text at l (bytes w)) (word_of-placed ws at l)
-
-  -- refusal 3 at a place where a token stands
-  deep : {r : Answer ℕ} (at : ℕ) → Inside text at → Gives Any text r → Gives Kept text (rules.too_deep at r)
+  -- refusal 3 at a place before the text's end, where a token stands
+  deep : {at : ℕ} → at < length text → (r : Answer ℕ) → Gives Kept text (rules.too_deep at r)
   unfolding rules.too_deep
-  deep at l (given h i) = too-deep l
-  deep at l nothing = nothing
-  deep at l (refuses n i) = too-deep l
+  deep i (ok n next) = too-deep i
+  deep i Answer.none = nothing
+  deep i (refused number place) = too-deep i
 
   pub gallery-kept : (m d : ℕ) → KeptBy K.keep text (rules.gallery text m d)
-  unfolding rules.gallery
+  unfolding rules.gallery rules.too_deep rules.word_of rules.mark after opens_expr opens_at parse_id keyword sign starts_with identifier_length same_bytes is_digit
   gallery-kept m zero =
       record {
         expr = parse_expr-kept K m zero;
-        block = λ at l. deep at l (sign-placed text at l _);
+        block = λ at l. before-end at (λ e. rw e refl) (λ i. deep i _);
         stmt = λ at l.
-            either (deep at l (sign-placed text at l _))
-            (either (deep at l (word_of-placed rules.statement_words at l)) (by (name-kept K) at l nothing (λ _ _ at₁ l₁. deep at l (mark-placed at₁ l₁))));
-        if_cont = λ at l. picked (opens_expr (drop at text)) (too-deep l) nothing;
-        loop = λ at l. deep at l (keyword-placed text at l _);
+            before-end at (λ e. rw e refl)
+            (λ i. either (deep i _) (either (deep i _) (by (name-kept K) at l nothing (λ _ _ _ _. deep i _))));
+        if_cont = λ at l. before-end at (λ e. rw e refl) (λ i. picked (opens_expr (drop at text)) (too-deep i) nothing);
+        loop = λ at l. before-end at (λ e. rw e refl) (λ i. deep i _);
       }
   gallery-kept m (suc d) =
       record {

@@ -1,8 +1,11 @@
 -- The refusals of read expression and read program (Reading.antt), by number and place.
-use Rattle.std.specs.Prelude.{ℕ, suc, ◌-◌, ◌≤◌, ◌≡◌, refl, Bool, true, false, ◌&&◌, List, ◌++◌, length, replicate, leb}
-use Rattle.std.proofs.Common.{◌∙◌, zero-le, arith, subst, leb-true, leb-false}
+use Rattle.std.specs.Prelude.{ℕ, suc, ◌-◌, ◌≤◌, ◌<◌, ◌≡◌, ◌↔◌, refl, Bool, true, false, ◌&&◌, List, [], ◌∷◌, ◌++◌, length, drop, replicate, leb, eqb}
+use Rattle.std.proofs.Common.{◌∙◌, ap, zero-le, arith, subst, leb-true, leb-false, eqb-true, eq-eqb}
+use Rattle.std.proofs.lemmas.Bool.{eqb-false}
+use Rattle.std.proofs.Math.ListN.{length-drop}
 use Rattle.lexing.specs.RunLaws.{both_true}
-use Rattle.lexing.specs.Answer.{Answer, refused, pick}
+use Rattle.lexing.specs.TokenLaws.{starts_with-inside}
+use Rattle.lexing.specs.Answer.{Answer, refused, pick, text_too_long, unusable_token, tree_too_large, ended_too_soon}
 use Rattle.tree.specs.Limits.{most_text, most_words}
 use Rattle.tree.specs.Clash.{impossible}
 use Rattle.tree.specs.Resolve.{map_program}
@@ -10,8 +13,8 @@ use Rattle.grammar.specs.Steps.{Reader}
 use Rattle.grammar.specs.Statements.{gallery}
 use Rattle.grammar.specs.Declarations.{TopLevel}
 use Rattle.grammar.specs.OperatorTrees.{most_depth}
-use Rattle.grammar.specs.Reading.{Outcome, words, refusal, parse_text, parse_program, whole_text, unless_long, stored, outcome_by, read_tree, read_expression, read_tree_of_program, read_program}
-use Rattle.grammar.specs.ClaimTerms.{ByRule, unusable-token, depth, large-natural, open-comment, OfReading, long-text, by-rule, many-words}
+use Rattle.grammar.specs.Reading.{Outcome, words, refusal, parse_text, parse_program, whole_text, unless_long, stored, outcome_by, told_number, told, expression_outcome, read_tree, read_expression, program_outcome, read_tree_of_program, read_program}
+use Rattle.grammar.specs.ClaimTerms.{ByRule, unusable-token, depth, large-natural, open-comment, OfReading, long-text, by-rule, ended-too-soon, many-words, ToldAs, ended, stays}
 use Rattle.grammar.proofs.Inside.Answers.{Gives, given, nothing, refuses, ReadsIn, Fixed, Keeping}
 use Rattle.grammar.proofs.Inside.Expressions.{parse_expr-kept}
 use Rattle.grammar.proofs.Inside.Statements.{gallery-kept}
@@ -21,36 +24,67 @@ use Rattle.grammar.proofs.Inside.Accepted.{whole-gives}
 -- no rule refuses by 0 or by 5
 not-zero : {text : List ℕ} {number place : ℕ} → ByRule text number place → 1 ≤ number
 not-zero unusable-token = omega arith
-not-zero depth = omega arith
-not-zero large-natural = omega arith
+not-zero (depth l) = omega arith
+not-zero (large-natural l) = omega arith
 not-zero (open-comment o c) = omega arith
 
 not-five : {text : List ℕ} {number place : ℕ} → ByRule text number place → number ≡ 5 → ⊥
 not-five unusable-token e = omega arith
-not-five depth e = omega arith
-not-five large-natural e = omega arith
+not-five (depth l) e = omega arith
+not-five (large-natural l) e = omega arith
 not-five (open-comment o c) e = omega arith
 
 -- The number of a reading's refusal is not 0, and its place at most 32,768.
 pub refusal-numbered : {text : List ℕ} {number place : ℕ} → OfReading text number place → 1 ≤ number
 refusal-numbered (long-text h) = omega arith
 refusal-numbered (by-rule h r l) = not-zero r
+refusal-numbered (ended-too-soon h) = omega arith
 refusal-numbered (many-words h) = omega arith
 
 pub refusal-inside : {text : List ℕ} {number place : ℕ} → OfReading text number place → place ≤ most_text
 refusal-inside (long-text h) = omega arith
 refusal-inside (by-rule h r l) = omega arith
+refusal-inside (ended-too-soon h) = h
 refusal-inside (many-words h) = omega arith
+
+-- what the rules refuse, by number and place, before it is told
+data OfRules (text : List ℕ) : ℕ → ℕ → Type 0 where
+  long : most_text < length text → OfRules text text_too_long most_text
+  rule : {number place : ℕ} → length text ≤ most_text → ByRule text number place → place ≤ length text → OfRules text number place
+  many : length text ≤ most_text → OfRules text tree_too_large 0
+
+-- a refusal is told as one of a reading
+told-by : {text : List ℕ} {number place : ℕ} → OfRules text number place → OfReading text (told_number text number place) place
+told-by (long h) = long-text h
+told-by {text} {place} (rule h unusable-token l) = by-place (eqb place (length text)) refl
+  where
+    by-place : (b : Bool) → eqb place (length text) ≡ b → OfReading text (pick b 13 2) place
+    by-place true e = rw (eqb-true place (length text) e) (ended-too-soon h)
+    by-place false e = by-rule h unusable-token (omega (arith, l, eqb-false place (length text) e))
+told-by (rule h (depth l) _) = by-rule h (depth l) l
+told-by (rule h (large-natural l) _) = by-rule h (large-natural l) l
+told-by {text} {place} (rule h (open-comment o c) _) =
+    by-rule h (open-comment o c) (omega (arith, starts_with-inside (47 ∷ 42 ∷ []) (drop place text) o, length-drop place text))
+told-by (many h) = many-words h
+
+-- and the rules refuse none by 13
+not-ended : {text : List ℕ} {number place : ℕ} → OfRules text number place → number ≡ ended_too_soon → ⊥
+not-ended (long h) e = omega arith
+not-ended (rule h unusable-token l) e = omega arith
+not-ended (rule h (depth i) l) e = omega arith
+not-ended (rule h (large-natural i) l) e = omega arith
+not-ended (rule h (open-comment o c) l) e = omega arith
+not-ended (many h) e = omega arith
 
 -- a text of at most 32,768 bytes, and k words that a table of n has room for
 pub record Held (text : List ℕ) (n k : ℕ) : Type 0 where
   pub short : length text ≤ most_text
   pub fits : k ≤ n
 
--- an outcome is one or the other
+-- an outcome by the rules is one or the other
 abbrev Limited : List ℕ → ℕ → Outcome → Type 0
 Limited text n (words k table) = Held text n k
-Limited text n (refusal number place table) = OfReading text number place
+Limited text n (refusal number place table) = OfRules text number place
 
 -- no text is refused by 5 before its words are stored
 whole-refused : {A : Type 0} {P : A → Type 0} (text : List ℕ) {rule : Reader A} → ReadsIn P text rule → {number place : ℕ}
@@ -73,14 +107,14 @@ stored-limited text n h ws = by-fit (leb (length ws) n && leb (length ws) most_w
     by-fit : (b : Bool) → (leb (length ws) n && leb (length ws) most_words) ≡ b
         → Limited text n (pick b (words (length ws) (ws ++ replicate (n - length ws) 0)) (refusal 5 0 (replicate n 0)))
     by-fit true e = record { short = h; fits = leb-true _ _ (both_true _ _ e).0 }
-    by-fit false e = many-words h
+    by-fit false e = many h
 
 module _ {A : Type 0} {P : A → Type 0} (words_of : A → List ℕ) (text : List ℕ) (n : ℕ) where
   -- of a text of at most 32,768 bytes
   answer-limited : length text ≤ most_text → {r : Answer A} → Gives P text r → Limited text n (outcome_by words_of n r)
   answer-limited h (given {a} g l) = stored-limited text n h (words_of a)
-  answer-limited h nothing = by-rule h unusable-token zero-le
-  answer-limited h (refuses n i) = by-rule h n i.inside
+  answer-limited h nothing = rule h unusable-token zero-le
+  answer-limited h (refuses n i) = rule h n i.inside
 
   -- of any text
   text-limited : {rule : Reader A} → ReadsIn P text rule → Limited text n (outcome_by words_of n (unless_long text (whole_text text rule)))
@@ -88,7 +122,59 @@ module _ {A : Type 0} {P : A → Type 0} (words_of : A → List ℕ) (text : Lis
     where
       by_length : (b : Bool) → leb (length text) most_text ≡ b → Limited text n (outcome_by words_of n (pick b (whole_text text rule) (refused 1 most_text)))
       by_length true e = answer-limited (leb-true _ _ e) (whole-gives text h)
-      by_length false e = long-text (leb-false _ _ e)
+      by_length false e = long (leb-false _ _ e)
+
+-- the same of an outcome as it is told
+abbrev Readable : List ℕ → ℕ → Outcome → Type 0
+Readable text n (words k table) = Held text n k
+Readable text n (refusal number place table) = OfReading text number place
+
+module _ (text : List ℕ) (n : ℕ) where
+  readable : (w : Outcome) → Limited text n w → Readable text n (told text w)
+  readable (words k table) l = l
+  readable (refusal number place table) l = told-by l
+
+  -- 13 is told where the rules refuse the text's end, and only there
+  ended-exactly : (w : Outcome) → Limited text n w → (place : ℕ) (table : List ℕ)
+      → (told text w ≡ refusal ended_too_soon place table) ↔ ((place ≡ length text) × (w ≡ refusal unusable_token (length text) table))
+  ended-exactly w l place table = (only-there w l, λ (p, e). rw (e, p, eq-eqb (length text) (length text) refl) refl)
+    where
+      only-there : (w : Outcome) → Limited text n w → told text w ≡ refusal ended_too_soon place table
+          → (place ≡ length text) × (w ≡ refusal unusable_token (length text) table)
+      only-there (words k ws) l e = impossible (cc)
+      only-there (refusal number at ws) l e = by-number (eqb number 2) refl (eqb at (length text)) refl e
+        where
+          by-number : (b : Bool) → eqb number 2 ≡ b → (c : Bool) → eqb at (length text) ≡ c → refusal (pick (b && c) 13 number) at ws ≡ refusal 13 place table
+              → (place ≡ length text) × (refusal number at ws ≡ refusal 2 (length text) table)
+          by-number true n true a e = let two = eqb-true number 2 n in let end = eqb-true at (length text) a in (cc, cc)
+          by-number true n false a e = let same : number ≡ 13 = cc in absurd (not-ended l same)
+          by-number false n c a e = let same : number ≡ 13 = cc in absurd (not-ended l same)
+
+-- the number and the place of a refusal
+abbrev number_of : Outcome → ℕ
+number_of (words k table) = 0
+number_of (refusal number place table) = number
+
+abbrev place_of : Outcome → ℕ
+place_of (words k table) = 0
+place_of (refusal number place table) = place
+
+-- any other outcome stays
+pub told-as : (text : List ℕ) (w : Outcome) → ToldAs text w (told text w)
+told-as text (words k ws) = stays (λ table e. impossible (cc))
+told-as text (refusal number at ws) = by-number (eqb number 2) refl (eqb at (length text)) refl
+  where
+    by-number : (b : Bool) → eqb number 2 ≡ b → (c : Bool) → eqb at (length text) ≡ c → ToldAs text (refusal number at ws) (refusal (pick (b && c) 13 number) at ws)
+    by-number true n true a = rw (eqb-true number 2 n, eqb-true at (length text) a) ended
+    by-number true n false a = stays (λ table e. let same : at ≡ length text = ap place_of e in eqb-false at (length text) a same)
+    by-number false n c a = stays (λ table e. let same : number ≡ 2 = ap number_of e in eqb-false number 2 n same)
+
+-- A token that cannot be used stands before the text's end, and only at its end it is told that the text ended too soon.
+pub unusable-inside : {text : List ℕ} {number place : ℕ} → OfReading text number place → number ≡ unusable_token → place < length text
+unusable-inside (long-text h) e = absurd (omega arith)
+unusable-inside (by-rule h r l) e = l
+unusable-inside (ended-too-soon h) e = absurd (omega arith)
+unusable-inside (many-words h) e = absurd (omega arith)
 
 -- what the rules give, of which the places are used here
 module _ (text : List ℕ) where
@@ -107,21 +193,35 @@ unfolding read_tree_of_program parse_program
 program-rules-refused text = whole-refused text (program-reads text)
 
 module _ (text : List ℕ) (n : ℕ) where
-  expression-limited : Limited text n (read_expression text n)
-  unfolding read_expression read_tree parse_text
+  expression-limited : Limited text n (expression_outcome text n)
+  unfolding read_tree parse_text
   expression-limited = text-limited _ text n (parse_expr-kept (same text) (turns text) most_depth)
 
-  program-limited : Limited text n (read_program text n)
-  unfolding read_program read_tree_of_program parse_program
+  program-limited : Limited text n (program_outcome text n)
+  unfolding read_tree_of_program parse_program
   program-limited = text-limited _ text n (program-reads text)
 
   -- The refusals of read expression and of read program.
   pub expression-refused : {number place : ℕ} {table : List ℕ} → read_expression text n ≡ refusal number place table → OfReading text number place
-  expression-refused e = subst (Limited text n) e expression-limited
+  unfolding read_expression
+  expression-refused e = subst (Readable text n) e (readable text n _ expression-limited)
 
   pub program-refused : {number place : ℕ} {table : List ℕ} → read_program text n ≡ refusal number place table → OfReading text number place
-  program-refused e = subst (Limited text n) e program-limited
+  unfolding read_program
+  program-refused e = subst (Readable text n) e (readable text n _ program-limited)
 
   -- A program that is read keeps the limits.
   pub program-held : {k : ℕ} {table : List ℕ} → read_program text n ≡ words k table → Held text n k
-  program-held e = subst (Limited text n) e program-limited
+  unfolding read_program
+  program-held e = subst (Readable text n) e (readable text n _ program-limited)
+
+  -- Each is told by 13 exactly where the rules refuse the text's end by 2.
+  pub expression-ended : (place : ℕ) (table : List ℕ)
+      → (read_expression text n ≡ refusal ended_too_soon place table) ↔ ((place ≡ length text) × (expression_outcome text n ≡ refusal unusable_token (length text) table))
+  unfolding read_expression
+  expression-ended = ended-exactly text n _ expression-limited
+
+  pub program-ended : (place : ℕ) (table : List ℕ)
+      → (read_program text n ≡ refusal ended_too_soon place table) ↔ ((place ≡ length text) × (program_outcome text n ≡ refusal unusable_token (length text) table))
+  unfolding read_program
+  program-ended = ended-exactly text n _ program-limited

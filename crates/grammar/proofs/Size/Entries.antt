@@ -2,7 +2,7 @@
 use Rattle.std.specs.Prelude.{ℕ, suc, ◌+◌, ◌*◌, ◌≤◌, ◌<◌, ◌≡◌, false, List, [], leb, eqb}
 use native.Mathlib.Omega.{arith}
 use Rattle.std.proofs.Math.Path.{refl, subst}
-use Rattle.std.proofs.Common.{ap}
+use Rattle.std.proofs.Common.{◌∙◌, ap}
 use Rattle.std.proofs.Math.ListN.{length}
 use borrow.Author.Tests.{eqb-true, ne_eqb}
 use Rattle.lexing.specs.RunLaws.{pick-cases}
@@ -14,8 +14,8 @@ use Rattle.tree.specs.Limits.{most_text, most_words}
 use Rattle.tree.specs.Words.{expr_words, program_words}
 use Rattle.grammar.specs.OperatorTrees.{most_depth}
 use Rattle.grammar.specs.Steps.{Reader, after, need}
-use Rattle.grammar.specs.Reading.{leading, to_end, whole_text, outcome_by, parse_text, parse_program, read_tree_of_program, read_program}
-use Rattle.grammar.proofs.Tables.{short}
+use Rattle.grammar.specs.Reading.{leading, to_end, whole_text, outcome_by, parse_text, parse_program, read_tree_of_program, program_outcome, read_program}
+use Rattle.grammar.proofs.Tables.{short, told-short}
 use Rattle.grammar.proofs.Bridge.Limits.{stored-fits}
 use Rattle.grammar.proofs.Refusals.Entries.{program-rules-refused}
 use Rattle.grammar.proofs.Size.Sizes.{expr-sized, program-sized}
@@ -61,7 +61,7 @@ module _ (text : List ℕ) where
   -- A table of so many words is not too short.
   pub program-roomy : (n : ℕ) → 5 * length text + 5 ≤ n → n ≤ most_words → short (read_program text n) ≡ false
   unfolding read_program read_tree_of_program
-  program-roomy n l h = answer-roomy (read_tree_of_program text) refl
+  program-roomy n l h = told-short text (program_outcome text n) ∙ answer-roomy (read_tree_of_program text) refl
     where
       fits : {p : Program Span} {next : ℕ} → read_tree_of_program text ≡ ok p next → length (program_words (λ s. s) p []) ≤ n
       fits {p} e =

@@ -9,7 +9,8 @@ use Rattle.lexing.specs.Answer.{Answer, ok, refused}
 use Rattle.tree.specs.Limits.{most_text}
 use Rattle.tree.specs.Words.{program_words}
 use Rattle.grammar.specs.Steps.{after, mapped}
-use Rattle.grammar.specs.Reading.{Outcome, refusal, stored, outcome_by, tree_words, parse_text, parse_program, read_tree, read_tree_of_program, read_expression, read_program}
+use Rattle.grammar.proofs.Told.{told-stored}
+use Rattle.grammar.specs.Reading.{Outcome, refusal, stored, outcome_by, told, tree_words, parse_text, parse_program, read_tree, read_tree_of_program, read_expression, read_program}
 use Rattle.parsing.specs.Arena.{Run, Holds}
 use Rattle.parsing.specs.Contract.{same}
 use Rattle.parsing.specs.Parse.{arena_nodes, whole_run, parsed, Planted, Parses}
@@ -47,11 +48,12 @@ module _ (k : Whole) {text table : List ℕ} {size : ℕ} {arena later : List No
       let t : parsed k text (length arena) ≡ whole_run k text = rw (l, le-leb _ _ q.short, le-leb _ _ q.room, le-leb _ _ q.small) in
       ap (outcome_by (λ f. f []) (length table)) (sym e ∙ t) ∙ whole-outcome k text (length table)
 
-  -- a refusal
-  pub parse-refused : {e : Refusal} → r ≡ Err e → outcome_of (Err e) table ≡ whole_outcome k (length table) text
-  parse-refused {e} h =
+  -- a refusal, as it is told
+  pub parse-refused : {e : Refusal} → r ≡ Err e → (e' : Refusal) → ((table : List ℕ) → outcome_of (Err e') table ≡ told text (outcome_of (Err e) table))
+      → outcome_of (Err e') table ≡ told text (whole_outcome k (length table) text)
+  parse-refused {e} h e' t =
       let p : parsed k text (length arena) ≡ refused (number e.reason) e.place = rw h at o.gives in
-      ap (refusal (number e.reason) e.place) q.clear ∙ parsed-outcome p
+      t table ∙ ap (told text) (ap (refusal (number e.reason) e.place) q.clear ∙ parsed-outcome p)
 
   -- a tree
   module _ {root : ℕ} (e : r ≡ Ok root) where
@@ -72,16 +74,16 @@ module _ (k : Whole) {text table : List ℕ} {size : ℕ} {arena later : List No
         }
 
     -- what `store` answers
-    pub parse-stored : {w : Outcome} → ((f : Run) → Holds later root f → w ≡ stored (length table) (f [])) → w ≡ whole_outcome k (length table) text
-    parse-stored h = h tree.run tree.holds ∙ parsed-outcome tree.says
+    pub parse-stored : {w : Outcome} → ((f : Run) → Holds later root f → w ≡ stored (length table) (f [])) → w ≡ told text (whole_outcome k (length table) text)
+    parse-stored h = h tree.run tree.holds ∙ sym (told-stored text (length table) (tree.run [])) ∙ ap (told text) (parsed-outcome tree.says)
 
 -- ---- `read`
 
 -- a text within the limit, and one that is too long
-pub answered : (k : Whole) (text : List ℕ) {n m : ℕ} {w : Outcome} → w ≡ whole_outcome k n text → n ≡ m → length text ≤ most_text → w ≡ read_outcome k text m
+pub answered : (k : Whole) (text : List ℕ) {n m : ℕ} {w : Outcome} → w ≡ told text (whole_outcome k n text) → n ≡ m → length text ≤ most_text → w ≡ read_outcome k text m
 unfolding read_expression read_tree read_program read_tree_of_program
-answered Expression text e k h = e ∙ ap (λ n. whole_outcome Expression n text) k ∙ simp (le-leb _ _ h)
-answered Program text e k h = e ∙ ap (λ n. whole_outcome Program n text) k ∙ simp (le-leb _ _ h)
+answered Expression text e k h = e ∙ ap (λ n. told text (whole_outcome Expression n text)) k ∙ simp (le-leb _ _ h)
+answered Program text e k h = e ∙ ap (λ n. told text (whole_outcome Program n text)) k ∙ simp (le-leb _ _ h)
 
 pub answered-long : (k : Whole) (text table : List ℕ) (n : ℕ) → most_text < length text → table ≡ replicate n 0
     → outcome_of (Err (record { reason = TextTooLong; place = most_text })) table ≡ read_outcome k text n

@@ -17,6 +17,15 @@ impl<'a> Reader<'a> {
         }
     }
 
+    /// An expression that ends with the text.
+    pub(super) fn whole_expr(&mut self) -> Result<Expr<'a>> {
+        let expr = self.expr()?;
+        if !self.cursor.at_end() {
+            return Err(self.cursor.unusable());
+        }
+        Ok(expr)
+    }
+
     pub(super) fn expr(&mut self) -> Result<Expr<'a>> {
         if !self.at_expr() {
             return Err(self.cursor.unusable());

@@ -1,6 +1,7 @@
 //! The reading rules of Parser.dfy, each a function. A rule that fails having kept nothing gives way to the
 //! next; one that fails after a kept token refuses the text where the first unusable token begins. Blanks are
-//! passed after each token, and a comment in them that never closes refuses the text there and then.
+//! passed after each token, and a comment in them that never closes refuses the text there and then. Where the
+//! first unusable token is the text's end, more must follow; `read` tells that by a number of its own.
 
 mod decl;
 mod expr;
@@ -8,28 +9,38 @@ mod lexer;
 mod stmt;
 
 use crate::refusal::{
-    Refusal, Result, DEPTH_LIMIT, LONG_TEXT, SHORT_TABLE, TABLE_LIMIT, TEXT_LIMIT, TOO_DEEP,
+    Refusal, Result, DEPTH_LIMIT, ENDED_TOO_SOON, LONG_TEXT, SHORT_TABLE, TABLE_LIMIT, TEXT_LIMIT, TOO_DEEP,
+    UNUSABLE,
 };
 use crate::tree::{Binding, Expr, Name, Program};
 use lexer::{Cursor, Infix};
 
 /// Reads a program whose tree fits a table of `table` words.
 pub fn read_program(text: &[u8], table: usize) -> Result<Program<'_>> {
-    let mut reader = Reader::new(text)?;
-    let program = reader.program()?;
-    reader.fits(table)?;
-    Ok(program)
+    read(text, table, Reader::program)
 }
 
 /// Reads an expression whose tree fits a table of `table` words.
 pub fn read_expression(text: &[u8], table: usize) -> Result<Expr<'_>> {
+    read(text, table, Reader::whole_expr)
+}
+
+/// Reads the whole of a text by a rule.
+fn read<'a, T>(text: &'a [u8], table: usize, rule: fn(&mut Reader<'a>) -> Result<T>) -> Result<T> {
     let mut reader = Reader::new(text)?;
-    let expr = reader.expr()?;
-    if !reader.cursor.at_end() {
-        return Err(reader.cursor.unusable());
-    }
+    let tree = rule(&mut reader).map_err(|refusal| told(text, refusal))?;
     reader.fits(table)?;
-    Ok(expr)
+    Ok(tree)
+}
+
+/// The refusal of a rule as the reading's: where it is `UNUSABLE` at the text's end, the text ended too soon.
+fn told(text: &[u8], refusal: Refusal) -> Refusal {
+    match refusal {
+        Refusal { number: UNUSABLE, place } if place as usize == text.len() => {
+            Refusal { number: ENDED_TOO_SOON, place }
+        }
+        _ => refusal,
+    }
 }
 
 struct Reader<'a> {

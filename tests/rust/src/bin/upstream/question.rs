@@ -2,7 +2,8 @@
 
 use b3_compare::escape::{escape, unescape};
 use b3_compare::refusal::{
-    LARGE_NATURAL, OUTPUT_LIMIT, SHORT_TABLE, TABLE_LIMIT, TOO_DEEP, UNCLOSED_COMMENT, UNUSABLE,
+    ENDED_TOO_SOON, LARGE_NATURAL, OUTPUT_LIMIT, SHORT_TABLE, TABLE_LIMIT, TOO_DEEP, UNCLOSED_COMMENT,
+    UNUSABLE,
 };
 use b3_compare::trials::{joined, piece, printed, source};
 use b3_compare::words::{decode_expression, decode_program, encode_expression, encode_program};
@@ -136,7 +137,7 @@ fn reading_agrees<T>(
             let names = unescape(names).expect("a text's escapes are whole");
             Agreement::when(words.is_some_and(|words| equal(&names, &words, &tree)))
         }
-        (Err(Refusal { number: UNUSABLE, place }), Some(failed)) if place == failed => Agreement::Refused,
+        (Err(refusal), Some(failed)) if refusal == refused_at(text, failed) => Agreement::Refused,
         (Err(Refusal { number: SHORT_TABLE, .. }), None) => Agreement::Limit,
         (Err(Refusal { number: TOO_DEEP | LARGE_NATURAL, place }), failed)
             if failed.is_none_or(|failed| failed >= place) =>
@@ -151,6 +152,12 @@ fn reading_agrees<T>(
         }
         _ => Agreement::Different,
     }
+}
+
+/// How a text is refused where upstream fails in it at a place.
+fn refused_at(text: &[u8], place: u32) -> Refusal {
+    let number = if place as usize == text.len() { ENDED_TOO_SOON } else { UNUSABLE };
+    Refusal { number, place }
 }
 
 /// Whether only a name and blanks stand between two places: where the mark of a statement led by a name is missing,
