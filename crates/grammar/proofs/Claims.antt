@@ -21,7 +21,8 @@ use Rattle.grammar.proofs.Bridge.Limits.{read-derives, gives-derives, derives-gi
 use Rattle.grammar.proofs.Depth.Statements.{levels-alike}
 use Rattle.grammar.proofs.Depth.NoLevel.{none_left}
 use Rattle.grammar.proofs.Inside.Accepted.{expression-inside, program-inside, expression-passes, program-passes}
-use Rattle.grammar.proofs.Refusals.Entries.{expression-refused, program-refused, unusable-inside, told-as, expression-ended, program-ended}
+use Rattle.grammar.proofs.Refusals.Entries.{expression-refused, program-refused, unusable-inside, expression-ended, program-ended}
+use Rattle.grammar.proofs.Told.{told-as}
 use Rattle.grammar.proofs.Size.Entries.{expression-few, program-few, program-roomy}
 use Rattle.grammar.proofs.Tables.{short}
 use Rattle.grammar.proofs.Laws.Exact.{parse-sound, parse-complete, no-parse, deeper, unambiguous}

@@ -1,11 +1,13 @@
 -- What a reading gives does not depend on the table's length, unless the table is too short.
 use Rattle.std.specs.Prelude.{ℕ, ◌-◌, ◌≤◌, ◌≡◌, refl, Bool, true, false, ◌&&◌, List, [], ◌++◌, length, take, replicate, leb, eqb}
-use Rattle.std.proofs.Common.{arith, sym, ap, ◌∙◌, eqb-true}
+use Rattle.std.proofs.Common.{arith, sym, ap, ◌∙◌}
 use Rattle.std.proofs.lemmas.Bool.{false≢true}
 use Rattle.std.proofs.Math.Seq.{take-append_seam}
-use Rattle.lexing.specs.Answer.{Answer, ok, refused, pick}
+use Rattle.lexing.specs.Answer.{Answer, ok, refused}
 use Rattle.tree.specs.Limits.{most_words}
 use Rattle.grammar.specs.Reading.{Outcome, words, refusal, stored, outcome_by, told, program_outcome, read_tree_of_program, read_program}
+use Rattle.grammar.specs.ClaimTerms.{ToldAs, ended, stays}
+use Rattle.grammar.proofs.Told.{told-as}
 use Rattle.grammar.proofs.Bridge.Limits.{stored-inv, stored-fits}
 
 -- the words of the tree, or the refusal, without the rest of the table
@@ -42,13 +44,11 @@ told-gist text (refusal number place table) = refl
 
 -- no refusal but by 5 is told as one
 pub told-short : (text : List ℕ) (w : Outcome) → short (told text w) ≡ short w
-told-short text (words n table) = refl
-told-short text (refusal number place table) = by-number (eqb number 2) refl (eqb place (length text))
+told-short text w = alike (told-as text w)
   where
-    by-number : (b : Bool) → eqb number 2 ≡ b → (c : Bool) → eqb (pick (b && c) 13 number) 5 ≡ eqb number 5
-    by-number false e c = refl
-    by-number true e true = rw (eqb-true number 2 e) refl
-    by-number true e false = refl
+    alike : {w t : Outcome} → ToldAs text w t → short t ≡ short w
+    alike ended = refl
+    alike (stays s) = refl
 
 -- a program that is not refused by 5 is read into a longer table alike
 pub program-gist : (text : List ℕ) (m n : ℕ) → m ≤ n → short (read_program text m) ≡ false → gist (read_program text m) ≡ gist (read_program text n)

@@ -1,6 +1,6 @@
 -- The refusals of read expression and read program (Reading.antt), by number and place.
 use Rattle.std.specs.Prelude.{ℕ, suc, ◌-◌, ◌≤◌, ◌<◌, ◌≡◌, ◌↔◌, refl, Bool, true, false, ◌&&◌, List, [], ◌∷◌, ◌++◌, length, drop, replicate, leb, eqb}
-use Rattle.std.proofs.Common.{◌∙◌, ap, zero-le, arith, subst, leb-true, leb-false, eqb-true, eq-eqb}
+use Rattle.std.proofs.Common.{◌∙◌, zero-le, arith, subst, leb-true, leb-false, eqb-true, eq-eqb}
 use Rattle.std.proofs.lemmas.Bool.{eqb-false}
 use Rattle.std.proofs.Math.ListN.{length-drop}
 use Rattle.lexing.specs.RunLaws.{both_true}
@@ -15,29 +15,24 @@ use Rattle.grammar.specs.Declarations.{TopLevel}
 use Rattle.grammar.specs.OperatorTrees.{most_depth}
 use Rattle.grammar.specs.Reading.{Outcome, words, refusal, parse_text, parse_program, whole_text, unless_long, stored, outcome_by, told_number, told, expression_outcome, read_tree, read_expression, program_outcome, read_tree_of_program, read_program}
 use Rattle.grammar.specs.ClaimTerms.{ByRule, unusable-token, depth, large-natural, open-comment, OfReading, long-text, by-rule, ended-too-soon, many-words, ToldAs, ended, stays}
+use Rattle.grammar.proofs.Told.{told-as}
 use Rattle.grammar.proofs.Inside.Answers.{Gives, given, nothing, refuses, ReadsIn, Fixed, Keeping}
 use Rattle.grammar.proofs.Inside.Expressions.{parse_expr-kept}
 use Rattle.grammar.proofs.Inside.Statements.{gallery-kept}
 use Rattle.grammar.proofs.Inside.Declarations.{TopLevel-kept}
 use Rattle.grammar.proofs.Inside.Accepted.{whole-gives}
 
--- no rule refuses by 0 or by 5
-not-zero : {text : List ℕ} {number place : ℕ} → ByRule text number place → 1 ≤ number
-not-zero unusable-token = omega arith
-not-zero (depth l) = omega arith
-not-zero (large-natural l) = omega arith
-not-zero (open-comment o c) = omega arith
-
-not-five : {text : List ℕ} {number place : ℕ} → ByRule text number place → number ≡ 5 → ⊥
-not-five unusable-token e = omega arith
-not-five (depth l) e = omega arith
-not-five (large-natural l) e = omega arith
-not-five (open-comment o c) e = omega arith
+-- no rule refuses by 0, 5 or 13
+rule-number : {text : List ℕ} {number place : ℕ} → ByRule text number place → (1 ≤ number) × (number ≡ tree_too_large → ⊥) × (number ≡ ended_too_soon → ⊥)
+rule-number unusable-token = (omega arith, λ e. omega arith, λ e. omega arith)
+rule-number (depth l) = (omega arith, λ e. omega arith, λ e. omega arith)
+rule-number (large-natural l) = (omega arith, λ e. omega arith, λ e. omega arith)
+rule-number (open-comment o c) = (omega arith, λ e. omega arith, λ e. omega arith)
 
 -- The number of a reading's refusal is not 0, and its place at most 32,768.
 pub refusal-numbered : {text : List ℕ} {number place : ℕ} → OfReading text number place → 1 ≤ number
 refusal-numbered (long-text h) = omega arith
-refusal-numbered (by-rule h r l) = not-zero r
+refusal-numbered (by-rule h r l) = (rule-number r).0
 refusal-numbered (ended-too-soon h) = omega arith
 refusal-numbered (many-words h) = omega arith
 
@@ -67,14 +62,14 @@ told-by {text} {place} (rule h (open-comment o c) _) =
     by-rule h (open-comment o c) (omega (arith, starts_with-inside (47 ∷ 42 ∷ []) (drop place text) o, length-drop place text))
 told-by (many h) = many-words h
 
--- and the rules refuse none by 13
-not-ended : {text : List ℕ} {number place : ℕ} → OfRules text number place → number ≡ ended_too_soon → ⊥
-not-ended (long h) e = omega arith
-not-ended (rule h unusable-token l) e = omega arith
-not-ended (rule h (depth i) l) e = omega arith
-not-ended (rule h (large-natural i) l) e = omega arith
-not-ended (rule h (open-comment o c) l) e = omega arith
-not-ended (many h) e = omega arith
+-- and none is refused by 13
+not-ended : {text : List ℕ} {place : ℕ} → OfRules text ended_too_soon place → ⊥
+not-ended r = none-is r refl
+  where
+    none-is : {text : List ℕ} {number place : ℕ} → OfRules text number place → number ≡ ended_too_soon → ⊥
+    none-is (long h) e = omega arith
+    none-is (rule h r l) e = (rule-number r).2 e
+    none-is (many h) e = omega arith
 
 -- a text of at most 32,768 bytes, and k words that a table of n has room for
 pub record Held (text : List ℕ) (n k : ℕ) : Type 0 where
@@ -94,7 +89,7 @@ whole-refused {A} {P} text {rule} h {number} {place} = by_length (leb (length te
     of-rules : {r : Answer A} → Gives P text r → r ≡ refused number place → number ≡ 5 → ⊥
     of-rules (given g l) e f = impossible (cc)
     of-rules nothing e f = impossible (cc)
-    of-rules (refuses {number = k} n i) e f = let same : k ≡ number = cc in not-five n (same ∙ f)
+    of-rules (refuses {number = k} n i) e f = let same : k ≡ number = cc in (rule-number n).1 (same ∙ f)
 
     by_length : (b : Bool) → pick b (whole_text text rule) (refused 1 most_text) ≡ refused number place → number ≡ 5 → ⊥
     by_length true e f = of-rules (whole-gives text h) e f
@@ -137,37 +132,12 @@ module _ (text : List ℕ) (n : ℕ) where
   -- 13 is told where the rules refuse the text's end, and only there
   ended-exactly : (w : Outcome) → Limited text n w → (place : ℕ) (table : List ℕ)
       → (told text w ≡ refusal ended_too_soon place table) ↔ ((place ≡ length text) × (w ≡ refusal unusable_token (length text) table))
-  ended-exactly w l place table = (only-there w l, λ (p, e). rw (e, p, eq-eqb (length text) (length text) refl) refl)
+  ended-exactly w l place table = (only-there l (told-as text w), λ (p, e). rw (e, p, eq-eqb (length text) (length text) refl) refl)
     where
-      only-there : (w : Outcome) → Limited text n w → told text w ≡ refusal ended_too_soon place table
+      only-there : {w t : Outcome} → Limited text n w → ToldAs text w t → t ≡ refusal ended_too_soon place table
           → (place ≡ length text) × (w ≡ refusal unusable_token (length text) table)
-      only-there (words k ws) l e = impossible (cc)
-      only-there (refusal number at ws) l e = by-number (eqb number 2) refl (eqb at (length text)) refl e
-        where
-          by-number : (b : Bool) → eqb number 2 ≡ b → (c : Bool) → eqb at (length text) ≡ c → refusal (pick (b && c) 13 number) at ws ≡ refusal 13 place table
-              → (place ≡ length text) × (refusal number at ws ≡ refusal 2 (length text) table)
-          by-number true n true a e = let two = eqb-true number 2 n in let end = eqb-true at (length text) a in (cc, cc)
-          by-number true n false a e = let same : number ≡ 13 = cc in absurd (not-ended l same)
-          by-number false n c a e = let same : number ≡ 13 = cc in absurd (not-ended l same)
-
--- the number and the place of a refusal
-abbrev number_of : Outcome → ℕ
-number_of (words k table) = 0
-number_of (refusal number place table) = number
-
-abbrev place_of : Outcome → ℕ
-place_of (words k table) = 0
-place_of (refusal number place table) = place
-
--- any other outcome stays
-pub told-as : (text : List ℕ) (w : Outcome) → ToldAs text w (told text w)
-told-as text (words k ws) = stays (λ table e. impossible (cc))
-told-as text (refusal number at ws) = by-number (eqb number 2) refl (eqb at (length text)) refl
-  where
-    by-number : (b : Bool) → eqb number 2 ≡ b → (c : Bool) → eqb at (length text) ≡ c → ToldAs text (refusal number at ws) (refusal (pick (b && c) 13 number) at ws)
-    by-number true n true a = rw (eqb-true number 2 n, eqb-true at (length text) a) ended
-    by-number true n false a = stays (λ table e. let same : at ≡ length text = ap place_of e in eqb-false at (length text) a same)
-    by-number false n c a = stays (λ table e. let same : number ≡ 2 = ap number_of e in eqb-false number 2 n same)
+      only-there l ended e = (cc, cc)
+      only-there l (stays s) e = absurd (not-ended (subst (Limited text n) e l))
 
 -- A token that cannot be used stands before the text's end, and only at its end it is told that the text ended too soon.
 pub unusable-inside : {text : List ℕ} {number place : ℕ} → OfReading text number place → number ≡ unusable_token → place < length text
