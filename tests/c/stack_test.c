@@ -19,6 +19,9 @@
 /* A tree has at most 4,096 unary operators. */
 #define MOST_SIGNS 4096
 
+/* The bytes of a long text: beyond 12,288 the buffers are the largest. */
+#define LONG_TEXT 30000
+
 static uint8_t out[TIDY_MOST_PRINT];
 
 struct work {
@@ -84,11 +87,27 @@ static struct text deepest(struct nest nest, size_t signs) {
     return nested(nest, levels, signs);
 }
 
+/* The text with spaces after it, so that it takes the buffers of the longest ones. */
+static struct text padded(struct text text) {
+    uint8_t *at = realloc(text.at, LONG_TEXT);
+    if (at == NULL) {
+        perror("realloc");
+        exit(2);
+    }
+    if (text.len < LONG_TEXT) {
+        memset(at + text.len, ' ', LONG_TEXT - text.len);
+        text.len = LONG_TEXT;
+    }
+    text.at = at;
+    return text;
+}
+
 static size_t most;
 static unsigned passed, failed;
 
-static void measure(struct nest nest, size_t signs, size_t base, bool all) {
+static void measure(struct nest nest, size_t signs, bool pad, size_t base, bool all) {
     struct text text = deepest(nest, signs);
+    text = pad ? padded(text) : text;
     struct work work = {bytes_of(text), 0};
     size_t bytes = used(call, &work) - base;
     uint32_t refused = tidy_refusal_of(work.answer);
@@ -107,8 +126,9 @@ int main(int argc, char **argv) {
     struct work nothing = {{NULL, 0}, 0};
     size_t base = used(rest, &nothing);
     for (size_t i = 0; i < nest_count; i++) {
-        measure(nests[i], 1, base, all);
-        measure(nests[i], MOST_SIGNS, base, all);
+        measure(nests[i], 1, false, base, all);
+        measure(nests[i], MOST_SIGNS, false, base, all);
+        measure(nests[i], 1, true, base, all);
     }
     printf("a call takes at most %zu KB of stack\n", (most + 1023) / 1024);
     printf("%u passed, %u failed\n", passed, failed);

@@ -104,7 +104,8 @@ pub(crate) fn blank_at_start(s: &[u8]) -> Result<usize, Unclosed>
     }
 }
 
-// `W`: all blanks at the start.
+// `W`: all blanks at the start. Called, and not inlined, at the end of each token.
+#[inline(never)]
 pub fn blanks(s: &[u8]) -> Result<usize, Unclosed>
     ensures { reach_of result ≡ W s.now }
 {

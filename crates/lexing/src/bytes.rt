@@ -55,6 +55,7 @@ pub(crate) fn run_length<F: Fn(u8) -> bool>(s: &[u8], class: F) -> usize
 // Whether `w` stands at the start of `text`.
 // Kept: the library's method under the definition of specs, which reads the bytes one by one; each token's rule is stated with it.
 #[tactic(auto, using(crate::proofs::Lists::starts_pointwise))]
+#[inline(always)]
 pub(crate) fn starts_with(text: &[u8], w: &[u8]) -> bool
     ensures { result ≡ starts_with w.now text.now }
 {

@@ -21,6 +21,7 @@ pub struct Token {
 pub type Lexed = Result<Option<Token>, Refusal>;
 
 // A token with a value that takes `n` bytes, and the blanks after it.
+#[inline(always)]
 pub fn lexeme(text: &[u8], value: u64, n: usize) -> Lexed
     ensures { answer_of result ≡ tokens.lexeme value n text.now }
 {
@@ -84,6 +85,7 @@ pub fn keyword(text: &[u8], word: &[u8]) -> Lexed
 }
 
 #[tactic(auto, unfolding(crate::specs::Tokens::sign))]
+#[inline(always)]
 pub fn sym(text: &[u8], s: &[u8]) -> Lexed
     ensures { answer_of result ≡ tokens.sign s.now text.now }
 {
@@ -95,6 +97,7 @@ pub fn sym(text: &[u8], s: &[u8]) -> Lexed
 
 // `SymNotPrefix(s, [longer])`.
 #[tactic(auto, unfolding(crate::specs::Tokens::sign_not_prefix))]
+#[inline(always)]
 pub fn sym_not_prefix(text: &[u8], s: &[u8], longer: &[u8]) -> Lexed
     ensures { answer_of result ≡ tokens.sign_not_prefix s.now longer.now text.now }
 {

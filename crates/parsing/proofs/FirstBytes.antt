@@ -10,12 +10,15 @@ use native.Mathlib.Omega.{arith}
 use borrow.Author.Tests.{eqb-true}
 use Rattle.lexing.specs.Answer.{Answer}
 use Rattle.lexing.specs.Bytes.{starts_with, same_bytes}
+use Rattle.lexing.specs.Answer.{pick}
 use Rattle.lexing.specs.Tokens.{identifier_length, keyword, sign, sign_not_prefix}
 use Rattle.tree.specs.Clash.{impossible}
 use Rattle.grammar.specs.Grammar.{Class, product, sum, comparison, conjunction, disjunction, implication, explication, equivalence}
 use Rattle.grammar.specs.Steps.{after}
 use Rattle.grammar.specs.Rules.{operator_of, factor_operator, term_operator, parse_comparison_operator, equality_operator, less_operator, more_operator, and_operator, or_operator, implies_operator, explies_operator, equiv_operator}
-use Rattle.parsing.specs.Signs.{begins_operator}
+use Rattle.parsing.specs.Contract.{Missing, sign as sign_here, sign_but, word}
+use Rattle.parsing.specs.Signs.{begins_operator, may_begin}
+use Rattle.parsing.specs.declared.parser.Parser.{Parser}
 
 -- a byte that begins an operator is none that begins no operator
 unlike : (c : Class) (k b : ℕ) → begins_operator c b ≡ false → begins_operator c k ≡ true → eqb k b ≡ false
@@ -43,6 +46,40 @@ module _ (k b : ℕ) (w s : List ℕ) (e : eqb k b ≡ false) where
   no_word : keyword (k ∷ w) (b ∷ s) ≡ Answer.none
   unfolding keyword
   no_word = rw (other_word (identifier_length (b ∷ s))) refl
+
+-- bytes whose first is another one than the text's
+no-sign-by : (w s : List ℕ) → may_begin w (get_or s 0 0) ≡ false → sign w s ≡ Answer.none
+unfolding sign starts_with
+no-sign-by [] s h = impossible (cc)
+no-sign-by (a ∷ w) [] h = refl
+no-sign-by (a ∷ w) (b ∷ s) h = no_sign a b w s h
+
+no-sign-but-by : (w v s : List ℕ) → may_begin w (get_or s 0 0) ≡ false → sign_not_prefix w v s ≡ Answer.none
+unfolding sign_not_prefix
+no-sign-but-by w v s h = by-longer (starts_with v s)
+  where
+    by-longer : (t : Bool) → pick t Answer.none (sign w s) ≡ Answer.none
+    by-longer true = refl
+    by-longer false = no-sign-by w s h
+
+no-word-by : (w s : List ℕ) → may_begin w (get_or s 0 0) ≡ false → keyword w s ≡ Answer.none
+unfolding keyword same_bytes identifier_length
+no-word-by [] s h = impossible (cc)
+no-word-by (a ∷ w) [] h = refl
+no-word-by (a ∷ w) (b ∷ s) h = no_word a b w s h
+
+module _ (p : Parser) (w : List ℕ) {t : Bool} (e : t ≡ may_begin w (get_or p.text.now p.at 0)) (f : t ≡ false) where
+  other-first : may_begin w (get_or (drop p.at p.text.now) 0 0) ≡ false
+  other-first = ap (may_begin w) (get_or-drop p.at p.text.now 0 0 ∙ ap (λ i. get_or p.text.now i 0) (omega arith)) ∙ sym e ∙ f
+
+  pub sign-absent : Missing (sign_here w) p p
+  sign-absent = record { says = rw (no-sign-by w _ other-first) refl; same = refl }
+
+  pub sign_but-absent : (v : List ℕ) → Missing (sign_but w v) p p
+  sign_but-absent v = record { says = rw (no-sign-but-by w v _ other-first) refl; same = refl }
+
+  pub word-absent : Missing (word w) p p
+  word-absent = record { says = rw (no-word-by w _ other-first) refl; same = refl }
 
 module _ (text : List ℕ) (at : ℕ) where
   at-end : drop at text ≡ [] → (c : Class) → operator_of text c at ≡ Answer.none

@@ -1,5 +1,5 @@
 -- What the functions that read operators promise.
-use Rattle.std.specs.Prelude.{ℕ, ◌≡◌, ◌≤◌, Bool, ◌||◌, eqb, List, [], ◌∷◌, length, Option, Some, None, Result, Ok, Err}
+use Rattle.std.specs.Prelude.{ℕ, ◌≡◌, ◌≤◌, Bool, true, ◌||◌, eqb, List, [], ◌∷◌, length, Option, Some, None, Result, Ok, Err}
 use Rattle.lexing.specs.Answer.{Answer, ok, refused}
 use Rattle.lexing.specs.CodeAnswers.{number}
 use Rattle.lexing.specs.declared.refusal.Refusal.{Refusal}
@@ -52,6 +52,11 @@ begins_operator disjunction b = eqb b 124
 begins_operator implication b = eqb b 61
 begins_operator explication b = eqb b 60
 begins_operator equivalence b = eqb b 60
+
+-- whether a byte may begin these
+abbrev pub may_begin : List ℕ → ℕ → Bool
+may_begin [] b = true
+may_begin (a ∷ w) b = eqb a b
 
 -- the rule of a level's operators
 abbrev pub level_rule : Level → Rule Build

@@ -12,7 +12,7 @@ use crate::sign::Level;
 use lexing::refusal::Refusal;
 use tree::word::{ExprTag, Operator};
 
-// The levels.
+// The levels. Those that hand on an answer of another are inlined, since it would be copied once more.
 impl<'a> Parser<'a> {
     ghost use Rattle.grammar.specs.Reading.{tree_words};
     ghost use Rattle.grammar.specs.Rules.{parse_imp_exp_expr, parse_logical_expr, parse_juct_expr, parse_unary_expr};
@@ -24,6 +24,7 @@ impl<'a> Parser<'a> {
 
     // `parseExpr`, with `depth` levels left.
     #[cycle(expression)]
+    #[inline(always)]
     pub(crate) fn expr(&mut self, depth: usize) -> Result<Option<u32>, Refusal>
         ensures { Reads_if tree_words (inner depth) 1 0 self.old self.new result }
     {
@@ -106,6 +107,7 @@ impl<'a> Parser<'a> {
     // The operands of a level.
     // Kept: a level has its operands as it has its signs; as a closure they would stand beside it in each call of `chain` and of `left`.
     #[cycle(expression)]
+    #[inline(always)]
     fn tight(&mut self, level: Level, depth: usize) -> Result<Option<u32>, Refusal>
         ensures { Reads_if tree_words (tighter_of (class_of level) depth) 1 0 self.old self.new result }
     {
@@ -133,6 +135,7 @@ impl<'a> Parser<'a> {
 
     // After the operand `first`: the rest of a chain that leans left.
     #[cycle(expression)]
+    #[inline(always)]
     fn left(&mut self, first: u32, level: Level, depth: usize) -> Result<u32, Refusal>
         ensures { (tree : Expr Span) → Standing self.old first (tree_words tree) → Reads tree_words (left_rest (class_of level) depth tree) 0 0 self.old self.new result }
     {
@@ -156,6 +159,7 @@ impl<'a> Parser<'a> {
 
     // `parseUnaryExpr`: operators before an operand.
     #[cycle(expression)]
+    #[inline(always)]
     fn unary(&mut self, depth: usize) -> Result<Option<u32>, Refusal>
         ensures { Reads_if tree_words (turning parse_unary_expr depth) 1 0 self.old self.new result }
     {
@@ -183,6 +187,7 @@ impl<'a> Parser<'a> {
 
     // `parsePrimaryExpr`.
     #[cycle(expression)]
+    #[inline(always)]
     fn primary(&mut self, depth: usize) -> Result<Option<u32>, Refusal>
         ensures { Reads_if tree_words (turning parse_primary_expr depth) 1 0 self.old self.new result }
     {
@@ -210,6 +215,7 @@ impl<'a> Parser<'a> {
 
     // What begins with a word, which has `len` bytes.
     #[cycle(expression)]
+    #[inline(never)]
     fn worded(&mut self, len: usize, depth: usize) -> Result<u32, Refusal>
         requires { Spelt self.old len }
         ensures { Reads tree_words (turning parse_primary_expr depth) 1 0 self.old self.new result }
@@ -238,6 +244,7 @@ impl<'a> Parser<'a> {
 
     // After the name `n`: a call, a label, or the name alone.
     #[cycle(expression)]
+    #[inline(always)]
     fn named(&mut self, n: Name, depth: usize) -> Result<u32, Refusal>
         requires { Spare self.old 2 }
         ensures { Reads tree_words (name_rule (span n) depth) 0 2 self.old self.new result }

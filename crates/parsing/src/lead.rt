@@ -42,7 +42,7 @@ pub(crate) enum Simple {
 }
 
 // The words, in the order of `parse_stmt`.
-const LEADS: [(&[u8], Lead); 14] = [
+static LEADS: [(&[u8], Lead); 14] = [
     (b"var", Lead::Var),
     (b"val", Lead::Val),
     (b"reinit", Lead::Simple(Simple::Reinit)),
@@ -64,7 +64,7 @@ const LEADS: [(&[u8], Lead); 14] = [
 fn lead_of(word: &[u8]) -> Lead
     ensures { result ≡ lead_of word.now }
 {
-    for (known, lead) in LEADS {
+    for &(known, lead) in &LEADS {
         if same_bytes(word, known) {
             return lead;
         }

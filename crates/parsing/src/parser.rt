@@ -1,5 +1,5 @@
 // A text that is read, and the arena that its tree is built in: tokens and nodes.
-ghost use Rattle.std.specs.Prelude.{◌≡◌, ◌+◌, ◌*◌, ◌≤◌, ◌<◌, ◌^◌, length, take, drop, get_or};
+ghost use Rattle.std.specs.Prelude.{◌≡◌, ◌+◌, ◌*◌, ◌≤◌, ◌<◌, ◌^◌, true, length, take, drop, get_or};
 ghost use Rattle.lexing.specs.Bytes.{same_bytes};
 ghost use Rattle.lexing.specs.declared.refusal.Reason.TheVariants.{UnusableToken, LevelTooDeep};
 ghost use Rattle.tree.specs.Limits.{most_text};
@@ -140,7 +140,7 @@ impl<'a> Parser<'a> {
 // Tokens, with the blanks after them.
 impl<'a> Parser<'a> {
     ghost use Rattle.parsing.specs.Contract.{word, sign, sign_but, Lies, Passed, Stands, Takes_if, Names_if, Spelt, Ahead, word_here, Passes_word};
-    ghost use Rattle.parsing.specs.Signs.{Operates};
+    ghost use Rattle.parsing.specs.Signs.{Operates, may_begin};
 
     // Passes a token that was read here.
     fn pass(&mut self, lexed: Lexed) -> Result<Option<u64>, Refusal>
@@ -174,6 +174,17 @@ impl<'a> Parser<'a> {
         tree::item_or(self.text, self.at + i, 0)
     }
 
+    // Whether these bytes may stand here, by a look at the first of them.
+    #[inline(always)]
+    fn may_stand(&self, bytes: &[u8]) -> bool
+        ensures { result ≡ may_begin bytes.now (get_or self.now.text.now self.now.at 0) }
+    {
+        match bytes {
+            [first, ..] => *first == self.peek(0),
+            [] => true,
+        }
+    }
+
     // How many bytes the word or name that stands here has, where one does.
     pub(crate) fn word_ahead(&self) -> Option<usize>
         ensures { Ahead self.now result }
@@ -183,6 +194,7 @@ impl<'a> Parser<'a> {
     }
 
     // Whether the word of `len` bytes that stands here is these.
+    #[inline(always)]
     pub(crate) fn word_is(&self, len: usize, bytes: &[u8]) -> bool
         requires { self.now.at + len ≤ length self.now.text.now }
         ensures { result ≡ same_bytes (take len (drop self.now.at self.now.text.now)) bytes.now }
@@ -203,6 +215,7 @@ impl<'a> Parser<'a> {
     }
 
     // Passes the word or name of `len` bytes that stands here.
+    #[inline(always)]
     pub(crate) fn pass_word(&mut self, len: usize) -> Result<Name, Refusal>
         requires { Spelt self.old len }
         ensures { Passes_word len self.old self.new result }
@@ -217,6 +230,7 @@ impl<'a> Parser<'a> {
     }
 
     // `T(bytes)`, where the word that stands here has `len` bytes.
+    #[inline(always)]
     pub(crate) fn keyword_of(&mut self, len: usize, bytes: &[u8]) -> Result<bool, Refusal>
         requires { Spelt self.old len }
         ensures { Takes_if (word bytes.now) (length bytes.now) self.old self.new result }
@@ -224,12 +238,34 @@ impl<'a> Parser<'a> {
         if !self.word_is(len, bytes) {
             return Ok(false);
         }
-        let lexed = lexing::lexeme(&self.text[self.at..], 0, len);
-        self.stands(lexed)
+        self.pass_keyword(len, bytes)
     }
 
-    // `T(bytes)`.
+    // Passes the word of `len` bytes that stands here, which is these.
+    fn pass_keyword(&mut self, len: usize, bytes: &[u8]) -> Result<bool, Refusal>
+        requires spelt { Spelt self.old len }
+        requires same { same_bytes (take len (drop self.old.at self.old.text.now)) bytes.now ≡ true }
+        ensures { Takes_if (word bytes.now) (length bytes.now) self.old self.new result }
+    {
+        let lexed = lexing::lexeme(&self.text[self.at..], 0, len);
+        // Kept: `?` and `Ok`, since an answer that is handed on whole is copied with its gaps.
+        Ok(self.stands(lexed)?)
+    }
+
+    // `T(bytes)`. A look at the first byte tells most often that it does not stand here.
+    #[inline(always)]
     pub(crate) fn keyword(&mut self, bytes: &[u8]) -> Result<bool, Refusal>
+        requires { 1 ≤ length bytes.now }
+        ensures { Takes_if (word bytes.now) (length bytes.now) self.old self.new result }
+    {
+        if self.may_stand(bytes) {
+            return self.keyword_here(bytes);
+        }
+        Ok(false)
+    }
+
+    // `T(bytes)`, word by word.
+    fn keyword_here(&mut self, bytes: &[u8]) -> Result<bool, Refusal>
         requires { 1 ≤ length bytes.now }
         ensures { Takes_if (word bytes.now) (length bytes.now) self.old self.new result }
     {
@@ -239,16 +275,40 @@ impl<'a> Parser<'a> {
         }
     }
 
-    // `Sym(bytes)`.
+    // `Sym(bytes)`. A look at the first byte tells most often that it does not stand here.
+    #[inline(always)]
     pub(crate) fn sym(&mut self, bytes: &[u8]) -> Result<bool, Refusal>
+        ensures { Takes_if (sign bytes.now) (length bytes.now) self.old self.new result }
+    {
+        if self.may_stand(bytes) {
+            return self.sym_here(bytes);
+        }
+        Ok(false)
+    }
+
+    // `Sym(bytes)`, byte by byte.
+    #[inline(always)]
+    fn sym_here(&mut self, bytes: &[u8]) -> Result<bool, Refusal>
         ensures { Takes_if (sign bytes.now) (length bytes.now) self.old self.new result }
     {
         let lexed = lexing::sym(&self.text[self.at..], bytes);
         self.stands(lexed)
     }
 
-    // `SymNotPrefix(bytes, [longer])`.
+    // `SymNotPrefix(bytes, [longer])`. A look at the first byte tells most often that it does not stand here.
+    #[inline(always)]
     pub(crate) fn sym_not_prefix(&mut self, bytes: &[u8], longer: &[u8]) -> Result<bool, Refusal>
+        ensures { Takes_if (sign_but bytes.now longer.now) (length bytes.now) self.old self.new result }
+    {
+        if self.may_stand(bytes) {
+            return self.sym_not_prefix_here(bytes, longer);
+        }
+        Ok(false)
+    }
+
+    // `SymNotPrefix(bytes, [longer])`, byte by byte.
+    #[inline(always)]
+    fn sym_not_prefix_here(&mut self, bytes: &[u8], longer: &[u8]) -> Result<bool, Refusal>
         ensures { Takes_if (sign_but bytes.now longer.now) (length bytes.now) self.old self.new result }
     {
         let lexed = lexing::sym_not_prefix(&self.text[self.at..], bytes, longer);
@@ -256,6 +316,7 @@ impl<'a> Parser<'a> {
     }
 
     // `:=`, `:` or `(`.
+    #[inline(always)]
     #[tactic(auto, using(crate::proofs::Laws::failing), unfolding(grammar::specs::Statements::mark))]
     pub(crate) fn mark(&mut self) -> Result<bool, Refusal>
         ensures { Takes_if mark_rule 1 self.old self.new result }
@@ -269,6 +330,7 @@ impl<'a> Parser<'a> {
         self.sym(b"(")
     }
 
+    #[inline(always)]
     pub(crate) fn name(&mut self) -> Result<Option<Name>, Refusal>
         ensures { Names_if parse_name self.old self.new result }
     {

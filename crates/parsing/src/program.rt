@@ -14,7 +14,7 @@ pub(crate) enum DeclKind {
 }
 
 // The words that begin declarations.
-const WORDS: [(&[u8], DeclKind); 5] = [
+static WORDS: [(&[u8], DeclKind); 5] = [
     (b"type", DeclKind::Types),
     (b"tagger", DeclKind::Taggers),
     (b"function", DeclKind::Functions),
@@ -36,7 +36,7 @@ impl<'a> Parser<'a> {
         let Some(len) = self.word_ahead() else {
             return Ok(None);
         };
-        for (word, kind) in WORDS {
+        for &(word, kind) in &WORDS {
             if self.keyword_of(len, word)? {
                 return Ok(Some(kind));
             }

@@ -145,8 +145,8 @@ impl<'a> Parser<'a> {
         Ok(None)
     }
 
-    // The operator of a level, by its table. It is called only where an operator may begin, so `operator` stays short without it.
-    #[inline(never)]
+    // The operator of a level, by its table. Inlined, so where the level is known the spellings are too.
+    #[inline(always)]
     fn level_operator(&mut self, level: Level) -> Result<Option<Sign>, Refusal>
         ensures { Operates build_of (level_rule level) self.old self.new result }
     {
@@ -154,6 +154,7 @@ impl<'a> Parser<'a> {
     }
 
     // The operator of a level. A look at the next byte tells most often that there is none.
+    #[inline(always)]
     pub(crate) fn operator(&mut self, level: Level) -> Result<Option<Sign>, Refusal>
         ensures { Operates build_of (level_rule level) self.old self.new result }
     {
@@ -164,6 +165,7 @@ impl<'a> Parser<'a> {
     }
 
     // The operator before an operand.
+    #[inline(always)]
     pub(crate) fn unary_operator(&mut self) -> Result<Option<Operator>, Refusal>
         ensures { Operates as_operator unary_operator self.old self.new result }
     {

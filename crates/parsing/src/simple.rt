@@ -48,6 +48,7 @@ impl<'a> Parser<'a> {
     }
 
     // After the word that begins a statement that holds no statement.
+    #[inline(always)]
     pub(crate) fn simple(&mut self, kind: Simple, depth: usize) -> Result<u32, Refusal>
         requires { Spare self.old 4 }
         ensures { Reads (stmt_words same) (simple_rule depth kind) 0 4 self.old self.new result }

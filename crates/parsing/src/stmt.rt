@@ -63,6 +63,7 @@ impl<'a> Parser<'a> {
 
     // "block" of `stmtGallery`.
     #[cycle(statement)]
+    #[inline(always)]
     pub(crate) fn block(&mut self, depth: usize) -> Result<Option<u32>, Refusal>
         ensures { Spares_if (stmt_words same) (block_rule depth) self.old self.new result }
     {
@@ -146,6 +147,7 @@ impl<'a> Parser<'a> {
 
     // After a name: its mark, and what follows it.
     #[cycle(statement)]
+    #[inline(always)]
     fn named_stmt(&mut self, name: Name, depth: usize) -> Result<Option<u32>, Refusal>
         requires { Spare self.old 2 }
         ensures { Reads_if (stmt_words same) (named_stmt depth (span name)) 1 1 self.old self.new result }

@@ -81,7 +81,8 @@ fn print_through<const SIZE: usize>(
     deliver(&buffer[..n], out)
 }
 
-// Copies a print to the front of the output; refusal 8 where that is shorter.
+// Copies a print to the front of the output; refusal 8 where that is shorter. Not inlined, as rendering's `put_any`.
+#[inline(never)]
 fn deliver(print: &[u8], out: &mut [u8]) -> Result<usize, PrintError>
     ensures { outcome_of result out.new ≡ delivered print.now out.old }
 {

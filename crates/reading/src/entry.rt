@@ -19,15 +19,19 @@ fn clear(table: &mut [u32])
     table.fill(0);
 }
 
-// The tree's words in the table, or refusal 5. The stack is made here, where that of the rules' calls is free again.
+// The tree's words in the table, or refusal 5, by way of a stack of so many places. It is made here, where that of the rules' calls is free again.
 #[inline(never)]
-fn store<const SIZE: usize>(arena: &[Node], root: u32, table: &mut [u32]) -> Result<usize, Refusal>
-    requires rooted { Rooted arena.now SIZE root }
+fn store_by<const PLACES: usize>(
+    arena: &[Node],
+    root: u32,
+    table: &mut [u32],
+) -> Result<usize, Refusal>
+    requires rooted { Rooted arena.now PLACES root }
     requires clear { table.old ≡ replicate (length table.old) 0 }
-    requires small { SIZE ≤ most_arena }
+    requires small { PLACES ≤ most_arena }
     ensures { (f : Run) → Holds arena.now root f → outcome_of result table.new ≡ stored (length table.old) (f []) }
 {
-    let mut places = [Frame::Whole(0); SIZE];
+    let mut places = [Frame::Whole(0); PLACES];
     match flatten(arena, root, &mut places, table) {
         Ok(n) if n <= MOST_WORDS => Ok(n),
         _ => {
@@ -35,6 +39,22 @@ fn store<const SIZE: usize>(arena: &[Node], root: u32, table: &mut [u32]) -> Res
             Err(Refusal::new(Reason::TreeTooLarge, 0))
         }
     }
+}
+
+// The same. A stack has a place for each node to the root, which is the last of the tree: a tree of few nodes takes a small one.
+fn store<const SIZE: usize>(arena: &[Node], root: u32, table: &mut [u32]) -> Result<usize, Refusal>
+    requires rooted { Rooted arena.now SIZE root }
+    requires clear { table.old ≡ replicate (length table.old) 0 }
+    requires small { SIZE ≤ most_arena }
+    ensures { (f : Run) → Holds arena.now root f → outcome_of result table.new ≡ stored (length table.old) (f []) }
+{
+    if root < 1035 {
+        return store_by::<1035>(arena, root, table);
+    }
+    if root < 8203 {
+        return store_by::<8203>(arena, root, table);
+    }
+    store_by::<SIZE>(arena, root, table)
 }
 
 // A refusal of the rules, as it is told: a token that can't be used, at the text's end, is that the text ended too soon.

@@ -65,7 +65,7 @@ impl Printer<'_> {
     fn unary(&mut self, op: Operator, setting: Setting)
         ensures { Prints (a_unary op setting.context) self.old self.new }
     {
-        self.put(spelling(op));
+        self.put_any(spelling(op));
         self.word();
         let flat = setting.in_format(ExprFormatOption::SingleLine);
         self.expr(flat.operand(binding_strength(op), Side::Right));
@@ -82,7 +82,7 @@ impl Printer<'_> {
         self.expr(flat.operand(strength, Side::Left));
         let broken = ExprFormatOption::choose(breaks_line(op), setting.format, flat.format);
         self.put(b" ");
-        self.put(spelling(op));
+        self.put_any(spelling(op));
         self.space(broken);
         self.word();
         self.expr(setting.in_format(broken).operand(strength, Side::Right));
@@ -135,7 +135,7 @@ impl Printer<'_> {
     fn listed(&mut self, op: Operator)
         ensures { Prints (a_listed op) self.old self.new }
     {
-        self.put(spelling(op));
+        self.put_any(spelling(op));
         self.put(b"(");
         self.exprs();
         self.put(b")");

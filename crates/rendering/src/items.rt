@@ -46,7 +46,7 @@ impl<'a> Printer<'a> {
     {
         let mut before = first;
         while self.word() != NO_MORE {
-            self.put(before);
+            self.put_any(before);
             item(self);
             before = separator;
         }
@@ -65,7 +65,7 @@ impl Printer<'_> {
         ensures { Prints (one an_argument) self.old self.new }
     {
         let mode = Mode::from_word(self.word());
-        self.put(mode_text(mode));
+        self.put_any(mode_text(mode));
         self.inline();
     }
 
@@ -82,7 +82,7 @@ impl Printer<'_> {
         ensures { Prints (one a_parameter) self.old self.new }
     {
         let mode = Mode::from_word(self.ahead(2));
-        self.put(mode_text(mode));
+        self.put_any(mode_text(mode));
         self.typed_apart();
         self.optional(b" autoinv ", |p| p.inline());
     }

@@ -100,6 +100,14 @@ impl Printer<'_> {
         self.write(bytes.len(), |place| place.copy_from_slice(bytes));
     }
 
+    // Writes `bytes` that are one text or another. Not inlined: as a copy of a constant's bytes it would call what nothing else here needs.
+    #[inline(never)]
+    pub(crate) fn put_any(&mut self, bytes: &[u8])
+        ensures { Puts (λ rest. bytes.now ++ rest) self.old self.new }
+    {
+        self.put(bytes);
+    }
+
     // Writes an indent.
     pub(crate) fn indent(&mut self, size: usize)
         ensures { Puts (λ rest. Indent size ++ rest) self.old self.new }

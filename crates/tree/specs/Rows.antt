@@ -84,6 +84,11 @@ pub record Adds (f : Frame) (s s' : Stack Frame) : Type 0 where
   pub none : f.kinds.now ≡ [] → (items s' ≡ items s) × (s'.free ≡ s.free)
   pub some : (f.kinds.now ≡ [] → ⊥) → Pushed f s s'
 
+-- a word's fields are expected first, with the rest on the stack; the rest, where there are none
+pub record Enters (fields rest : Frame) (s : Stack Frame) (top : Frame) (s' : Stack Frame) : Type 0 where
+  pub none : fields.kinds.now ≡ [] → (top ≡ rest) × (items s' ≡ items s) × (s'.free ≡ s.free)
+  pub some : (fields.kinds.now ≡ [] → ⊥) → (top ≡ fields) × Adds rest s s'
+
 -- ---- a step of the walk
 
 -- the words from a place on fit the kind k: the check, and the count of items, go on behind them where the kinds of the fields are expected

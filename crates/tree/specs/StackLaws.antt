@@ -1,5 +1,5 @@
 -- What callers cite of a stack.
-use Prim.Native.Nat.{ℕ, ◌<◌}
+use Prim.Native.Nat.{◌<◌}
 use native.Mathlib.Omega.{arith}
 use Rattle.std.specs.Prelude.{Result, Ok, Err}
 use Rattle.tree.specs.Stack.{Pushes, Pushed}

@@ -2,7 +2,7 @@
 ghost use Rattle.std.specs.Prelude.{◌≡◌, ◌<◌, map};
 ghost use Rattle.tree.specs.Tally.{noted, more as more_of};
 ghost use Rattle.tree.specs.KindCodes.{as_kind};
-ghost use Rattle.tree.specs.Rows.{as_mark, passed_of, Splits, MarkIs, MoreIs, Adds};
+ghost use Rattle.tree.specs.Rows.{as_mark, passed_of, Splits, MarkIs, MoreIs, Adds, Enters};
 
 use crate::kind::Kind;
 use crate::outline::put;
@@ -70,13 +70,26 @@ pub(crate) fn more(mark: Option<Mark>) -> Option<Mark>
 }
 
 // Puts what is expected next on the stack.
-pub(crate) fn expect(stack: &mut Stack<Frame>, frame: Frame)
+fn expect(stack: &mut Stack<Frame>, frame: Frame)
     requires { 0 < stack.old.free }
     ensures { Adds frame stack.old stack.new }
 {
     if !frame.kinds.is_empty() {
         let _ = stack.push(frame);
     }
+}
+
+// What is expected first: the fields of a word, with the rest on the stack under them, or the rest where there are no fields.
+#[inline(always)]
+pub(crate) fn enter(stack: &mut Stack<Frame>, fields: Frame, rest: Frame) -> Frame
+    requires { 0 < stack.old.free }
+    ensures { Enters fields rest stack.old result stack.new }
+{
+    if fields.kinds.is_empty() {
+        return rest;
+    }
+    expect(stack, rest);
+    fields
 }
 
 // Notes the number of a sequence that ends, as no fields follow, where the table of numbers has its place.

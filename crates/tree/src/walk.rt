@@ -1,12 +1,12 @@
-// The walk over a table's words: a stack of frames, whose kinds from the top down are expected, with the marks of the sequences of which
-// items are passed.
+// The walk over a table's words: a frame and a stack of frames under it, whose kinds from the top down are expected, with the marks of the
+// sequences of which items are passed.
 ghost use Rattle.std.specs.Prelude.{ℕ, ◌<◌, ◌≤◌, length, map};
 ghost use Rattle.tree.specs.Limits.{most_words};
 ghost use Rattle.tree.specs.Kind.{name, natural};
 ghost use Rattle.tree.specs.KindCodes.{as_kind};
 ghost use Rattle.tree.specs.Rows.{OneWord, Stepped, Walked};
 
-use crate::frames::{Frame, expect, more, note};
+use crate::frames::{Frame, enter, more, note};
 use crate::kind::Kind;
 use crate::outline::note_kind;
 use crate::rows::row_of;
@@ -42,26 +42,27 @@ impl Table<'_> {
         ensures { Walked self.now.words.now self.now.text_len (map as_kind first.now) result counts.old counts.new kinds.old kinds.new }
     {
         let mut stack = Stack::new(places);
-        let _ = stack.push(Frame {
+        let mut top = Frame {
             kinds: first,
             mark: None,
-        });
+        };
         let mut at = 0;
-        while let Some(frame) = stack.pop() {
-            if let Some((kind, rest)) = frame.split() {
+        loop {
+            if let Some((kind, rest)) = top.split() {
                 let step = self.next_step(at, kind)?;
                 let mark = rest.mark_before(kind, at);
                 note(counts, step.fields, mark);
                 note_kind(kinds, at, step.next, kind);
-                expect(&mut stack, rest);
-                expect(
-                    &mut stack,
-                    Frame {
-                        kinds: step.fields,
-                        mark: more(mark),
-                    },
-                );
+                let fields = Frame {
+                    kinds: step.fields,
+                    mark: more(mark),
+                };
+                top = enter(&mut stack, fields, rest);
                 at = step.next;
+            } else if let Some(below) = stack.pop() {
+                top = below;
+            } else {
+                break;
             }
         }
         if at < self.words.len() {

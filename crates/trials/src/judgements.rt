@@ -1,12 +1,12 @@
 // The cases of `profile`: a table, a slash, and the text. The answer is `fits`, the number and the place of the first breach, or the refusal.
-use crate::pieces::{DIGITS, TEXT, WORDS, build, with_table};
+use crate::pieces::{DIGITS, TEXT, WORDS, before_slash, build};
 use crate::show::{print, print_refusal};
 use profile::{JudgeError, Verdict, judge_program};
 use std::io;
 use std::io::Write;
 
 pub(crate) fn judge_case(to: &mut impl Write, times: Option<u32>, rest: &[u8]) -> io::Result<()> {
-    with_table::<WORDS, DIGITS, _, _>(rest, |words, line| judge_over(to, times, words, line))
+    before_slash::<WORDS, DIGITS, _, _>(rest, |words, line| judge_over(to, times, words, line))
 }
 
 // A table's judgement over the text of a line. The text is made when the table is: it takes the stack that making it took.

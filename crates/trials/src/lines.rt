@@ -1,5 +1,5 @@
 // Parts of a line, and the escapes in it.
-ghost use Rattle.std.specs.Prelude.{◌≤◌, length};
+ghost use Rattle.std.specs.Prelude.{◌≤◌, ◌<◌, length};
 
 use crate::hex::hex_byte;
 
@@ -27,7 +27,10 @@ pub(crate) struct Part<T> {
 
 // The byte that stands at the start of a line: `\n`, `\t`, `\r`; `\x` with two hexadecimal digits, in lower case; a backslash before any other
 // byte for that byte; every other byte for itself.
-fn escaped(s: &[u8]) -> Part<u8> {
+fn escaped(s: &[u8]) -> Part<u8>
+    ensures taken { 0 < result.width }
+    ensures inside { 0 < length s.now → result.width ≤ length s.now }
+{
     match s {
         [b'\\', b'x', high, low, ..] => Part {
             value: hex_byte(*high, *low),

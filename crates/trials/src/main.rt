@@ -63,9 +63,12 @@ use tables::{check_case, name_case, number_case};
 use tokens::{blanks_case, split, token_case};
 use tree::{check_expression, check_program};
 
+// More bytes than the cases have; of a longer input so many are read.
+const MOST_INPUT: u64 = 4_194_304;
+
 fn main(rt: HostRuntime) -> io::Result<()> {
     let mut input = Vec::new(rt.alloc());
-    rt.reader().read_to_end(&mut input)?;
+    rt.reader().take(MOST_INPUT).read_to_end(&mut input)?;
     let mut to = BufWriter::new(rt.alloc(), io::writer(&rt))?;
     cases(&mut to, &input)?;
     to.flush()

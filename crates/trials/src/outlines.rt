@@ -3,7 +3,7 @@
 use crate::entries::repeated;
 use crate::lines::tail;
 use crate::numbers::number;
-use crate::pieces::{DIGITS, WORDS, with_words};
+use crate::pieces::{DIGITS, WORDS, with_table};
 use crate::show::{print, print_count};
 use crate::slices::{most, print_numbers};
 use crate::tables::print_checked;
@@ -17,8 +17,17 @@ pub(crate) fn outline_case(to: &mut impl Write, times: Option<u32>, rest: &[u8])
     let kinds = number(rest);
     let after = tail(rest, kinds.digits);
     let ends = number(after);
-    with_words::<WORDS, DIGITS, _, _>(tail(after, ends.digits), |length, words, _| {
-        outline_into(to, times, kinds.value, ends.value, length as usize, words)
+    let after = tail(after, ends.digits);
+    let length = number(after);
+    with_table::<WORDS, DIGITS, _, _>(tail(after, length.digits), |words| {
+        outline_into(
+            to,
+            times,
+            kinds.value,
+            ends.value,
+            length.value as usize,
+            words,
+        )
     })
 }
 

@@ -38,6 +38,9 @@ fn repeat(piece: &[u8], text: &mut [u8]) -> usize
 {
     let count = number(piece);
     let bytes = tail(piece, count.digits);
+    if bytes.is_empty() {
+        return 0;
+    }
     let mut n = 0;
     for _ in 0..count.value {
         n += decode(bytes, &mut text[n..]);
@@ -62,6 +65,20 @@ fn build_words<const DIGITS: usize>(line: &[u8], table: &mut [u32]) -> usize
     })
 }
 
+// What a line gives that is the words of a table of pieces.
+#[inline(never)]
+pub(crate) fn with_table<const WORDS: usize, const DIGITS: usize, R, F: FnOnce(&[u32]) -> R>(
+    line: &[u8],
+    ask: F,
+) -> R
+    requires small { (WORDS < 2 ^ 61) × (DIGITS < 2 ^ 63) }
+    requires asked { F.IsAlwaysCallable ask }
+{
+    let mut table = [0u32; WORDS];
+    let words = build_words::<DIGITS>(line, &mut table);
+    ask(&table[..words])
+}
+
 // What a line gives that begins with a number, the words of a table of pieces, and a slash, if more follows: by the number, the words, and what
 // follows.
 #[inline(never)]
@@ -75,22 +92,22 @@ pub(crate) fn with_words<
     requires asked { F.IsAlwaysCallable ask }
 {
     let first = number(rest);
-    with_table::<WORDS, DIGITS, _, _>(tail(rest, first.digits), |words, line| {
+    before_slash::<WORDS, DIGITS, _, _>(tail(rest, first.digits), |words, line| {
         ask(first.value, words, line)
     })
 }
 
 // The same of a line that begins with the words.
 #[inline(never)]
-pub(crate) fn with_table<const WORDS: usize, const DIGITS: usize, R, F: FnOnce(&[u32], &[u8]) -> R>(
-    rest: &[u8],
-    ask: F,
-) -> R
+pub(crate) fn before_slash<
+    const WORDS: usize,
+    const DIGITS: usize,
+    R,
+    F: FnOnce(&[u32], &[u8]) -> R,
+>(rest: &[u8], ask: F) -> R
     requires small { (WORDS < 2 ^ 61) × (DIGITS < 2 ^ 63) }
     requires asked { F.IsAlwaysCallable ask }
 {
-    let mut table = [0u32; WORDS];
     let n = until(rest, b'/');
-    let words = build_words::<DIGITS>(&rest[..n], &mut table);
-    ask(&table[..words], tail(rest, n))
+    with_table::<WORDS, DIGITS, _, _>(&rest[..n], |words| ask(words, tail(rest, n)))
 }

@@ -1,7 +1,7 @@
 // The cases of `tree`.
 use crate::lines::tail;
 use crate::numbers::number;
-use crate::pieces::{DIGITS, WORDS, with_words};
+use crate::pieces::{DIGITS, WORDS, with_table};
 use crate::show::{print, print_number};
 use std::io;
 use std::io::Write;
@@ -35,7 +35,10 @@ pub(crate) fn number_case<F: FnOnce(&[u32], usize) -> u64>(
 fn over_table<R, F: FnOnce(&[u32], usize) -> R>(rest: &[u8], ask: F) -> R
     requires { F.IsAlwaysCallable ask }
 {
-    with_words::<WORDS, DIGITS, _, _>(rest, |n, words, _| ask(words, n as usize))
+    let first = number(rest);
+    with_table::<WORDS, DIGITS, _, _>(tail(rest, first.digits), |words| {
+        ask(words, first.value as usize)
+    })
 }
 
 pub(crate) fn print_checked(to: &mut impl Write, answer: Result<(), CheckError>) -> io::Result<()> {

@@ -1,5 +1,5 @@
 -- The outcomes of `store`, `read_in` and `read`, over plain lists and any kind of tree.
-use Prim.Native.Nat.{ℕ, ◌≤◌, ◌<◌}
+use Prim.Native.Nat.{ℕ, ◌+◌, ◌≤◌, ◌<◌}
 use native.Mathlib.Omega.{arith}
 use mathlib.Core.Path.{◌≡◌, refl, sym, ap, ◌∙◌}
 use mathlib.Core.List.{List, []}
@@ -76,6 +76,21 @@ module _ (k : Whole) {text table : List ℕ} {size : ℕ} {arena later : List No
     -- what `store` answers
     pub parse-stored : {w : Outcome} → ((f : Run) → Holds later root f → w ≡ stored (length table) (f [])) → w ≡ told text (whole_outcome k (length table) text)
     parse-stored h = h tree.run tree.holds ∙ sym (told-stored text (length table) (tree.run [])) ∙ ap (told text) (parsed-outcome tree.says)
+
+-- ---- `store`
+
+-- a stack of fewer places is enough, with one for each node to the root
+pub rooted-by : {arena : List Node} {places : ℕ} (few root : ℕ) → Rooted arena places root → root < few → Rooted arena few root
+rooted-by few root r h =
+    record {
+      run = r.run;
+      top = root + 1;
+      holds = r.holds;
+      below = omega arith;
+      inside = omega (arith, r.below, r.inside);
+      small = r.small;
+      room = omega arith;
+    }
 
 -- ---- `read`
 

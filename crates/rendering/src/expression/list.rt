@@ -17,7 +17,7 @@ impl Printer<'_> {
     {
         let mut separator: &[u8] = b"";
         while self.word() != NO_MORE {
-            self.put(separator);
+            self.put_any(separator);
             separator = b", ";
             self.expr(Setting::INLINE);
         }
@@ -54,7 +54,7 @@ impl Printer<'_> {
     {
         let mut separator: &[u8] = b"";
         while self.word() != NO_MORE {
-            self.put(separator);
+            self.put_any(separator);
             separator = b", ";
             self.name();
             self.parameters();
@@ -70,7 +70,7 @@ impl Printer<'_> {
     {
         let mut separator: &[u8] = b"";
         while self.word() != NO_MORE {
-            self.put(separator);
+            self.put_any(separator);
             separator = b", ";
             let is_bare = self.is_at_end();
             self.triggers();

@@ -31,7 +31,7 @@ impl Printer<'_> {
             self.block(indent);
             let is_last = self.is_at_end();
             let end: &[u8] = if is_last { b"\n" } else { b" or " };
-            self.put(end);
+            self.put_any(end);
         }
     }
 
@@ -47,7 +47,7 @@ impl Printer<'_> {
             self.block(indent);
             let is_last = self.is_at_end();
             let end: &[u8] = if is_last { b"\n" } else { b" " };
-            self.put(end);
+            self.put_any(end);
         }
     }
 
@@ -58,7 +58,7 @@ impl Printer<'_> {
     {
         while self.word() != NO_MORE {
             self.indent(indent);
-            self.put(prefix);
+            self.put_any(prefix);
             self.put(b" ");
             self.aexpr(indent);
         }

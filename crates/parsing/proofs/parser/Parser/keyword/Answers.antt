@@ -1,6 +1,5 @@
-use Rattle.std.proofs.Common.{refl, sym}
-use Rattle.parsing.proofs.Tokens.{here-none, no-keyword}
+use Rattle.parsing.proofs.FirstBytes.{word-absent}
 use Rattle.parsing.proofs.parser.Parser.keyword.Goals as goal
 
-pub returns-in-None : goal.returns-in-None
-returns-in-None c = no-keyword c.args.self.now _ _ (sym (here-none c.args.self.now _ (rw c.in-None.is at c.word_ahead.ensures) c.requires)) refl
+pub returns : goal.returns
+returns c = word-absent _ _ c.may_stand.ensures c.if-may_stand.false

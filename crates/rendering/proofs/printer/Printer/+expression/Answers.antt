@@ -143,7 +143,7 @@ unfolding Expression
 unary-returns t c =
     prints (cc) (cc) (omega arith)
     (λ a rest g d.
-    let sign = text (begin d) (these c.spelling.ensures c.put.ensures) in
+    let sign = text (begin d) (these c.spelling.ensures c.put_any.ensures) in
     let operand = part (rw (c.operand.ensures, c.in_format-flat.ensures, c.binding_strength.ensures) at c.expr.ensures) a (ready g.0 (omega arith) (omega arith), g.1.1.0) (word sign c.word.ensures) in
     done (word operand c.word-2.ensures))
 
@@ -156,7 +156,7 @@ binary-returns t c =
     let i = right-indent (as_operator c.args.op) c.args.setting.format in
     let broken : c.choose-broken.result ≡ right_format (as_operator c.args.op) c.args.setting.format = rw c.in_format-flat.ensures at c.choose-broken.ensures ∙ ap (λ (v : Bool). pick v c.args.setting.format SingleLine) c.breaks_line.ensures in
     let left = part (rw (c.operand.ensures, c.in_format-flat.ensures, strength) at c.expr.ensures) a.0 (ready g.0 (omega arith) (omega arith), g.1.1.0) (word (begin d) c.word.ensures) in
-    let sign = text (text (text left c.put.ensures) (these c.spelling.ensures c.put-2.ensures)) (rw broken at c.space.ensures) in
+    let sign = text (text (text left c.put.ensures) (these c.spelling.ensures c.put_any.ensures)) (rw broken at c.space.ensures) in
     let right = part (rw (c.operand-2.ensures, c.in_format.ensures, strength, broken) at c.expr-2.ensures) a.1 (ready g.0 (omega arith) (omega arith), g.1.1.1.0) (word sign c.word-2.ensures) in
     as-print (binary-print c.args.self.now.source (as_operator c.args.op) c.args.setting.context c.args.setting.format a.0 a.1) (done (word right c.word-3.ensures)))
 
@@ -192,8 +192,8 @@ pub listed-returns : goal.listed-returns
 listed-returns t c =
     prints (cc) (cc) (omega arith)
     (λ es rest g d.
-    let sign = text (text (begin d) (these c.spelling.ensures c.put.ensures)) c.put-2.ensures in
-    done (text (part c.exprs.ensures es (ready g.0 (omega arith) (omega arith), g.1.1) sign) c.put-3.ensures))
+    let sign = text (text (begin d) (these c.spelling.ensures c.put_any.ensures)) c.put.ensures in
+    done (text (part c.exprs.ensures es (ready g.0 (omega arith) (omega arith), g.1.1) sign) c.put-2.ensures))
 
 pub call_expr-returns : goal.call_expr-returns
 unfolding Expression
@@ -257,7 +257,7 @@ unfolding ExpressionList operands
 exprs-some _ c s' p no_exprs rest g d = absurd (c.loop-separator-test.true (reads (begin d) c.word.ensures))
 exprs-some _ c s' p (◌then◌ e es) rest g d =
     let item = word (begin d) c.word.ensures in
-    let expr = part c.expr.ensures e (ready g.0 (omega arith) (omega arith), g.1.0) (text item c.put.ensures) in
+    let expr = part c.expr.ensures e (ready g.0 (omega arith) (omega arith), g.1.0) (text item c.put_any.ensures) in
     done (part p es (ready g.0 (omega arith) (omega arith), g.1.1) expr)
 
 pub exprs-loop-separator-init : goal.exprs-loop-separator-init
@@ -323,9 +323,9 @@ unfolding closure_bindings
 closures-some _ c s' p no_closure_bindings rest g d = absurd (c.loop-separator-test.true (reads (begin d) c.word.ensures))
 closures-some _ c s' p (closure_binding n ps e bs) rest g d =
     let item = word (begin d) c.word.ensures in
-    let name = part c.name.ensures n tt (text item c.put.ensures) in
+    let name = part c.name.ensures n tt (text item c.put_any.ensures) in
     let parameters = part c.parameters.ensures ps tt name in
-    let value = part c.expr.ensures e (ready g.0 (omega arith) (omega arith), g.1.1) (text parameters c.put-in-loop-separator.ensures) in
+    let value = part c.expr.ensures e (ready g.0 (omega arith) (omega arith), g.1.1) (text parameters c.put.ensures) in
     done (part p bs (ready g.0 (omega arith) (omega arith), g.1.2) value)
 
 pub closures-loop-separator-init : goal.closures-loop-separator-init
@@ -351,7 +351,7 @@ properties-none _ c (closure_property ts e ps) rest g d = let z = reads (begin d
 put-colons : (t : _) (c : goal.properties-After-expr t) → Puts (λ rest. pick c.is_at_end-is_bare.result [] (bytes ":: ") ++ rest) c.triggers.new.self c.if-not-is_bare.self
 put-colons _ c =
     elim c.if-not-is_bare.branch [
-      | properties-then-not-is_bare w ↦ rw (w.self-is, w.if-not-is_bare.true) w.put-then-not-is_bare.ensures
+      | properties-then-not-is_bare w ↦ rw (w.self-is, w.if-not-is_bare.true) w.put.ensures
       | properties-else-not-is_bare w ↦ rw (w.self-is, w.if-not-is_bare.false) unwritten
     ]
 
@@ -360,7 +360,7 @@ unfolding properties
 properties-some _ c s' p no_closure_properties rest g d = absurd (c.loop-separator-test.true (reads (begin d) c.word.ensures))
 properties-some _ c s' p (closure_property ts e ps) rest g d =
     let item = word (begin d) c.word.ensures in
-    let start = text item c.put.ensures in
+    let start = text item c.put_any.ensures in
     let triggers = part c.triggers.ensures ts (ready g.0 (omega arith) (omega arith), g.1.1) start in
     let q = put-colons _ c in
     let body = part c.expr.ensures e (ready g.0 (omega arith) (omega arith), g.1.2) (text triggers (these (colons _ ts _ start c.is_at_end-is_bare.ensures) q)) in

@@ -318,21 +318,21 @@ unfolding choices
 branches-none _ c no_stmts rest g d = done (word (begin d) c.word.ensures)
 branches-none _ c (stmts s ss) rest g d = let z = reads (begin d) c.word.ensures in absurd (omega (arith, z, c.loop-self-test.false))
 
-branch-text : (t : _) (c : goal.branches-After-put t) → c.if-is_last.end.now ≡ pick c.is_at_end-is_last.result (bytes "\n") (bytes " or ")
+branch-text : (t : _) (c : goal.branches-After-put_any t) → c.if-is_last.end.now ≡ pick c.is_at_end-is_last.result (bytes "\n") (bytes " or ")
 branch-text _ c =
     elim c.if-is_last.branch [
       | branches-then-is_last w ↦ rw (w.end-is, w.if-is_last.true)
       | branches-else-is_last w ↦ rw (w.end-is, w.if-is_last.false)
     ]
 
-branches-some : (t : _) (c : goal.branches-After-put t) (s' : Printer) → Prints (branch_list c.args.indent) c.put.new.self s' → Told (branch_list c.args.indent) c.loop-self.self s'
+branches-some : (t : _) (c : goal.branches-After-put_any t) (s' : Printer) → Prints (branch_list c.args.indent) c.put_any.new.self s' → Told (branch_list c.args.indent) c.loop-self.self s'
 unfolding choices
 branches-some _ c s' p no_stmts rest g d = absurd (c.loop-self-test.true (reads (begin d) c.word.ensures))
 branches-some _ c s' p (stmts s ss) rest g d =
     let h = inside (begin {s = c.loop-self.self} d) in
     let item = word (begin d) c.word.ensures in
     let block = part c.block.ensures s (deeper g.0 (omega arith) (omega arith), g.1.0) item in
-    let end = these (branch-end ss (branch-text _ c) (stmts-end ss rest block c.is_at_end-is_last.ensures)) c.put.ensures in
+    let end = these (branch-end ss (branch-text _ c) (stmts-end ss rest block c.is_at_end-is_last.ensures)) c.put_any.ensures in
     done (part p ss (ready g.0 (omega arith) (omega arith), g.1.1) (text block end))
 
 pub branches-loop-self-init : goal.branches-loop-self-init
@@ -349,14 +349,14 @@ unfolding case_list
 cases-none _ c no_cases rest g d = done (word (begin d) c.word.ensures)
 cases-none _ c (case e s cs) rest g d = let z = reads (begin d) c.word.ensures in absurd (omega (arith, z, c.loop-self-test.false))
 
-case-text : (t : _) (c : goal.cases-After-put-in-loop-self-2 t) → c.if-is_last.end.now ≡ pick c.is_at_end-is_last.result (bytes "\n") (bytes " ")
+case-text : (t : _) (c : goal.cases-After-put_any t) → c.if-is_last.end.now ≡ pick c.is_at_end-is_last.result (bytes "\n") (bytes " ")
 case-text _ c =
     elim c.if-is_last.branch [
       | cases-then-is_last w ↦ rw (w.end-is, w.if-is_last.true)
       | cases-else-is_last w ↦ rw (w.end-is, w.if-is_last.false)
     ]
 
-cases-some : (t : _) (c : goal.cases-After-put-in-loop-self-2 t) (s' : Printer) → Prints (case_sequence c.args.indent) c.put-in-loop-self-2.new.self s' → Told (case_sequence c.args.indent) c.loop-self.self s'
+cases-some : (t : _) (c : goal.cases-After-put_any t) (s' : Printer) → Prints (case_sequence c.args.indent) c.put_any.new.self s' → Told (case_sequence c.args.indent) c.loop-self.self s'
 unfolding case_list
 cases-some _ c s' p no_cases rest g d = absurd (c.loop-self-test.true (reads (begin d) c.word.ensures))
 cases-some _ c s' p (case e s cs) rest g d =
@@ -364,7 +364,7 @@ cases-some _ c s' p (case e s cs) rest g d =
     let item = word (begin d) c.word.ensures in
     let test = text (part c.inline.ensures e (ready g.0 (omega arith) (omega arith), g.1.0) (text item c.put.ensures)) c.put-in-loop-self.ensures in
     let block = part c.block.ensures s (deeper g.0 (omega arith) (omega arith), g.1.1) test in
-    let end = these (case-end cs (case-text _ c) (cases-end cs rest block c.is_at_end-is_last.ensures)) c.put-in-loop-self-2.ensures in
+    let end = these (case-end cs (case-text _ c) (cases-end cs rest block c.is_at_end-is_last.ensures)) c.put_any.ensures in
     done (part p cs (ready g.0 (omega arith) (omega arith), g.1.2) (text block end))
 
 pub cases-loop-self-init : goal.cases-loop-self-init
@@ -387,7 +387,7 @@ aexprs-some _ c s' p no_a_exprs rest g d = absurd (c.loop-self-test.true (reads 
 aexprs-some _ c s' p (a_exprs a es) rest g d =
     let h = inside (begin {s = c.loop-self.self} d) in
     let item = word (begin d) c.word.ensures in
-    let start = text (text (text item c.indent.ensures) c.put.ensures) c.put-in-loop-self.ensures in
+    let start = text (text (text item c.indent.ensures) c.put_any.ensures) c.put.ensures in
     let assertion = part c.aexpr.ensures a (ready g.0 (omega arith) (omega arith), g.1.0) start in
     done (part p es (ready g.0 (omega arith) (omega arith), g.1.1) assertion)
 

@@ -14,5 +14,5 @@ returns c =
     prints (cc) (cc) (let f = invariant.forward in omega arith)
     (λ a rest g d.
     let mode = c.mode_text.ensures ∙ mode-is a.mode c.from_word-mode.ensures (third (begin {s = c.args.self.now} d) c.ahead.ensures) in
-    let name = part c.typed_apart.ensures (a.name, mode_word a.mode, a.typ) tt (text (begin d) (these mode c.put.ensures)) in
+    let name = part c.typed_apart.ensures (a.name, mode_word a.mode, a.typ) tt (text (begin d) (these mode c.put_any.ensures)) in
     done (part invariant a.optional_auto_inv (ready g.0 (omega arith) (omega arith), g.1) name))
