@@ -1,5 +1,6 @@
 /*
- * Measures the stack that tidy takes on the texts that nest deepest, and sees that it is at most TIDY_STACK_KB.
+ * Measures the stack that tidy takes on the texts that nest deepest, and on those whose buffers are the largest, and sees
+ * that it is at most TIDY_STACK_KB.
  *
  *     stack_test [all]     prints the most, with `all` that of each text; the last line is `N passed, M failed`
  */
@@ -21,6 +22,9 @@
 
 /* The bytes of a long text: beyond 12,288 the buffers are the largest. */
 #define LONG_TEXT 30000
+
+/* Declarations whose tree has so many nodes that the words are written by the largest stack. */
+#define MANY 4600
 
 static uint8_t out[TIDY_MOST_PRINT];
 
@@ -105,15 +109,13 @@ static struct text padded(struct text text) {
 static size_t most;
 static unsigned passed, failed;
 
-static void measure(struct nest nest, size_t signs, bool pad, size_t base, bool all) {
-    struct text text = deepest(nest, signs);
-    text = pad ? padded(text) : text;
+static void measure(const char *name, struct text text, size_t base, bool all) {
     struct work work = {bytes_of(text), 0};
     size_t bytes = used(call, &work) - base;
     uint32_t refused = tidy_refusal_of(work.answer);
     bool holds = (refused == TIDY_NO_REFUSAL || refused == TIDY_SHORT_OUTPUT) && bytes <= (size_t)TIDY_STACK_KB * 1024;
     if (all || !holds) {
-        printf("%6zu KB  %s, %zu bytes, %s\n", (bytes + 1023) / 1024, nest.name, text.len, tidy_meaning(refused));
+        printf("%6zu KB  %s, %zu bytes, %s\n", (bytes + 1023) / 1024, name, text.len, tidy_meaning(refused));
     }
     most = bytes > most ? bytes : most;
     passed += holds;
@@ -126,10 +128,13 @@ int main(int argc, char **argv) {
     struct work nothing = {{NULL, 0}, 0};
     size_t base = used(rest, &nothing);
     for (size_t i = 0; i < nest_count; i++) {
-        measure(nests[i], 1, false, base, all);
-        measure(nests[i], MOST_SIGNS, false, base, all);
-        measure(nests[i], 1, true, base, all);
+        measure(nests[i].name, deepest(nests[i], 1), base, all);
+        measure(nests[i].name, deepest(nests[i], MOST_SIGNS), base, all);
+        measure(nests[i].name, padded(deepest(nests[i], 1)), base, all);
     }
+    struct text types = {0};
+    put(&types, MANY, "type A ");
+    measure("types", types, base, all);
     printf("a call takes at most %zu KB of stack\n", (most + 1023) / 1024);
     printf("%u passed, %u failed\n", passed, failed);
     return failed == 0 ? 0 : 1;
