@@ -13,7 +13,10 @@ extern "C" {
 #define TIDY_MOST_TEXT 32768
 #define TIDY_MOST_PRINT 65536
 
-/* Stack in KB that a call takes at most, measured on the texts that nest deepest. A call that has less can overflow it. */
+/*
+ * Stack in KB that a call takes at most, measured on the texts that nest deepest and on long ones. A call that has less can
+ * overflow it.
+ */
 #define TIDY_STACK_KB 2560
 
 /*

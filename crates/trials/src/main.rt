@@ -64,6 +64,7 @@ use tokens::{blanks_case, split, token_case};
 use tree::{check_expression, check_program};
 
 // More bytes than the cases have; of a longer input so many are read.
+// Kept: a limit, and no kind.
 const MOST_INPUT: u64 = 4_194_304;
 
 fn main(rt: HostRuntime) -> io::Result<()> {
